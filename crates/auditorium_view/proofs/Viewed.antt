@@ -19,7 +19,7 @@ use Rattle.auditorium_view.specs.declared.answer.Fault.{Fault}
 use Rattle.auditorium_view.specs.declared.answer.Fault.TheVariants.{ReadFault, Memory}
 use Rattle.auditorium_view.specs.declared.status.Status.TheVariants as status
 use Rattle.auditorium_view.specs.ViewWords.{ViewRequest, rules_named}
-use Rattle.auditorium_view.specs.View.{ViewAnswer, IsViewOf, picture_answer, refusal_view, view_status}
+use Rattle.auditorium_view.specs.View.{ViewAnswer, IsViewOf, view_answer, refusal_view, view_status}
 use Rattle.auditorium_view.specs.Shown.{IsViewFor, IsViewedBy}
 
 -- the answer of a fault is a refusal's
@@ -54,7 +54,8 @@ not_absent outcome.Findings e = cc
 not_absent outcome.Unsettled e = cc
 not_absent outcome.Broken e = cc
 
-module _ {S : Type 0} (of : StoreGhosts S) (request : ViewRequest) (old new : S) where
+module _ {S : Type 0} (of : StoreGhosts S) (digests : List (Option (List ℕ))) (request : ViewRequest)
+    (old new : S) where
   -- the files that are read where the rules come from this source, and what they give
   abbrev names_by : RuleSource → List (List ℕ)
   names_by source = audit_files request.roster source request.logs
@@ -70,7 +71,7 @@ module _ {S : Type 0} (of : StoreGhosts S) (request : ViewRequest) (old new : S)
   viewed_refused : (fault : AuditFault) (result : Result ViewAnswer Fault) →
       IsReadBy (rules_named request.rules) (Err fault) → IfOk result (IsViewOfFault fault) →
       IfErr result (λ why. (why ≡ ReadFault) ↔ (fault ≡ audit.ReadFault)) →
-      IsViewedBy of (Some request) old result new
+      IsViewedBy of digests (Some request) old result new
   viewed_refused fault (Ok answer) given told why = record {
     answer = by (refusal_of fault) told given.err;
     absent =
@@ -94,11 +95,11 @@ module _ {S : Type 0} (of : StoreGhosts S) (request : ViewRequest) (old new : S)
       by : (refusal : Option Refusal) → IsSomeAnd refusal (λ r. answer ≡ refusal_view r) →
           IfSome refusal (λ r. OnRead of (names_by (rules_named request.rules))
           (λ files. GivesBy (rules_named request.rules) files (Err r)) old new) →
-          IsViewFor of (Some request) old new answer
+          IsViewFor of digests (Some request) old new answer
       by None told gives = absurd told
       by (Some r) told gives =
           on_weaker of (names_by (rules_named request.rules))
-          (λ files. GivesBy (rules_named request.rules) files (Err r)) (IsViewOf request answer) old new
+          (λ files. GivesBy (rules_named request.rules) files (Err r)) (IsViewOf digests request answer) old new
           (λ files long is. inr (r, is, told)) gives
   viewed_refused fault (Err reason) given told why = record {
     answer = tt;
@@ -110,14 +111,15 @@ module _ {S : Type 0} (of : StoreGhosts S) (request : ViewRequest) (old new : S)
     write_faults = given.write_faults;
   }
 
-  -- a report is answered by its picture
+  -- a report is answered by what is shown of it
   viewed_found : (report : ReportParts) (result : Result ViewAnswer Fault) →
       IsReadBy (rules_named request.rules) (Ok report) →
-      IfOk result (λ answer. answer ≡ picture_answer (report_of report)) → IfErr result (λ fault. fault ≡ Memory) →
-      IsViewedBy of (Some request) old result new
+      IfOk result (λ answer. answer ≡ view_answer digests request (report_of report)) →
+      IfErr result (λ fault. fault ≡ Memory) → IsViewedBy of digests (Some request) old result new
   viewed_found report (Ok answer) given told memory = record {
     answer = on_weaker of (names_by (rules_named request.rules))
-        (λ files. GivesBy (rules_named request.rules) files (Ok (report_of report))) (IsViewOf request answer) old new
+        (λ files. GivesBy (rules_named request.rules) files (Ok (report_of report)))
+        (IsViewOf digests request answer) old new
         (λ files long is. inl (report_of report, is, told)) given.ok.0;
     absent =
         let comes = given.absent (λ e. cc) in
@@ -144,14 +146,15 @@ module _ {S : Type 0} (of : StoreGhosts S) (request : ViewRequest) (old new : S)
   -- a refusal is right of the request where the rules come from the source that their word names
   pub refused_by : (source : RuleSource) (fault : AuditFault) (result : Result ViewAnswer Fault) →
       source ≡ rules_named request.rules → IsReadBy source (Err fault) → IfOk result (IsViewOfFault fault) →
-      IfErr result (λ why. (why ≡ ReadFault) ↔ (fault ≡ audit.ReadFault)) → IsViewedBy of (Some request) old result new
+      IfErr result (λ why. (why ≡ ReadFault) ↔ (fault ≡ audit.ReadFault)) →
+      IsViewedBy of digests (Some request) old result new
   refused_by source fault result same given =
       viewed_refused fault result (subst (λ s. IsReadBy s (Err fault)) same given)
 
   -- and so is a report
   pub found_by : (source : RuleSource) (report : ReportParts) (result : Result ViewAnswer Fault) →
       source ≡ rules_named request.rules → IsReadBy source (Ok report) →
-      IfOk result (λ answer. answer ≡ picture_answer (report_of report)) → IfErr result (λ fault. fault ≡ Memory) →
-      IsViewedBy of (Some request) old result new
+      IfOk result (λ answer. answer ≡ view_answer digests request (report_of report)) →
+      IfErr result (λ fault. fault ≡ Memory) → IsViewedBy of digests (Some request) old result new
   found_by source report result same given =
       viewed_found report result (subst (λ s. IsReadBy s (Ok report)) same given)

@@ -12,13 +12,13 @@ use Rattle.auditorium_view.specs.declared.answer.Fault.TheVariants.{ReadFault, M
 use Rattle.auditorium_view.specs.ViewWords.{ViewRequest, request_by, rules_named}
 use Rattle.auditorium_view.specs.View.{ViewAnswer, IsViewOf, usage_view}
 
-module _ {S : Type 0} (of : StoreGhosts S) where
+module _ {S : Type 0} (of : StoreGhosts S) (digests : List (Option (List ℕ))) where
   -- the answer to what is asked for is right for the files as they were read; where nothing is
   -- asked for, none is read
   abbrev pub IsViewFor : Option ViewRequest → S → S → ViewAnswer → Type 0
   IsViewFor request old new answer = MatchOption request ((answer ≡ usage_view) × (new ≡ old))
-      (λ asked. OnRead of (audit_files asked.roster (rules_named asked.rules) asked.logs) (IsViewOf asked answer)
-      old new)
+      (λ asked. OnRead of (audit_files asked.roster (rules_named asked.rules) asked.logs)
+      (IsViewOf digests asked answer) old new)
 
   -- The answer is right for the files. It says that a file is absent exactly where the store said
   -- so in the call, a failed read comes only where a read failed in it, and no file changes.
@@ -50,6 +50,7 @@ EndsAs (Err ReadFault) old how new = (how ≡ status.ReadFault) × (new ≡ old)
 EndsAs (Err Memory) old how new = (how ≡ status.Memory) × (new ≡ old)
 
 -- what was done for words: something was answered to them, and the program ended so
-abbrev pub HasShown : {S : Type 0} → StoreGhosts S → List (List ℕ) → S → SinkSeen → Status → S → SinkSeen → Type 0
-HasShown of words old out how new out_after =
-    (answer : Result ViewAnswer Fault) × IsViewed of words old answer new × EndsAs answer out how out_after
+abbrev pub HasShown : {S : Type 0} → StoreGhosts S → List (Option (List ℕ)) → List (List ℕ) → S → SinkSeen →
+    Status → S → SinkSeen → Type 0
+HasShown of digests words old out how new out_after =
+    (answer : Result ViewAnswer Fault) × IsViewed of digests words old answer new × EndsAs answer out how out_after

@@ -1,12 +1,12 @@
 //! Answers: what is to be written, and how the program ends then.
 ghost use Rattle.std.specs.Prelude.{◌≡◌, ◌↔◌, IfErr, IfOk, IsSomeAnd};
+ghost use Rattle.auditor.specs.Outcomes.{outcome_of};
 ghost use Rattle.auditor.specs.Report.{report_of};
 ghost use Rattle.evidence.specs.Refusal.{absent, refusal_of, refused};
-ghost use Rattle.auditorium_view.specs.View.{picture_answer, refusal_view, usage_view, view_status};
+ghost use Rattle.auditorium_view.specs.View.{refusal_view, usage_view, view_status};
 
 use crate::status::Status;
 use auditor::{AuditFault, Outcome, Report};
-use entangled_picture::write_picture;
 use std::alloc::{AllocError, Global};
 use std::marker::Model;
 
@@ -66,14 +66,17 @@ impl Answer {
         })
     }
 
-    /// The picture of the report.
-    pub fn of_report(alloc: Global, report: &Report) -> Result<Answer, AllocError>
-        ensures { IfOk result (λ answer. answer ≡ picture_answer (report_of report.now)) }
+    /// What is shown of a report.
+    pub fn of_report(report: &Report, output: Vec<u8>) -> Answer
+        ensures { result ≡ record {
+          status = view_status (outcome_of (report_of report.now));
+          output = output.items;
+        } }
     {
-        Ok(Answer {
+        Answer {
             status: status_by(report.outcome()),
-            output: write_picture(alloc, report)?,
-        })
+            output,
+        }
     }
 
     /// The answer where an input is refused, or isn't there; a failed read and running out of

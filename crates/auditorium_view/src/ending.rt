@@ -30,19 +30,20 @@ pub(crate) struct Ended {
     pub answer: Result<Answer, Fault>,
 }
 
-/// Does what the words ask for.
+/// Does what the words ask for, with these digests of the files.
 pub(crate) fn show<S: Store, K: Sink>(
     alloc: Global,
     words: &[String],
+    digests: &[Option<[u8; 32]>],
     store: &mut S,
     out: &mut K,
 ) -> Ended
-    ensures { HasShown S.Store (map string_bytes words.now)
+    ensures { HasShown S.Store digests.now (map string_bytes words.now)
         store.old (record { output = K.written out.old; faults = K.faults out.old })
         result.status
         store.new (record { output = K.written out.new; faults = K.faults out.new }) }
 {
-    let answer = view(alloc, words, store);
+    let answer = view(alloc, words, digests, store);
     let status = end_with(&answer, out);
     Ended { status, answer }
 }

@@ -1,5 +1,6 @@
 //! Lines on standard error: what failed, and hints for users whose command wasn't carried out.
 use crate::status::Status;
+use crate::words::PICTURE;
 use command_hints::{Hint, hint_on};
 use hall_outside::{Failure, FolderStore, read_file};
 use std::alloc::{AllocError, Global};
@@ -32,6 +33,10 @@ pub(crate) fn report<R: Eprint>(
 
 /// The words with which `auditorium` would be asked for the report.
 fn audit_words(alloc: Global, words: &[String]) -> Result<Vec<String>, AllocError> {
+    let words = match words {
+        [first, rest @ ..] if first.as_str() == PICTURE => rest,
+        _ => words,
+    };
     let mut all = Vec::new(alloc);
     all.push(String::from_str(alloc, "audit")?)?;
     for word in words {
@@ -50,8 +55,9 @@ pub(crate) fn hint<R: Files<File = File> + Eprint + AllocGlobal>(
 ) {
     if matches!(status, Status::Usage) {
         let _ = eprintln!(rt;
-            "usage: auditorium_view ROSTER RULES LOG..\n\
-prints a picture of what audit reports on; RULES is a file or standard, LOG.. 1 to 16 logs"
+            "usage: auditorium_view [picture] ROSTER RULES LOG..\n\
+prints a page of what audit reports on, or its picture alone; RULES is a file or standard, \
+LOG.. 1 to 16 logs"
         );
         return;
     }

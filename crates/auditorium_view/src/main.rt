@@ -1,16 +1,18 @@
-//! The program `auditorium_view`: it prints a picture of what the logs show, and ends with the
-//! status with which `auditorium audit` would. Where the system failed, a line on standard error
-//! says at what and why; where the command line isn't valid, or an input was refused or isn't
-//! there, a hint does.
+//! The program `auditorium_view`: it prints a page of what the logs show, or the picture alone, and
+//! ends with the status with which `auditorium audit` would. Where the system failed, a line on
+//! standard error says at what and why; where the command line isn't valid, or an input was refused
+//! or isn't there, a hint does.
 #![tactic(auto)]
 
 mod answer;
+mod digests;
 mod ending;
 mod hinting;
 mod status;
 mod viewing;
 mod words;
 
+use crate::digests::digests_of;
 use crate::ending::show;
 use crate::hinting::{hint, report};
 use crate::status::Status;
@@ -50,7 +52,10 @@ fn main(rt: HostRuntime) -> ExitCode {
     // A word that isn't text counts as no words at all, which is a usage error.
     let words = given.as_ref().map(|words| words.as_slice()).unwrap_or(&[]);
     let mut out = OutputSink::make(&rt);
-    let ended = show(rt.alloc(), words, &mut store, &mut out);
+    let Ok(digests) = digests_of(&rt, words) else {
+        return ended_without_memory(&rt);
+    };
+    let ended = show(rt.alloc(), words, &digests, &mut store, &mut out);
     report(&rt, ended.status, store.failure(), out.failure());
     hint(&rt, ended.status, words, ended.output());
     ExitCode::from(ended.status.exit_status())

@@ -6,6 +6,7 @@ use Rattle.auditorium_view.specs.ViewWords.{ViewRequest}
 -- what is asked for
 abbrev pub asked : Request → ViewRequest
 asked request = record {
+  picture = request.picture;
   roster = request.roster.now;
   rules = request.rules.now;
   logs = map string_bytes request.logs.now;

@@ -1,0 +1,9 @@
+use Rattle.report_page.proofs.Imports.{[], report_of}
+use Rattle.report_page.specs.Entries.{survivor_row}
+use Rattle.report_page.proofs.Pieces.{item_more}
+use Rattle.report_page.proofs.entries.entry_rows.Goals as goal
+
+pub loop-place-preserved : goal.loop-place-preserved
+loop-place-preserved c =
+    item_more (survivor_row (report_of c.args.report.now)) c.loop-place.place [] c.loop-place.rows c.add_entry.new.rows
+    c.loop-place.invariant c.in_ok-add_entry.ensures

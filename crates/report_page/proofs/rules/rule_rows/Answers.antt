@@ -1,0 +1,9 @@
+use Rattle.report_page.proofs.Imports.{[], report_of}
+use Rattle.report_page.specs.Rules.{rule_at}
+use Rattle.report_page.proofs.Pieces.{place_more}
+use Rattle.report_page.proofs.rules.rule_rows.Goals as goal
+
+pub loop-place-preserved : goal.loop-place-preserved
+loop-place-preserved c =
+    place_more (rule_at c.args.which c.args.standard (report_of c.args.report.now)) c.loop-place.place []
+    c.loop-place.rows c.add_rule_at.new.rows c.loop-place.invariant c.in_ok-add_rule_at.ensures

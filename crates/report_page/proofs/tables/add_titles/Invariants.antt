@@ -1,0 +1,8 @@
+use Rattle.report_page.proofs.Imports.{◌≡◌, ◌++◌, take}
+use Rattle.report_page.specs.Cells.{passed_texts}
+use Rattle.report_page.specs.Tables.{titles_markup}
+use Rattle.report_page.proofs.tables.add_titles.Given as goal
+
+-- the titles so far
+abbrev pub invariant-loop-title : goal.invariant-loop-title
+invariant-loop-title l = l.out ≡ l.fn.out ++ titles_markup (passed_texts (take l.title-index l.titles))

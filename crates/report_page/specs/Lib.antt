@@ -1,0 +1,9 @@
+pub mod Cells
+pub mod Machines
+pub mod Findings
+pub mod Gaps
+pub mod Rules
+pub mod Entries
+pub mod Tables
+pub mod Sections
+pub mod Page
