@@ -4,7 +4,7 @@
 usage: python3 bench/examples.py [--view VIEW] PROGRAM [WORD ..]
 
 PROGRAM, with these words before the command's, takes the place of `auditorium`, and its output may go into a file by
-`>`; VIEW takes the place of `auditorium_view`, and without it no picture is drawn; any other command is the shell's. A
+`>`; VIEW takes the place of `auditorium_view`, and without it no page is made; any other command is the shell's. A
 file of examples/ is compared, byte for byte, with what is written into the file of its name in examples/out/. The
 statuses are those of the headings, where these begin with one; where a heading has several commands, each ends with
 that status. Lines that begin with `auditorium: ` or with a space are compared with the first lines of standard error,
@@ -124,7 +124,7 @@ def main():
         programs["auditorium_view"] = path_of(words[1])
         words = words[2:]
     else:
-        print("no picture is drawn: there is no --view VIEW")
+        print("no page is made: there is no --view VIEW")
     program = path_of(words[0]) + words[1:]
     programs["auditorium"] = program
     with tempfile.TemporaryDirectory() as folder:

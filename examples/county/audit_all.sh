@@ -6,7 +6,7 @@
 # Each folder in FOLDER is a place: its roster is place.roster, and its logs end in .log. RULES is a file, or `standard`.
 # The options are for GNU parallel, as `--jobs 4`. The same command again audits what is left, failed or has changed.
 #
-# Each place gets a report.txt, and a picture.svg if auditorium_view is on the path; FOLDER gets a summary.tsv and an
+# Each place gets a report.txt, and a page.html if auditorium_view is on the path; FOLDER gets a summary.tsv and an
 # index.html. The exit status is the greatest of the places': up to 3 they are verdicts, from 4 on refusals, and from 8
 # on there is no report. A place from which none came back has 255.
 set -u
@@ -26,9 +26,9 @@ list_files() {
 audit_place() {
     shopt -s nullglob
     cd -- "$1" || return 8
-    local before drawn files logs new=report.new.$HOSTNAME.$$ status=8 try
+    local before shown files logs new=report.new.$HOSTNAME.$$ status=8 try
     # What a run that was ended has left.
-    rm -f report.txt picture.svg report.new.*
+    rm -f report.txt page.html report.new.*
     for try in 1 2; do
         [ "$try" -eq 1 ] || sleep 1
         files=(*.roster *.log) logs=(*.log)
@@ -36,10 +36,10 @@ audit_place() {
         [ ${#files[@]} -eq "$2" ] || continue
         before=$(list_files)
         auditorium audit place.roster "$3" "${logs[@]:-*.log}" >"$new"
-        status=$? drawn=255
+        status=$? shown=255
         if [ "$status" -lt 4 ] && command -v auditorium_view >/dev/null; then
-            auditorium_view place.roster "$3" "${logs[@]}" >"$new.svg"
-            drawn=$?
+            auditorium_view place.roster "$3" "${logs[@]}" >"$new.html"
+            shown=$?
         fi
         if [ "$status" -lt 8 ] && [ "$before" != "$(list_files)" ]; then
             echo "its files changed while they were read" >&2
@@ -49,10 +49,10 @@ audit_place() {
     done
     [ ${#files[@]} -eq "$2" ] || echo "${#files[@]} rosters and logs are there, and not $2" >&2
     if [ "$status" -lt 8 ]; then
-        [ "$drawn" -ne "$status" ] || mv "$new.svg" picture.svg
+        [ "$shown" -ne "$status" ] || mv "$new.html" page.html
         sync "$new" && mv "$new" report.txt || status=9
     fi
-    rm -f "$new" "$new.svg"
+    rm -f "$new" "$new.html"
     return "$status"
 }
 
@@ -176,7 +176,7 @@ status=$?
 # How many places of each status there are, gravest last.
 totals=$(sed 1d summary.new | cut -f 2 | sort -n | uniq -c |
     awk '{ sum += $1; line = line ", " $1 " with status " $2 } END { print sum " places: " substr(line, 3) }')
-list_named picture.svg >pictures.new
+list_named page.html >pages.new
 sed 1d summary.new | sort -t $'\t' -k 2,2nr -k 6,6nr -k 7,7nr -k 4,4nr -k 1,1 >graver.new
 awk -F '\t' -v totals="$totals" '
     # The text in HTML.
@@ -200,29 +200,29 @@ awk -F '\t' -v totals="$totals" '
         word[0] = "kept"
         print "<!DOCTYPE html>\n<html lang=\"en\">\n<meta charset=\"utf-8\">\n<title>" totals "</title>"
         print "<style>body{font:14px sans-serif}table{border-collapse:collapse}td,th{padding:2px 8px;text-align:right}"
-        print "th{position:sticky;top:0;background:#fff}tr{border-bottom:1px solid #ccc}td:nth-child(-n+2){text-align:left}"
+        print "th{position:sticky;top:0;background:#fff}tr{border-bottom:1px solid #ccc}td:nth-child(-n+2){text-align:left;white-space:nowrap}"
         print ".s1{background:#e8f1fa}.s2{background:#fff4d6}.s3{background:#fbdcd2}.s4{background:#e7dcf0}</style>"
         print "<h1>" totals "</h1>\n<p>Gravest first. How to read a report: docs/REPORT.md of the auditor.</p>\n<table>"
     }
-    FILENAME == "pictures.new" { pictured[$0]; next }
+    FILENAME == "pages.new" { paged[$0]; next }
     FNR == 1 && FILENAME == "summary.new" {
         printf "<tr>"
         for (at = 1; at <= NF; at++) printf "<th>%s", $at
-        print "<th>picture"
+        print "<th>report"
     }
     FILENAME == "summary.new" { next }
     {
         printf "<tr class=\"s%d\"><td>", $2 < 4 ? $2 : 4
-        if ($2 < 8) printf "<a href=\"%s/report.txt\">%s</a>", linked($1), shown($1)
+        if ($1 in paged) printf "<a href=\"%s/page.html\">%s</a>", linked($1), shown($1)
         else printf "%s", shown($1)
         printf "<td>%d %s", $2, $2 in word ? word[$2] : "no report"
         for (at = 3; at <= NF; at++) printf "<td>%s", $at
-        if ($1 in pictured) printf "<td><a href=\"%s/picture.svg\">picture</a>", linked($1)
+        if ($2 < 8) printf "<td><a href=\"%s/report.txt\">report</a>", linked($1)
         else printf "<td>"
         print ""
     }
     END { print "</table>\n</html>" }
-' pictures.new summary.new graver.new >index.new
+' pages.new summary.new graver.new >index.new
 mv summary.new summary.tsv
 mv index.new index.html
 rm -f ./*.new
