@@ -3,8 +3,8 @@
 
 Run from anywhere: python3 bench/promises.py
 
-In docs/PROMISES.md each crate of crates.txt must have one row, but those that only test, measure or compare,
-whose names end in `_tests`, `_speed` or `_orders`. In a row's third column `NAME`, clause `CLAUSE`,
+In docs/PROMISES.md each crate of crates.txt must have one row, but those that only test, measure or compare:
+their names end in `_tests`, `_speed` or `_orders`, or only such crates use them. In a row's third column `NAME`, clause `CLAUSE`,
 in `PATH` means that PATH is a file of the crate and that NAME and CLAUSE are words of it, NAME of a function
 or of a definition. In crates/NAME/README.md the names in the column "Kept by" must be words of the crate's
 sources, or of those of a crate that the cell names too.
@@ -30,6 +30,21 @@ def crates():
     """The crates of crates.txt."""
     lines = (ROOT / "crates.txt").read_text().splitlines()
     return [line.split(":")[0] for line in lines if ":" in line and not line.startswith("#")]
+
+
+def crates_without_row():
+    """The crates that only test, measure or compare."""
+    users = {crate: [] for crate in crates()}
+    for line in (ROOT / "crates.txt").read_text().splitlines():
+        if ":" in line and not line.startswith("#"):
+            crate, _, used = line.partition(":")
+            for name in used.split():
+                users.get(name, []).append(crate)
+    found = set()
+    for crate in reversed(crates()):
+        if crate.endswith(WITHOUT_ROW) or users[crate] and found.issuperset(users[crate]):
+            found.add(crate)
+    return found
 
 
 def rows(text, heading):
@@ -129,7 +144,8 @@ def main():
     text = PROMISES.read_text()
     listed = [(NAME.findall(cells[0])[0], cells) for cells in rows(text, "Its promise")]
     names = [crate for crate, _ in listed]
-    wanted = [crate for crate in crates() if not crate.endswith(WITHOUT_ROW)]
+    passed = crates_without_row()
+    wanted = [crate for crate in crates() if crate not in passed]
     faults += [f"no row of {crate}" for crate in wanted if names.count(crate) != 1]
     faults += [f"a row of {crate}, which isn't in crates.txt" for crate in names if crate not in crates()]
     for crate, cells in listed:
