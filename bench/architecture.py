@@ -27,7 +27,7 @@ USED_FROM_BELOW = "entry_order"
 PLACES = """
 command_hints  auditorium_cli  auditorium_core  demonstration   auditorium_view
 entangled_picture auditor      report_exactness honest_reports  honest_rules
-evidence       live_auditor    .                counterexamples honest_logs
+evidence       live_auditor    report_page      counterexamples honest_logs
 -----
 .              .               finished_floor   log_lock        broadcast_queues
 ruled_queues   .               .                machine_floor   floor_links
@@ -44,7 +44,7 @@ roster         .               entry_format     .               .
 .              .               .                .               office_key
 item_list      canonical_sexp  .                lms_sign        hss_sign
 .              hall_outside    hall_text        lms_ots         .
-.              folder_calls    .                .               .
+page_markup    folder_calls    .                .               .
 """
 
 # Blue, vermilion and bluish green can be told apart by everybody (Okabe and Ito).

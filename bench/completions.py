@@ -37,6 +37,8 @@ _auditorium() {
     COMPREPLY=()
     if [ "${COMP_WORDS[0]##*/}" = auditorium_view ]; then
         first=1
+        # The word `picture` may come before the others.
+        [ "$COMP_CWORD" -gt 1 ] && [ "${COMP_WORDS[1]}" = picture ] && first=2
         words=(@VIEW@)
     elif [ "$COMP_CWORD" -eq 1 ]; then
         mapfile -t COMPREPLY < <(compgen -W '@COMMANDS@' -- "$word")
@@ -53,6 +55,9 @@ _auditorium() {
     case ${kind%..} in
 @KINDS@
     esac
+    if [ "$first" -eq 1 ] && [ "$COMP_CWORD" -eq 1 ]; then
+        mapfile -t -O ${#COMPREPLY[@]} COMPREPLY < <(compgen -W picture -- "$word")
+    fi
 }
 
 complete -F _auditorium auditorium auditorium_view
@@ -70,6 +75,9 @@ _auditorium() {
     )
     if [[ ${words[1]:t} == auditorium_view ]]; then
         first=2
+        # The word `picture` may come before the others.
+        (( CURRENT == 2 )) && compadd -- picture
+        (( CURRENT > 2 )) && [[ ${words[2]} == picture ]] && first=3
         words_after=(@VIEW@)
     elif (( CURRENT == 2 )); then
         _describe command commands

@@ -102,9 +102,12 @@ VIEW_HEAD = """\
 .Os
 .Sh NAME
 .Nm auditorium_view
-.Nd draws what an audit reports on
+.Nd shows what an audit reports on
 .Sh SYNOPSIS
 .Nm
+.Ar ROSTER RULES LOG..
+.Nm
+.Cm picture
 .Ar ROSTER RULES LOG..
 .Sh DESCRIPTION
 .Nm
@@ -112,17 +115,28 @@ takes the words of
 .Cm audit
 of
 .Xr auditorium 1 ,
-and prints a picture of the report in place of the report: an SVG document for a
-browser.
+and prints a page in place of the report: one HTML document for a browser, or
+for paper.
+It says what the report comes to, and what it doesn't say.
+It lists what was audited, with the SHA-256 of each file, and the machines with
+their logs; what accuses and what may be loss alone, each line with what to do
+next; the gaps with the entries that name them; the rules, broken ones with the
+entries by which they are broken; and the entries.
+At its end it has the report itself.
+.Pp
+After the word
+.Cm picture
+it prints the picture alone, an SVG document; a roster in a file of that name is
+.Pa ./picture .
 Each machine has a lane, with a mark for each entry and an arrow for each entry
 that it names.
 Gaps, forks, strays, refused records, breaks and damaged ends are marked, and
 the entries by which a rule is broken are lit.
 A mark's title says which entry it is.
-Above 400 entries those that don't matter are drawn as bars, each with their
+Above 300 entries those that don't matter are drawn as bars, each with their
 number.
 .Pp
-The document is complete in itself: it loads nothing and runs nothing.
+Either document is complete in itself: it loads nothing and runs nothing.
 .Pp
 The words are:
 """
@@ -130,13 +144,14 @@ The words are:
 VIEW_END = """\
 .Sh EXAMPLES
 .Bd -literal -offset indent
-auditorium_view day.roster standard day.sv.log day.b2.log > day.svg
+auditorium_view day.roster standard day.sv.log day.b2.log > day.html
+auditorium_view picture day.roster standard day.sv.log day.b2.log > day.svg
 .Ed
 .Sh DIAGNOSTICS
 They are those of
 .Cm audit :
 with the statuses 4, 5 and 6 the standard output is one line in place of a
-picture, and a hint on standard error says what was expected.
+document, and a hint on standard error says what was expected.
 .Sh SEE ALSO
 .Xr auditorium 1
 and docs/REPORT.md of the repository, on how to read a report.
