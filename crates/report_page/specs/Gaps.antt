@@ -1,6 +1,6 @@
 -- The tables of the gaps: who names each, and whose the lost entries could be.
 use Rattle.std.specs.Prelude.{ℕ, Bool, false, ◌==◌, ◌&&◌, if◌then◌else◌, List, [], ◌∷◌, length, map, Option, Some, None}
-use Rattle.std.specs.Prelude.{slice_get}
+use Rattle.std.specs.Prelude.{slice_get, take}
 use Rattle.std.specs.List.{flat_map, list_any, range_with_len}
 use Rattle.hex.specs.Hex.{encode_lower}
 use Rattle.entry_order.specs.Naming.{names_digest}
@@ -42,9 +42,13 @@ namers_of graph digest = namers_among graph digest (ragged_places graph)
 abbrev pub gap_row : EntryGraph SealedEntry → List ℕ → TableRow
 gap_row graph digest = text_cell (encode_lower digest) ∷ places_cell [] (namers_of graph digest) ∷ []
 
--- a row for each gap
+-- of how many gaps there are rows
+abbrev pub most_listed : ℕ
+most_listed = 300
+
+-- a row for each gap, up to this number
 abbrev pub gap_rows : AuditReport → List TableRow
-gap_rows report = map (gap_row report.graph) report.graph.gaps
+gap_rows report = map (gap_row report.graph) (take most_listed report.graph.gaps)
 
 -- a log of this seat is damaged: it has a refused record, an end that isn't clean, or a break
 abbrev pub has_damage : ℕ → ℕ → List LogRead → Bool

@@ -1,5 +1,5 @@
 //! The gaps: who names each, and whose the lost entries could be.
-ghost use Rattle.std.specs.Prelude.{◌≡◌, ◌++◌, ◌∷◌, [], ◌≤◌, IfOk, OnOk, length, slice_get};
+ghost use Rattle.std.specs.Prelude.{◌≡◌, ◌++◌, ◌∷◌, [], ◌≤◌, IfOk, OnOk, length, slice_get, take};
 ghost use Rattle.auditor.specs.Outcomes.{log_has_finding};
 ghost use Rattle.auditor.specs.Report.{report_of};
 ghost use Rattle.report_page.specs.Gaps.{
@@ -9,6 +9,7 @@ ghost use Rattle.report_page.specs.Gaps.{
   lost_how,
   maker_row,
   maker_rows,
+  most_listed,
   is_namer,
   namers_among,
   place_if,
@@ -25,6 +26,9 @@ use entry_order::names_digest;
 use log_files::{End, LogRead};
 use precedence::Arrows;
 use std::alloc::{AllocError, Global};
+
+/// Of how many gaps it is listed who names them: each is looked for among all names.
+const MOST_LISTED: usize = 300;
 
 /// Adds the place, if this is so.
 fn add_place_if(places: &mut Vec<u32>, so: bool, place: u32) -> Result<(), AllocError>
@@ -91,12 +95,23 @@ fn add_gap(
     rows.push(row)
 }
 
-/// A row for each gap.
+/// The first gaps, up to the number that is listed.
+fn first_gaps(gaps: &[[u8; 32]]) -> &[[u8; 32]]
+    ensures { result.now ≡ take most_listed gaps.now }
+{
+    if gaps.len() <= MOST_LISTED {
+        gaps
+    } else {
+        &gaps[..MOST_LISTED]
+    }
+}
+
+/// A row for each gap, up to the number that is listed.
 pub(crate) fn gap_rows(alloc: Global, report: &Report) -> Result<TableRows, AllocError>
     ensures { IfOk result (λ rows. rows ≡ gap_rows (report_of report.now)) }
 {
     let graph = report.graph();
-    let gaps = graph.gaps();
+    let gaps = first_gaps(graph.gaps());
     let ragged = ragged_places(alloc, graph)?;
     let mut rows = TableRows::new(alloc);
     for digest in gaps {

@@ -108,7 +108,7 @@ pub(crate) const GAPS: &str = "Gaps";
 pub(crate) const NO_GAPS: &str = "None: each entry that a surviving one names survives.";
 
 pub(crate) const GAPS_SAY: &str = "A gap is the digest of an entry that no log has, and that a \
-surviving entry names.";
+surviving entry names. Of more than 300 gaps the first 300 are listed here; the report has all.";
 
 pub(crate) const GAP_TITLES: &[&str] = &["Digest of the lost entry", "Entries that name it"];
 
