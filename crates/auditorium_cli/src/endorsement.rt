@@ -64,9 +64,34 @@ fn is_regular<R: Files<File = File>>(rt: &R, name: &str) -> bool {
     }
 }
 
+/// Whether both names are of one file.
+fn is_one_file<R: Files<File = File>>(rt: &R, one: &str, other: &str) -> bool {
+    match (fs::metadata(rt, one), fs::metadata(rt, other)) {
+        (Ok(one), Ok(other)) => one.dev() == other.dev() && one.ino() == other.ino(),
+        _ => false,
+    }
+}
+
+/// Says on standard error why a new endorsement isn't good under the public key of that name.
+fn say_why<R: Files<File = File> + Eprint + AllocGlobal>(rt: &R, name: &str, file: &str) {
+    let Ok(office) = office_name(rt.alloc(), name) else {
+        return;
+    };
+    let _ = if is_one_file(rt, office.as_str(), file) {
+        eprintln!(rt;
+            "auditorium: {file}.sig signs {file} as it was: since then it has its next number"
+        )
+    } else {
+        eprintln!(rt;
+            "auditorium: {file}.sig isn't good under {name}.key: give endorse the NAME that office \
+             was given, folders included"
+        )
+    };
+}
+
 /// Says on standard error that a new endorsement isn't good under the public key of that name, if
-/// there is one: then the office's name is another than `office` was given. What can't be read or
-/// written is left out.
+/// there is one: then the office's name is another than `office` was given, or it signs the
+/// office's own file. What can't be read or written is left out.
 pub(crate) fn check_endorsement<R: Files<File = File> + Eprint + AllocGlobal>(
     rt: &R,
     status: Status,
@@ -87,10 +112,7 @@ pub(crate) fn check_endorsement<R: Files<File = File> + Eprint + AllocGlobal>(
         .all(|name| is_regular(rt, name.as_str()))
         && is_bad(rt, &words)
     {
-        let _ = eprintln!(rt;
-            "auditorium: {file}.sig isn't good under {name}.key: give endorse the NAME that office \
-             was given, folders included"
-        );
+        say_why(rt, name.as_str(), file.as_str());
     }
 }
 
