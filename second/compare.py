@@ -1189,7 +1189,7 @@ def misread(program, seed, some):
 
 def main():
     parser = argparse.ArgumentParser()
-    parser.add_argument("program", nargs="?")
+    parser.add_argument("program")
     parser.add_argument("seed", nargs="?", default="1")
     parser.add_argument("count", nargs="?", type=int, default=1000)
     parser.add_argument("--misread", action="store_true",
