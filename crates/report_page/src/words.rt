@@ -27,7 +27,8 @@ pre{overflow-x:auto;border:1px solid var(--line);padding:.5rem;font-size:.8rem}\
 #machines table{min-width:44rem}#entries table{min-width:62rem}#rules table{min-width:30rem}\
 #entries td:nth-child(6),#gaps td:first-child,#audited td:last-child{font-family:monospace}\
 @media print{body{max-width:none;font-size:9pt;background:#fff;color:#000}\
-.wide{overflow:visible}#machines table,#entries table,#rules table{min-width:0}\
+.wide{overflow:visible}svg.picture{max-width:100%;height:auto}\
+#machines table,#entries table,#rules table{min-width:0}\
 pre{white-space:pre-wrap;overflow-wrap:anywhere}\
 tr{break-inside:avoid}h2,h3{break-after:avoid}a{color:#000}}";
 
