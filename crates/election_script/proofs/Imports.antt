@@ -1,15 +1,18 @@
 -- What the proofs of this crate take from others.
-pub use Rattle.election_script.specs.Before.{ComesAgain, ComesTooEarly, ComesTooLate, HasMachine, HasMachineOf}
-pub use Rattle.election_script.specs.Before.{HasStop, count_of_kind, is_of_kind, is_supervisor_line, of_kind}
-pub use Rattle.election_script.specs.Before.{supervisors, told_by, version_of, version_told, words_of}
-pub use Rattle.election_script.specs.Faults.{Causes, IsFull, IsHex, IsHexOf, IsNumberWithin, IsPlain, IsSeed}
-pub use Rattle.election_script.specs.Faults.{authorise_causes, ballot_causes, ballot_deed_causes, causes_of}
-pub use Rattle.election_script.specs.Faults.{do_causes, ending_causes, entry_causes, hear_causes, how_causes}
-pub use Rattle.election_script.specs.Faults.{key_causes, kind_causes, lose_causes, machine_causes}
-pub use Rattle.election_script.specs.Faults.{machine_name_causes, number_causes, override_causes, own_step_causes}
-pub use Rattle.election_script.specs.Faults.{place_causes, plain_deed_causes, receiver_causes, role_causes}
-pub use Rattle.election_script.specs.Faults.{role_session_causes, seed_causes, session_causes, session_deed_causes}
-pub use Rattle.election_script.specs.Faults.{step_causes, stop_causes, stopper_causes, word_causes, words_causes}
+pub use Rattle.election_script.specs.Before.{ComesAgain, ComesTooEarly, ComesTooLate, count_of_kind, is_of_kind}
+pub use Rattle.election_script.specs.Before.{is_supervisor_line, machine_told, machines_told, name_told, of_kind}
+pub use Rattle.election_script.specs.Before.{stopped_told, supervisors, told_by, version_of, version_told, words_of}
+pub use Rattle.election_script.specs.Deeds.{ballot_deed, do_of, machine_and_session, override_deed}
+pub use Rattle.election_script.specs.Faults.{Causes, IsFull, IsPlain, causes_of, ending_causes, kind_causes}
+pub use Rattle.election_script.specs.Faults.{place_causes, refused, word_causes, words_causes}
+pub use Rattle.election_script.specs.Lines.{entry_of, key_of, lose_of, machine_of, read_line, receiver_of, seed_of}
+pub use Rattle.election_script.specs.Lines.{one_number, step_of, stop_of, stopper_of}
+pub use Rattle.election_script.specs.Machines.{Machines, is_role, machine_named, machine_of_role, place_of}
+pub use Rattle.election_script.specs.Words.{Read, ballot_of, in_table, is_among, is_between, is_name, is_name_byte}
+pub use Rattle.election_script.specs.Words.{number_within, session_of}
+pub use Rattle.std.proofs.Common.{cond}
+pub use Rattle.std.proofs.lemmas.Bool.{le-leb, leb-true}
+pub use Rattle.std.specs.Prelude.{IfNone, IfSome, nat_le, ok_or}
 pub use Rattle.election_script.specs.Generated.{authorise_of, booths, count_actions, day_steps, first_number}
 pub use Rattle.election_script.specs.Generated.{generated, hears, machines_of, numbers_of, others, session_ballot}
 pub use Rattle.election_script.specs.Generated.{session_booth, sessions, supervisor, supervisor_actions}
@@ -41,11 +44,11 @@ pub use Rattle.election_script.specs.declared.script.Script.{Script}
 pub use Rattle.election_script.specs.declared.script.StopAt.{StopAt}
 pub use Rattle.election_script.specs.declared.sheet.Sheet.{Sheet}
 pub use Rattle.election_script.specs.inside.Clears.{AreClear}
-pub use Rattle.election_script.specs.inside.Draft.{AreMachinesOf, AreStopsOf, HasRoleAt, IsDone, IsNamedAt}
+pub use Rattle.election_script.specs.inside.Draft.{HasRoleAt, IsDone, IsNamedAt}
 pub use Rattle.election_script.specs.inside.Lines.{FindsFirst, IsInOrder, kind_of, line_words}
 pub use Rattle.election_script.specs.inside.Sheets.{AreFew, IsFit, IsReached, IsSheet, IsSheetFull, IsWithin, blank}
 pub use Rattle.election_script.specs.inside.Sheets.{is_read, kept, listed, put, script_of, version_in, with_deeds}
-pub use Rattle.election_script.specs.inside.Words.{outcome_of, texts_of}
+pub use Rattle.election_script.specs.inside.Words.{roles_of, stopped_of, texts_of, told}
 pub use Rattle.entry_format.proofs.Taken.{version_small}
 pub use Rattle.entry_format.specs.Deeds.{IsDeedOf}
 pub use Rattle.entry_format.specs.EntryText.{IsDeedIn, IsDigest, IsVersion, how_word}

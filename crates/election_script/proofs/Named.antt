@@ -1,16 +1,15 @@
 -- What a word names in the tables of roles, ways to override, kinds of key and heights.
 use Rattle.election_script.proofs.Imports.{◌≡◌, ◌≢◌, ◌∙◌, sym, ap, subst, refl, ℕ, Bool, true, false, List, [], ◌∷◌}
-use Rattle.election_script.proofs.Imports.{inl, inr, Some, None, map, bytes_eq, bytes_eq-Decides, how_word, How}
+use Rattle.election_script.proofs.Imports.{inl, inr, Option, Some, None, map, bytes_eq, bytes_eq-Decides, how_word, How}
+use Rattle.election_script.proofs.Imports.{IfSome, IfNone, ok_or, UnknownWord, in_table}
 use Rattle.election_script.proofs.Imports.{OtsKind, W1, W2, W4, W8, ots_word, IsHeight, height_word, Role, Supervisor}
 use Rattle.election_script.proofs.Imports.{Booth, role_word, named, role_names, how_names, key_kinds, key_heights}
 use Rattle.entry_format.specs.declared.deed.How.TheVariants as how
 
--- a word that names something isn't unknown
-pub known : {A : Type 0} (rows : List (List ℕ × A)) (word own : List ℕ) (a : A) → word ≡ own
-    → named rows own ≡ Some a → named rows word ≡ None → ⊥
-known rows word own a is some none =
-    let both : Some a ≡ None = sym some ∙ ap (named rows) (sym is) ∙ none in
-    cc
+-- what is found is what is read
+pub reads : {A : Type 0} (rows : List (List ℕ × A)) (word : List ℕ) (found : Option A) → found ≡ named rows word →
+    ok_or found UnknownWord ≡ in_table rows word
+reads rows word found is = ap (λ f. ok_or f UnknownWord) is
 
 -- a row of another word is passed over
 next_row : {A : Type 0} (own : List ℕ) (a : A) (rows : List (List ℕ × A)) (word : List ℕ) → word ≢ own
@@ -49,16 +48,27 @@ pub some_kind : (kind : OtsKind) → named key_kinds (ots_word kind) ≡ Some ki
 some_kind W1 = refl
 some_kind kind = refl
 
-pub no_kind : (word : List ℕ) → ((kind : OtsKind) → word ≢ ots_word kind) → named key_kinds word ≡ None
+no_kind : (word : List ℕ) → ((kind : OtsKind) → word ≢ ots_word kind) → named key_kinds word ≡ None
 no_kind word none = no_word ots_word word none (W1 ∷ W2 ∷ W4 ∷ W8 ∷ [])
+
+pub kind_is : (word : List ℕ) (found : Option OtsKind) → IfSome found (λ kind. word ≡ ots_word kind)
+    → IfNone found ((kind : OtsKind) → word ≢ ots_word kind) → found ≡ named key_kinds word
+kind_is word (Some kind) is unknown = sym (ap (named key_kinds) is ∙ some_kind kind)
+kind_is word None is unknown = sym (no_kind word unknown)
 
 -- the word of a height of keys names it
 pub some_height : (height : ℕ) → IsHeight height → named key_heights (height_word height) ≡ Some height
 some_height height (inl is) = subst (λ h. named key_heights (height_word h) ≡ Some h) (sym is) refl
 some_height height (inr is) = subst (λ h. named key_heights (height_word h) ≡ Some h) (sym is) refl
 
-pub no_height : (word : List ℕ) → ((height : ℕ) → IsHeight height → word ≢ height_word height)
+no_height : (word : List ℕ) → ((height : ℕ) → IsHeight height → word ≢ height_word height)
     → named key_heights word ≡ None
 no_height word none =
     next_row (height_word 5) 5 ((height_word 10, 10) ∷ []) word (none 5 (inl refl))
     (next_row (height_word 10) 10 [] word (none 10 (inr refl)) refl)
+
+pub height_is : (word : List ℕ) (found : Option ℕ) → IfSome found IsHeight
+    → IfSome found (λ height. word ≡ height_word height)
+    → IfNone found ((height : ℕ) → IsHeight height → word ≢ height_word height) → found ≡ named key_heights word
+height_is word (Some height) good is unknown = sym (ap (named key_heights) is ∙ some_height height good)
+height_is word None good is unknown = sym (no_height word unknown)
