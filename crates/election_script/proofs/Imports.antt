@@ -36,7 +36,7 @@ pub use Rattle.election_script.specs.declared.draft.LineFault.TheVariants.{Why}
 pub use Rattle.election_script.specs.declared.faults.ScriptFault.{ScriptFault}
 pub use Rattle.election_script.specs.declared.faults.ScriptFault.TheVariants.{At}
 pub use Rattle.election_script.specs.declared.faults.ScriptWhy.{ScriptWhy}
-pub use Rattle.election_script.specs.declared.faults.ScriptWhy.TheVariants.{OutOfRange, UnknownWord, WrongRole}
+pub use Rattle.election_script.specs.declared.faults.ScriptWhy.TheVariants.{OutOfRange, UnknownWord}
 pub use Rattle.election_script.specs.declared.kinds.Kind.{Kind}
 pub use Rattle.election_script.specs.declared.script.Cast0.{Cast0}
 pub use Rattle.election_script.specs.declared.script.Lose.{Lose}
@@ -44,7 +44,7 @@ pub use Rattle.election_script.specs.declared.script.Script.{Script}
 pub use Rattle.election_script.specs.declared.script.StopAt.{StopAt}
 pub use Rattle.election_script.specs.declared.sheet.Sheet.{Sheet}
 pub use Rattle.election_script.specs.inside.Clears.{AreClear}
-pub use Rattle.election_script.specs.inside.Draft.{HasRoleAt, IsDone, IsNamedAt}
+pub use Rattle.election_script.specs.inside.Draft.{HasRoleAt, IsDone}
 pub use Rattle.election_script.specs.inside.Lines.{FindsFirst, IsInOrder, kind_of, line_words}
 pub use Rattle.election_script.specs.inside.Sheets.{AreFew, IsFit, IsReached, IsSheet, IsSheetFull, IsWithin, blank}
 pub use Rattle.election_script.specs.inside.Sheets.{is_read, kept, listed, put, script_of, version_in, with_deeds}
@@ -56,17 +56,15 @@ pub use Rattle.entry_format.specs.declared.deed.Deed.{Deed}
 pub use Rattle.entry_format.specs.declared.deed.Deed.TheVariants.{Activate, Authorise, Cancel, Cast, Challenge}
 pub use Rattle.entry_format.specs.declared.deed.Deed.TheVariants.{Closed, Commit, Opened, Override}
 pub use Rattle.entry_format.specs.declared.deed.How.{How}
-pub use Rattle.entry_order.proofs.Lists.{Contains-filter, Contains-filter_cases}
 pub use Rattle.entry_order.specs.declared.step.Step.{Step}
 pub use Rattle.entry_order.specs.declared.step.Step.TheVariants.{Act, Hear, Stop}
 pub use Rattle.hall_text.proofs.TextLines.{IsInLine, joined, lines_of_joined, lines_within}
 pub use Rattle.hall_text.specs.Lines.{line_spans, text_lines}
 pub use Rattle.hall_text.specs.Spans.{piece}
 pub use Rattle.hall_text.specs.declared.spans.Span.{Span}
-pub use Rattle.hex.proofs.HexLemmas.{decode_of-encode_lower, decode_of-ok, decode_of-same}
-pub use Rattle.hex.specs.Hex.{IsBytes, decode_of, encode_lower, lower_digits}
+pub use Rattle.hex.proofs.HexLemmas.{decode_of-encode_lower, decode_of-ok}
+pub use Rattle.hex.specs.Hex.{IsBytes, encode_lower, lower_digits}
 unfoldable pub use Rattle.hex.specs.Hex.{encode_with}
-pub use Rattle.hex.specs.declared.error.FromHexError.{FromHexError}
 pub use Rattle.item_list.proofs.Rows.{one_first}
 pub use Rattle.item_list.specs.Causes.{IsFirstOf}
 pub use Rattle.lms_ots.proofs.Candidates.{length-u32str}
@@ -83,7 +81,7 @@ pub use Rattle.roster.specs.RosterText.{role_word}
 pub use Rattle.roster.specs.declared.post.Role.{Role}
 pub use Rattle.roster.specs.declared.post.Role.TheVariants.{Booth, Supervisor}
 pub use Rattle.std.proofs.Common.{Bool, List, None, Option, Some, [], add-zero, ap, arith, drop, eqb, false, get_or}
-pub use Rattle.std.proofs.Common.{inl, inr, length, length-drop, map, refl, replicate, reverse, rules, set, subst}
+pub use Rattle.std.proofs.Common.{inl, inr, length, map, refl, replicate, reverse, rules, set, subst}
 pub use Rattle.std.proofs.Common.{suc, sym, take, tests, true, zero, ℕ, ⊎_elim, ◌%◌, ◌*◌, ◌++◌, ◌+◌, ◌-◌, ◌/◌, ◌<◌}
 pub use Rattle.std.proofs.Common.{◌^◌, ◌↔◌, ◌∙◌, ◌∷◌, ◌≡◌, ◌≢◌, ◌≤◌, ◌⊎◌}
 pub use Rattle.std.proofs.Math.Nat.{mul-suc}
@@ -92,12 +90,12 @@ pub use Rattle.std.proofs.lemmas.Bool.{agree_below_at, and_from, and_parts, case
 pub use Rattle.std.proofs.lemmas.Bool.{cond-false, cond-true, false_from_ne_true, false≢true, lt-ltb}
 pub use Rattle.std.proofs.lemmas.Bool.{ltb-true, ne_eqb}
 pub use Rattle.std.proofs.lemmas.Bool.Decides.{Decides-eqb, nat_tests}
-pub use Rattle.std.proofs.lemmas.Fmt.{decimal_by_steps, decimal_digit, decimal_injective}
+pub use Rattle.std.proofs.lemmas.Fmt.{decimal_by_steps, decimal_digit}
 pub use Rattle.std.proofs.lemmas.Iterator.Consumers.{map_from_collect}
 pub use Rattle.std.proofs.lemmas.Iterator.Splits.{YieldsList-from_slice_split}
-pub use Rattle.std.proofs.lemmas.List.{append-nil, drop-drop, drop_at, drop_more, get_or-drop, get_or-map}
-pub use Rattle.std.proofs.lemmas.List.{get_or-set_other, get_or-set_same, get_or_append_left, get_or_at}
-pub use Rattle.std.proofs.lemmas.List.{get_or_default, get_or_read, length-map, length-replicate, length-reverse}
+pub use Rattle.std.proofs.lemmas.List.{append-nil, drop_more, get_or-map}
+pub use Rattle.std.proofs.lemmas.List.{get_or-set_other, get_or-set_same, get_or_append_left}
+pub use Rattle.std.proofs.lemmas.List.{get_or_default, length-map, length-replicate, length-reverse}
 pub use Rattle.std.proofs.lemmas.List.{length-set, length-take-le, length_push, map-append, map_push, nil_from_length}
 pub use Rattle.std.proofs.lemmas.List.{replicate-append-replicate, reverse-append, take-append-drop, take_all}
 pub use Rattle.std.proofs.lemmas.List.{take_at, take_more, take_rest}
@@ -109,7 +107,7 @@ pub use Rattle.std.proofs.lemmas.List.Folds.{concat-append, list_all-append}
 pub use Rattle.std.proofs.lemmas.List.FromFn.{get_or-range_with_len, length-range_with_len}
 pub use Rattle.std.proofs.lemmas.List.Kept.{AllPairs-cons}
 pub use Rattle.std.proofs.lemmas.List.Quantifiers.{all_pairs_push}
-pub use Rattle.std.proofs.lemmas.List.Splits.{join_with_byte-slice_split, length-slice_split, slice_split_at}
+pub use Rattle.std.proofs.lemmas.List.Splits.{join_with_byte-slice_split, slice_split_at}
 pub use Rattle.std.proofs.lemmas.List.Splits.{slice_split_none}
 pub use Rattle.std.proofs.lemmas.List.Sums.{AllPass-from_list_all, count_by-le-length, length-filter}
 pub use Rattle.std.proofs.lemmas.List.Sums.{list_all-from_AllPass, sum_by-cons, sum_by_push}
@@ -120,8 +118,7 @@ pub use Rattle.std.proofs.lemmas.Slice.Eq.{bytes_eq-Decides}
 pub use Rattle.std.specs.Fmt.{decimal}
 pub use Rattle.std.specs.Int.{byte_at}
 pub use Rattle.std.specs.List.{concat, flat_map, join_with_byte, list_all, range_with_len}
-pub use Rattle.std.specs.Prelude.{All, AllPairs, Any, Contains, Err, Ok, OnOk, Result, codes, count_by, nat_lt}
+pub use Rattle.std.specs.Prelude.{All, AllPairs, Any, Err, Ok, OnOk, Result, codes, count_by, nat_lt}
 pub use Rattle.std.specs.Prelude.{slice_get, slice_index, unwrap_or, ◌&&◌}
-pub use Rattle.std.specs.Result.{IsErrAnd}
 pub use Rattle.std.specs.Str.{bytes_eq}
 pub use borrow.Author.Count.{below_more}

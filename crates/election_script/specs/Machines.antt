@@ -1,5 +1,5 @@
 -- Machines by their names.
-use Rattle.std.specs.Prelude.{ℕ, Bool, false, not, if◌then◌else◌, List, map, slice_get}
+use Rattle.std.specs.Prelude.{ℕ, Bool, false, not, if◌then◌else◌, List, slice_get}
 use Rattle.std.specs.Prelude.{Option, Some, None, Ok, Err, ok_or}
 use Rattle.std.specs.List.{position_from}
 use Rattle.std.specs.Str.{bytes_eq}
