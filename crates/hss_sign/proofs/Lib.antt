@@ -3,3 +3,4 @@ pub mod Signed
 pub mod Keeping
 pub mod Verified
 pub mod Answered
+pub mod InTurn

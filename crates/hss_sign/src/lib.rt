@@ -7,10 +7,12 @@
 
 mod calls;
 mod derived;
+mod laws;
 mod low_tree;
 mod secret;
 mod verifying;
 
 pub use calls::hss_sign_each;
+pub use laws::numbers_rise_by_one;
 pub use secret::{HssFault, HssSecret, Memory};
 pub use verifying::hss_verify;

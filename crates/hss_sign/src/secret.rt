@@ -3,6 +3,7 @@ ghost use Rattle.std.specs.Prelude.{◌≡◌, ◌↔◌, ◌+◌, ◌/◌, ◌%
 ghost use Rattle.std.specs.Prelude.{IfOk, IsErrOf, OnErr, OnOk};
 ghost use Rattle.lms_sign.specs.Height.{IsHeight};
 ghost use Rattle.hss_sign.specs.TwoLevels.{hss_public, hss_signed, low_tree_of};
+ghost use Rattle.hss_sign.specs.Signings.{IsSigningBy};
 ghost use Rattle.hss_sign.specs.Signs.{HssSigns, leaves_in};
 ghost use Rattle.hss_sign.specs.inside.Kept.{Keeps};
 
@@ -186,6 +187,8 @@ impl HssSecret {
         ensures err { OnErr result (self.new ≡ self.old) }
         ensures spent { IsErrOf result HssFault.Spent
             ↔ (self.old.next ≡ 2 ^ (self.old.top + self.old.low)) }
+        ensures call { IsSigningBy self.old
+            (record { message = message.now; answer = result; after = self.new }) }
     {
         if self.is_spent() {
             return Err(HssFault::Spent);
@@ -219,6 +222,8 @@ impl HssSecret {
         ensures err { OnErr result (self.new ≡ self.old) }
         ensures spent { IsErrOf result HssFault.Spent
             ↔ (self.old.next ≡ 2 ^ (self.old.top + self.old.low)) }
+        ensures call { IsSigningBy self.old
+            (record { message = message.now; answer = result; after = self.new }) }
     {
         if self.is_spent() {
             return Err(HssFault::Spent);

@@ -1,8 +1,7 @@
-use Rattle.std.proofs.Common.{◌≡◌, ◌-◌, ◌∙◌, List, ℕ, IsTrue, length, take, drop, ap, rules, sym, subst}
+use Rattle.std.proofs.Common.{◌≡◌, ◌-◌, ◌∙◌, List, ℕ, IsTrue, length, take, drop, rules, sym, subst}
 use Rattle.std.proofs.lemmas.List.{take_rest}
 use Rattle.lms_ots.specs.Ots.{u32str}
 use Rattle.lms_sign.specs.Signs.{Signs}
-use Rattle.hss_sign.specs.inside.Below.{SignsBelow}
 use Rattle.hss_sign.proofs.Verified.{begun, no_key, no_such, signs_of}
 use Rattle.hss_sign.proofs.verifying.hss_verify.Goals as goal
 use Rattle.hss_sign.proofs.verifying.hss_verify.Goals.{then-not-begins_with-via-then-not-begins_with}

@@ -1,4 +1,4 @@
-use Rattle.std.proofs.Common.{◌≡◌, ◌∙◌, List, ℕ, IsTrue, take, drop, ap, arith, rules, sym, subst}
+use Rattle.std.proofs.Common.{◌≡◌, ◌∙◌, List, ℕ, take, drop, ap, arith, rules, sym, subst}
 use Rattle.lms_sign.specs.Signs.{Signs}
 use Rattle.hss_sign.proofs.Verified.{divided, low_remains, no_key, no_such}
 use Rattle.hss_sign.proofs.verifying.signs_below.Goals as goal

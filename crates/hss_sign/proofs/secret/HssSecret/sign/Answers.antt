@@ -1,7 +1,7 @@
-use Rattle.std.proofs.Common.{◌≡◌, ◌+◌, ◌/◌, ◌^◌, ◌<◌, ◌≤◌, ◌∙◌, IfSome, List, ℕ, length, ap, arith, sym, subst}
+use Rattle.std.proofs.Common.{◌≡◌, ◌+◌, ◌/◌, ◌^◌, ◌<◌, ◌≤◌, ◌∙◌, IfSome, length, ap, arith, sym, subst}
 use Rattle.lms_sign.specs.Height.{IsHeight}
-use Rattle.hss_sign.specs.Signs.{HssSigns, leaves_in}
-use Rattle.hss_sign.specs.TwoLevels.{TwoLevelSecret, hss_public, hss_signed, top_tree}
+use Rattle.hss_sign.specs.Calls.{hss_used}
+use Rattle.hss_sign.specs.TwoLevels.{TwoLevelSecret, top_tree}
 use Rattle.hss_sign.specs.declared.low_tree.LowTree.{LowTree}
 use Rattle.hss_sign.proofs.Keeping.{IsReady, advances, from_kept, from_made, ready_signs, stays, to_make}
 use Rattle.hss_sign.proofs.Numbers.{left_of}
@@ -143,3 +143,16 @@ returns-clause-leaves c =
     (leaves_named c.args.self.now c.args.message.now
     (subst (λ (v : TwoLevelSecret). IsHeight v.top) c.self.view_is c.self.invariant.0)
     (subst (λ (v : TwoLevelSecret). IsHeight v.low) c.self.view_is c.self.invariant.1) (left c))
+
+pub returns-clause-call : goal.returns-clause-call
+returns-clause-call c =
+    let below = left c in
+    record {
+      answered = record {
+        signed = returns-clause-ok c;
+        spent = (λ no. (cc), λ full. absurd (let no : ⊥ = omega (arith, below, full) in no));
+      };
+      leaves = returns-clause-leaves c;
+      used = ap (λ (s : TwoLevelSecret). hss_used s 1) (same c);
+      refused = tt;
+    }
