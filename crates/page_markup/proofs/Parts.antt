@@ -1,7 +1,8 @@
 -- What is written piece by piece is well-formed.
 use Rattle.std.proofs.Common.{◌≡◌, ℕ, Bool, true, false, List, [], ◌∷◌, ◌++◌, codes}
-use Rattle.std.proofs.Common.{refl, subst, sym, append_assoc, append-nil}
-use Rattle.std.specs.Prelude.{IsTrue, if◌then◌else◌, Result, Ok, Err, is_ok}
+use Rattle.std.proofs.Common.{ap, refl, subst, sym, append_assoc, append-nil}
+use Rattle.std.specs.Prelude.{IsTrue, if◌then◌else◌, ◌&&◌, Result, Ok, Err, OnOk, OnErr}
+use Rattle.std.specs.List.{list_all}
 use Rattle.std.proofs.Math.Logic.{∥∥₁_elim, ∥∥₁_prop, ∥∥₁_map}
 use Rattle.page_markup.specs.declared.names.Tag.{Tag}
 use Rattle.page_markup.specs.declared.names.Tag.TheVariants as tag
@@ -10,13 +11,13 @@ use Rattle.page_markup.specs.declared.names.VoidTag.TheVariants as void
 use Rattle.page_markup.specs.declared.names.AttributeName.{AttributeName}
 use Rattle.page_markup.specs.declared.names.AttributeName.TheVariants as name
 use Rattle.page_markup.specs.Names.{tag_name, void_name, attribute_name}
-use Rattle.page_markup.specs.Escaping.{escaped, escaped_byte, is_plain, reference_of}
+use Rattle.page_markup.specs.Escaping.{escaped, is_plain, reference_of}
 use Rattle.page_markup.specs.Elements.{attribute, start_tag, end_tag, element, void_element}
 use Rattle.page_markup.specs.Elements.{html_document, svg_document}
-use Rattle.page_markup.specs.WellFormed.{is_markup_name, IsReference, ampersand, less_than, greater_than}
+use Rattle.page_markup.specs.WellFormed.{is_markup_name, ampersand, less_than, greater_than}
 use Rattle.page_markup.specs.WellFormed.{double_quote, apostrophe}
 use Rattle.page_markup.specs.WellFormed.{IsCharacterData, no_characters, character, reference, AreAttributes}
-use Rattle.page_markup.specs.WellFormed.{no_attributes, one_more, IsContent, no_content, characters, one_tag, two_tags}
+use Rattle.page_markup.specs.WellFormed.{one_more, IsContent, no_content, characters, one_tag, two_tags}
 use Rattle.page_markup.specs.WellFormed.{IsDocument, a_page, a_drawing}
 
 -- what stands for a byte that isn't plain, and then character data
@@ -41,6 +42,19 @@ pub escaped_text : (text : List ℕ) → IsCharacterData (escaped text)
 unfolding escaped
 escaped_text [] = no_characters
 escaped_text (byte ∷ rest) = by_test (is_plain byte) byte (escaped rest) (λ plain. plain) (escaped_text rest)
+
+-- text without a character that has a meaning in markup, and without one that isn't printing, is
+-- written as it is
+by_plain : (test : Bool) (byte : ℕ) (rest written : List ℕ) → (test && list_all is_plain rest) ≡ true →
+    (list_all is_plain rest ≡ true → written ≡ rest) →
+    (if test then byte ∷ [] else reference_of byte) ++ written ≡ byte ∷ rest
+by_plain true byte rest written all same = ap (λ (l : List ℕ). byte ∷ l) (same all)
+by_plain false byte rest written all same = cc
+
+pub plain_text : (text : List ℕ) → list_all is_plain text ≡ true → escaped text ≡ text
+unfolding escaped
+plain_text [] all = refl
+plain_text (byte ∷ rest) all = by_plain (is_plain byte) byte rest (escaped rest) all (plain_text rest)
 
 -- the name of each element is a name
 pub tag_is_name : (t : Tag) → IsTrue (is_markup_name (tag_name t))
@@ -112,6 +126,6 @@ is_drawing attributes inner are within =
 
 -- a fact of a list that grew, or stayed as it was
 pub grown : {E : Type 0} (P : List ℕ → Type 0) (result : Result (Unit {0}) E) (old new piece : List ℕ) →
-    new ≡ (if is_ok result then old ++ piece else old) → P old → P (old ++ piece) → P new
-grown P (Ok done) old new piece is before after = subst P (sym is) after
-grown P (Err why) old new piece is before after = subst P (sym is) before
+    OnOk result (new ≡ old ++ piece) → OnErr result (new ≡ old) → P old → P (old ++ piece) → P new
+grown P (Ok done) old new piece ok err before after = subst P (sym ok) after
+grown P (Err why) old new piece ok err before after = subst P (sym err) before

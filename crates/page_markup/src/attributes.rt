@@ -1,10 +1,12 @@
 //! The attributes of an element.
-ghost use Rattle.std.specs.Prelude.{◌≡◌, ◌++◌, [], IfOk, OnOk, OnErr};
+ghost use Rattle.std.specs.Prelude.{◌≡◌, ◌++◌, [], OnOk, OnErr, codes};
 ghost use Rattle.std.specs.Fmt.{decimal};
 ghost use Rattle.page_markup.specs.Elements.{attribute};
+ghost use Rattle.page_markup.specs.Escaping.{escaped};
 
-use crate::escaping::escaped;
+use crate::escaping::add_escaped;
 use crate::names::AttributeName;
+use crate::pieces::add_three;
 use std::alloc::{AllocError, Global};
 use std::marker::Model;
 
@@ -26,19 +28,39 @@ impl Model for Attributes {
     ghost invariant = { λ attributes. ∥ AreAttributes attributes.bytes.items ∥₁ };
 }
 
-/// The text of an attribute.
-#[tactic(auto, unfolding(crate::specs::Elements::attribute))]
-fn attribute(alloc: Global, name: AttributeName, value: &[u8]) -> Result<Vec<u8>, AllocError>
-    ensures { IfOk result (λ bytes. bytes.items ≡ attribute name value.now) }
+/// Adds the value of an attribute, and the quote after it. If an allocation fails, the bytes stay
+/// as they were.
+fn add_value(alloc: Global, out: &mut Vec<u8>, value: &[u8]) -> Result<(), AllocError>
+    ensures ok { OnOk result (out.new.items ≡ out.old.items ++ escaped value.now ++ codes "\"") }
+    ensures err { OnErr result (out.new.items ≡ out.old.items) }
 {
-    let value = escaped(alloc, value)?;
-    let mut out = Vec::new(alloc);
-    out.extend_from_slice(b" ")?;
-    out.extend_from_slice(name.name())?;
-    out.extend_from_slice(b"=\"")?;
-    out.extend_from_slice(value.as_slice())?;
-    out.extend_from_slice(b"\"")?;
-    Ok(out)
+    let before = out.len();
+    add_escaped(alloc, out, value)?;
+    let added = out.extend_from_slice(b"\"");
+    if added.is_err() {
+        out.truncate(before);
+    }
+    added
+}
+
+/// Adds an attribute. If an allocation fails, the bytes stay as they were.
+#[tactic(auto, unfolding(crate::specs::Elements::attribute))]
+fn add_attribute(
+    alloc: Global,
+    out: &mut Vec<u8>,
+    name: AttributeName,
+    value: &[u8],
+) -> Result<(), AllocError>
+    ensures ok { OnOk result (out.new.items ≡ out.old.items ++ attribute name value.now) }
+    ensures err { OnErr result (out.new.items ≡ out.old.items) }
+{
+    let before = out.len();
+    add_three(out, b" ", name.name(), b"=\"")?;
+    let added = add_value(alloc, out, value);
+    if added.is_err() {
+        out.truncate(before);
+    }
+    added
 }
 
 impl Attributes {
@@ -63,8 +85,7 @@ impl Attributes {
         ensures ok { OnOk result (self.new ≡ self.old ++ attribute name value.now) }
         ensures err { OnErr result (self.new ≡ self.old) }
     {
-        let bytes = attribute(alloc, name, value)?;
-        self.bytes.extend_from_slice(bytes.as_slice())
+        add_attribute(alloc, &mut self.bytes, name, value)
     }
 
     /// Adds an attribute with a number in decimal. If an allocation fails, the attributes stay as

@@ -4,7 +4,7 @@ ghost use Rattle.page_markup.specs.Elements.{html_document, svg_document};
 ghost use Rattle.page_markup.specs.WellFormed.{IsDocument};
 
 use crate::attributes::Attributes;
-use crate::elements::element;
+use crate::elements::add_element;
 use crate::markup::Markup;
 use crate::names::Tag;
 use std::alloc::{AllocError, Global};
@@ -23,10 +23,11 @@ pub fn html_document(
     ensures value { IfOk result (λ bytes. bytes.items ≡ html_document attributes.now inner.now) }
     ensures well_formed { IfOk result (λ bytes. ∥ IsDocument bytes.items ∥₁) }
 {
-    let root = element(alloc, Tag::Html, attributes, inner)?;
-    let mut out = Vec::new(alloc);
+    let attributes = attributes.as_slice();
+    let inner = inner.as_slice();
+    let mut out = Vec::with_capacity(alloc, inner.len().saturating_add(1024))?;
     out.extend_from_slice(b"<!DOCTYPE html>\n")?;
-    out.extend_from_slice(root.as_slice())?;
+    add_element(&mut out, Tag::Html, attributes, inner)?;
     out.push(b'\n')?;
     Ok(out)
 }
@@ -45,7 +46,10 @@ pub fn svg_document(
     ensures value { IfOk result (λ bytes. bytes.items ≡ svg_document attributes.now inner.now) }
     ensures well_formed { IfOk result (λ bytes. ∥ IsDocument bytes.items ∥₁) }
 {
-    let mut out = element(alloc, Tag::Svg, attributes, inner)?;
+    let attributes = attributes.as_slice();
+    let inner = inner.as_slice();
+    let mut out = Vec::with_capacity(alloc, inner.len().saturating_add(1024))?;
+    add_element(&mut out, Tag::Svg, attributes, inner)?;
     out.push(b'\n')?;
     Ok(out)
 }

@@ -1,70 +1,64 @@
 //! The texts of elements.
-ghost use Rattle.std.specs.Prelude.{◌≡◌, ◌++◌, IfOk, OnOk};
+ghost use Rattle.std.specs.Prelude.{◌≡◌, ◌++◌, OnErr, OnOk};
 ghost use Rattle.page_markup.specs.Elements.{element, end_tag, start_tag, void_element};
-ghost use Rattle.page_markup.specs.WellFormed.{AreAttributes, IsContent};
 
-use crate::attributes::Attributes;
-use crate::markup::Markup;
 use crate::names::{Tag, VoidTag};
-use std::alloc::{AllocError, Global};
+use crate::pieces::add_four;
+use std::alloc::AllocError;
 
-/// Adds a start tag.
+/// Adds a start tag. If an allocation fails, the bytes stay as they were.
 #[tactic(auto, unfolding(crate::specs::Elements::start_tag))]
 fn add_start(out: &mut Vec<u8>, tag: Tag, attributes: &[u8]) -> Result<(), AllocError>
-    ensures { OnOk result (out.new.items ≡ out.old.items ++ start_tag tag attributes.now) }
+    ensures ok { OnOk result (out.new.items ≡ out.old.items ++ start_tag tag attributes.now) }
+    ensures err { OnErr result (out.new.items ≡ out.old.items) }
 {
-    out.extend_from_slice(b"<")?;
-    out.extend_from_slice(tag.name())?;
-    out.extend_from_slice(attributes)?;
-    out.extend_from_slice(b">")
+    add_four(out, b"<", tag.name(), attributes, b">")
 }
 
-/// Adds an end tag.
+/// Adds what is in an element, and its end tag. If an allocation fails, the bytes stay as they
+/// were.
 #[tactic(auto, unfolding(crate::specs::Elements::end_tag))]
-fn add_end(out: &mut Vec<u8>, tag: Tag) -> Result<(), AllocError>
-    ensures { OnOk result (out.new.items ≡ out.old.items ++ end_tag tag) }
+fn add_end(out: &mut Vec<u8>, inner: &[u8], tag: Tag) -> Result<(), AllocError>
+    ensures ok { OnOk result (out.new.items ≡ out.old.items ++ inner.now ++ end_tag tag) }
+    ensures err { OnErr result (out.new.items ≡ out.old.items) }
 {
-    out.extend_from_slice(b"</")?;
-    out.extend_from_slice(tag.name())?;
-    out.extend_from_slice(b">")
+    add_four(out, inner, b"</", tag.name(), b">")
 }
 
-/// An element's text.
+/// Adds an element, with room for all of it at once. If an allocation fails, the bytes stay as
+/// they were.
 #[tactic(auto, unfolding(crate::specs::Elements::element))]
-pub(crate) fn element(
-    alloc: Global,
+pub(crate) fn add_element(
+    out: &mut Vec<u8>,
     tag: Tag,
-    attributes: &Attributes,
-    inner: &Markup,
-) -> Result<Vec<u8>, AllocError>
-    ensures value { IfOk result (λ bytes. bytes.items ≡ element tag attributes.now inner.now) }
-    ensures listed { ∥ AreAttributes attributes.now ∥₁ }
-    ensures within { ∥ IsContent inner.now ∥₁ }
+    attributes: &[u8],
+    inner: &[u8],
+) -> Result<(), AllocError>
+    ensures ok { OnOk result (out.new.items
+        ≡ out.old.items ++ element tag attributes.now inner.now) }
+    ensures err { OnErr result (out.new.items ≡ out.old.items) }
 {
-    let attributes = attributes.as_slice();
-    let inner = inner.as_slice();
-    let mut out = Vec::new(alloc);
-    add_start(&mut out, tag, attributes)?;
-    out.extend_from_slice(inner)?;
-    add_end(&mut out, tag)?;
-    Ok(out)
+    let before = out.len();
+    out.reserve(
+        attributes
+            .len()
+            .saturating_add(inner.len())
+            .saturating_add(64),
+    )?;
+    add_start(out, tag, attributes)?;
+    let added = add_end(out, inner, tag);
+    if added.is_err() {
+        out.truncate(before);
+    }
+    added
 }
 
-/// The text of an element with nothing in it.
+/// Adds an element with nothing in it. If an allocation fails, the bytes stay as they were.
 #[tactic(auto, unfolding(crate::specs::Elements::void_element))]
-pub(crate) fn void_element(
-    alloc: Global,
-    tag: VoidTag,
-    attributes: &Attributes,
-) -> Result<Vec<u8>, AllocError>
-    ensures value { IfOk result (λ bytes. bytes.items ≡ void_element tag attributes.now) }
-    ensures listed { ∥ AreAttributes attributes.now ∥₁ }
+pub(crate) fn add_void(out: &mut Vec<u8>, tag: VoidTag, attributes: &[u8]) -> Result<(), AllocError>
+    ensures ok { OnOk result (out.new.items
+        ≡ out.old.items ++ void_element tag attributes.now) }
+    ensures err { OnErr result (out.new.items ≡ out.old.items) }
 {
-    let attributes = attributes.as_slice();
-    let mut out = Vec::new(alloc);
-    out.extend_from_slice(b"<")?;
-    out.extend_from_slice(tag.name())?;
-    out.extend_from_slice(attributes)?;
-    out.extend_from_slice(b"/>")?;
-    Ok(out)
+    add_four(out, b"<", tag.name(), attributes, b"/>")
 }

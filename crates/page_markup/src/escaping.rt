@@ -1,5 +1,6 @@
 //! Text in markup.
-ghost use Rattle.std.specs.Prelude.{◌≡◌, ◌++◌, IfOk, OnOk};
+ghost use Rattle.std.specs.Prelude.{◌≡◌, ◌++◌, IfOk, OnErr, OnOk};
+ghost use Rattle.std.specs.List.{list_all};
 ghost use Rattle.page_markup.specs.Escaping.{escaped, escaped_byte, is_plain, is_special};
 ghost use Rattle.page_markup.specs.Escaping.{reference_of};
 
@@ -47,7 +48,7 @@ fn add_byte(out: &mut Vec<u8>, byte: u8) -> Result<(), AllocError>
 
 /// The text, as it is written in markup.
 #[tactic(auto, unfolding(crate::specs::Escaping::escaped))]
-pub(crate) fn escaped(alloc: Global, text: &[u8]) -> Result<Vec<u8>, AllocError>
+fn escaped(alloc: Global, text: &[u8]) -> Result<Vec<u8>, AllocError>
     ensures { IfOk result (λ bytes. bytes.items ≡ escaped text.now) }
 {
     let mut out = Vec::new(alloc);
@@ -55,4 +56,24 @@ pub(crate) fn escaped(alloc: Global, text: &[u8]) -> Result<Vec<u8>, AllocError>
         add_byte(&mut out, *byte)?;
     }
     Ok(out)
+}
+
+/// Whether all of the text stands in markup as it is.
+fn is_all_plain(text: &[u8]) -> bool
+    ensures { result ≡ list_all is_plain text.now }
+{
+    text.iter().all(|byte| is_plain(*byte))
+}
+
+/// Adds the text, as it is written in markup: at once where it is written as it is. If an
+/// allocation fails, the bytes stay as they were.
+pub(crate) fn add_escaped(alloc: Global, out: &mut Vec<u8>, text: &[u8]) -> Result<(), AllocError>
+    ensures ok { OnOk result (out.new.items ≡ out.old.items ++ escaped text.now) }
+    ensures err { OnErr result (out.new.items ≡ out.old.items) }
+{
+    if is_all_plain(text) {
+        return out.extend_from_slice(text);
+    }
+    let bytes = escaped(alloc, text)?;
+    out.extend_from_slice(bytes.as_slice())
 }

@@ -10,6 +10,7 @@ mod escaping;
 mod laws;
 mod markup;
 mod names;
+mod pieces;
 
 pub use attributes::Attributes;
 pub use documents::{html_document, svg_document};

@@ -5,8 +5,8 @@ ghost use Rattle.page_markup.specs.Escaping.{escaped};
 ghost use Rattle.page_markup.specs.Elements.{element, void_element};
 
 use crate::attributes::Attributes;
-use crate::elements::{element, void_element};
-use crate::escaping::escaped;
+use crate::elements::{add_element, add_void};
+use crate::escaping::add_escaped;
 use crate::names::{Tag, VoidTag};
 use std::alloc::{AllocError, Global};
 use std::marker::Model;
@@ -45,8 +45,7 @@ impl Markup {
         ensures ok { OnOk result (self.new ≡ self.old ++ escaped text.now) }
         ensures err { OnErr result (self.new ≡ self.old) }
     {
-        let bytes = escaped(alloc, text)?;
-        self.bytes.extend_from_slice(bytes.as_slice())
+        add_escaped(alloc, &mut self.bytes, text)
     }
 
     /// Adds a number in decimal. If an allocation fails, the markup stays as it was.
@@ -70,7 +69,7 @@ impl Markup {
     /// stays as it was.
     pub fn add_element(
         &mut self,
-        alloc: Global,
+        _alloc: Global,
         tag: Tag,
         attributes: &Attributes,
         inner: &Markup,
@@ -78,23 +77,26 @@ impl Markup {
         ensures ok { OnOk result (self.new ≡ self.old ++ element tag attributes.now inner.now) }
         ensures err { OnErr result (self.new ≡ self.old) }
     {
-        let bytes = element(alloc, tag, attributes, inner)?;
-        self.bytes.extend_from_slice(bytes.as_slice())
+        add_element(
+            &mut self.bytes,
+            tag,
+            attributes.as_slice(),
+            inner.as_slice(),
+        )
     }
 
     /// Adds an element with nothing in it and no end tag. If an allocation fails, the markup stays
     /// as it was.
     pub fn add_void(
         &mut self,
-        alloc: Global,
+        _alloc: Global,
         tag: VoidTag,
         attributes: &Attributes,
     ) -> Result<(), AllocError>
         ensures ok { OnOk result (self.new ≡ self.old ++ void_element tag attributes.now) }
         ensures err { OnErr result (self.new ≡ self.old) }
     {
-        let bytes = void_element(alloc, tag, attributes)?;
-        self.bytes.extend_from_slice(bytes.as_slice())
+        add_void(&mut self.bytes, tag, attributes.as_slice())
     }
 
     /// Lends the bytes.

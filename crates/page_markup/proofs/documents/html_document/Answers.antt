@@ -1,18 +1,21 @@
 use Rattle.std.proofs.Common.{◌∙◌, ◌++◌, ◌∷◌, [], List, ℕ, codes, ap, sym, subst}
 use Rattle.page_markup.specs.declared.names.Tag.TheVariants.{Html}
 use Rattle.page_markup.specs.Elements.{element, html_document}
-use Rattle.page_markup.specs.WellFormed.{IsDocument}
+use Rattle.page_markup.specs.WellFormed.{AreAttributes, IsContent, IsDocument}
 use Rattle.page_markup.proofs.Parts.{is_page}
 use Rattle.page_markup.proofs.documents.html_document.Goals as goal
 
 pub returns-clause-well_formed : goal.returns-clause-well_formed
 unfolding html_document
 returns-clause-well_formed c =
-    let P : List ℕ → Type 0 = λ bytes. ∥ IsDocument bytes ∥₁ in
-    subst P (sym (c.in_ok-push.ensures.items ∙ ap (λ (bytes : List ℕ). bytes ++ 10 ∷ [])
-    (c.in_ok-extend_from_slice-2.ensures.items
-    ∙ ap (λ (bytes : List ℕ). bytes ++ c.as_slice.result.now) (c.in_ok-extend_from_slice.ensures.items
-    ∙ ap (λ (bytes : List ℕ). bytes ++ (codes "<!DOCTYPE html>" ++ 10 ∷ [])) c.new-out.ensures.items)
-    ∙ ap (λ (bytes : List ℕ). codes "<!DOCTYPE html>" ++ 10 ∷ [] ++ bytes) (c.as_slice.ensures.value
-    ∙ c.in_ok-root.ensures.value))))
-    (is_page c.args.attributes.now c.args.inner.now c.in_ok-root.ensures.listed c.in_ok-root.ensures.within)
+    let attributes : List ℕ = c.as_slice-attributes.result.now in
+    let inner : List ℕ = c.as_slice-inner.result.now in
+    subst (λ (bytes : List ℕ). ∥ IsDocument bytes ∥₁) (sym (c.in_ok-push.ensures.items
+    ∙ ap (λ (bytes : List ℕ). bytes ++ 10 ∷ []) (c.in_ok-add_element.ensures.ok
+    ∙ ap (λ (bytes : List ℕ). bytes ++ element Html attributes inner) (c.in_ok-extend_from_slice.ensures.items
+    ∙ ap (λ (bytes : List ℕ). bytes ++ (codes "<!DOCTYPE html>" ++ 10 ∷ [])) c.in_ok-out.ensures.items))))
+    (is_page attributes inner
+    (subst (λ (bytes : List ℕ). ∥ AreAttributes bytes ∥₁) (sym c.as_slice-attributes.ensures.value)
+    c.as_slice-attributes.ensures.well_formed)
+    (subst (λ (bytes : List ℕ). ∥ IsContent bytes ∥₁) (sym c.as_slice-inner.ensures.value)
+    c.as_slice-inner.ensures.well_formed))

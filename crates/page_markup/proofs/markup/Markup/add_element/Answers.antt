@@ -1,17 +1,17 @@
-use Rattle.std.proofs.Common.{◌≡◌, ◌∙◌, ◌++◌, List, ℕ, ap, is_ok, cond}
-use Rattle.std.specs.Prelude.{if◌then◌else◌}
+use Rattle.std.proofs.Common.{List, ℕ, sym, subst}
 use Rattle.page_markup.specs.Elements.{element}
-use Rattle.page_markup.specs.WellFormed.{IsContent}
+use Rattle.page_markup.specs.WellFormed.{AreAttributes, IsContent}
 use Rattle.page_markup.proofs.Parts.{grown, element_added}
 use Rattle.page_markup.proofs.markup.Markup.add_element.Goals as goal
 
 pub invariant_of-self : goal.invariant_of-self
 invariant_of-self c =
     let old : List ℕ = c.self.inside.bytes.items in
-    let piece : List ℕ = element c.args.tag c.args.attributes.now c.args.inner.now in
-    grown (λ (bytes : List ℕ). ∥ IsContent bytes ∥₁) c.extend_from_slice.result old
-    c.extend_from_slice.new.self.items piece
-    (c.extend_from_slice.ensures.items ∙ ap (λ (p : List ℕ). if is_ok c.extend_from_slice.result then old ++ p else old)
-    (c.as_slice.ensures.value ∙ c.in_ok-bytes.ensures.value)) c.self.invariant (element_added old c.args.tag
-    c.args.attributes.now c.args.inner.now c.self.invariant c.in_ok-bytes.ensures.listed
-    c.in_ok-bytes.ensures.within)
+    let attributes : List ℕ = c.as_slice.result.now in
+    let inner : List ℕ = c.as_slice-2.result.now in
+    grown (λ (bytes : List ℕ). ∥ IsContent bytes ∥₁) c.add_element.result old c.add_element.new.out.items
+    (element c.args.tag attributes inner) c.add_element.ensures.ok c.add_element.ensures.err c.self.invariant
+    (element_added old c.args.tag attributes inner c.self.invariant
+    (subst (λ (bytes : List ℕ). ∥ AreAttributes bytes ∥₁) (sym c.as_slice.ensures.value) c.as_slice.ensures.well_formed)
+    (subst (λ (bytes : List ℕ). ∥ IsContent bytes ∥₁) (sym c.as_slice-2.ensures.value)
+    c.as_slice-2.ensures.well_formed))

@@ -1,16 +1,15 @@
-use Rattle.std.proofs.Common.{◌≡◌, ◌∙◌, ◌++◌, List, ℕ, ap, is_ok, cond}
-use Rattle.std.specs.Prelude.{if◌then◌else◌}
+use Rattle.std.proofs.Common.{List, ℕ, sym, subst}
 use Rattle.page_markup.specs.Elements.{void_element}
-use Rattle.page_markup.specs.WellFormed.{IsContent}
+use Rattle.page_markup.specs.WellFormed.{AreAttributes, IsContent}
 use Rattle.page_markup.proofs.Parts.{grown, void_added}
 use Rattle.page_markup.proofs.markup.Markup.add_void.Goals as goal
 
 pub invariant_of-self : goal.invariant_of-self
 invariant_of-self c =
     let old : List ℕ = c.self.inside.bytes.items in
-    let piece : List ℕ = void_element c.args.tag c.args.attributes.now in
-    grown (λ (bytes : List ℕ). ∥ IsContent bytes ∥₁) c.extend_from_slice.result old
-    c.extend_from_slice.new.self.items piece
-    (c.extend_from_slice.ensures.items ∙ ap (λ (p : List ℕ). if is_ok c.extend_from_slice.result then old ++ p else old)
-    (c.as_slice.ensures.value ∙ c.in_ok-bytes.ensures.value)) c.self.invariant
-    (void_added old c.args.tag c.args.attributes.now c.self.invariant c.in_ok-bytes.ensures.listed)
+    let attributes : List ℕ = c.as_slice.result.now in
+    grown (λ (bytes : List ℕ). ∥ IsContent bytes ∥₁) c.add_void.result old c.add_void.new.out.items
+    (void_element c.args.tag attributes) c.add_void.ensures.ok c.add_void.ensures.err c.self.invariant
+    (void_added old c.args.tag attributes c.self.invariant
+    (subst (λ (bytes : List ℕ). ∥ AreAttributes bytes ∥₁) (sym c.as_slice.ensures.value)
+    c.as_slice.ensures.well_formed))
