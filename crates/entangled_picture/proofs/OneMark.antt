@@ -15,7 +15,8 @@ use Rattle.rule_engine.specs.declared.verdict.Verdict.{Verdict}
 use Rattle.auditor.specs.Report.{AuditReport}
 use Rattle.log_files.specs.declared.plain_log.End.TheVariants.{Clean, Torn, Malformed}
 use Rattle.entangled_picture.specs.declared.shape.Shape.TheVariants as shape
-use Rattle.entangled_picture.specs.Places.{places_in, placed_of, matters_at, most_drawn}
+use Rattle.entangled_picture.specs.Places.{places_in, placed_of, matters_at, most_drawn, most_arrows}
+use Rattle.entangled_picture.specs.Places.{most_losses}
 use Rattle.entangled_picture.specs.Marks.{light_in, lights_by, lights_of, arrow_between, arrow_at, arrows_from}
 use Rattle.entangled_picture.specs.Marks.{arrows_of, spot_at, spot_in, number_at, bar_of, run_before, bars_of}
 use Rattle.entangled_picture.specs.Marks.{fork_between, forks_of, is_of_fork, last_of_fork, loss_in, loss_at}
@@ -52,6 +53,18 @@ nothing g none [] = refl
 nothing g none (x ∷ xs) =
     flat_map-append stands_for (g x) (flat_map g xs) ∙ ap (λ (l : List Finding). l ++ all (flat_map g xs)) (none x)
     ∙ nothing g none xs
+
+-- the first ones of shapes that stand for nothing
+both_none : (a b : List Finding) → a ++ b ≡ [] → (a ≡ []) × (b ≡ [])
+both_none [] b e = (refl, e)
+both_none (x ∷ a) b e = cc
+
+first_none : (most : ℕ) (shapes : List Shape) → all shapes ≡ [] → all (take most shapes) ≡ []
+first_none zero shapes none = refl
+first_none (suc most) [] none = refl
+first_none (suc most) (shape ∷ shapes) none =
+    let both = both_none (stands_for shape) (all shapes) none in
+    ap (λ (l : List Finding). l ++ all (take most shapes)) both.0 ∙ first_none most shapes both.1
 
 -- what is found at the places of a list is found at its items
 shifted : {B : Type 0} (f : ℕ → List B) (a n : ℕ) →
@@ -144,8 +157,10 @@ gap_one : (graph : EntryGraph SealedEntry) (placed : List Placed) (lane level : 
     all (gap_of graph placed lane level digest) ≡ gap digest ∷ []
 gap_one graph placed lane level digest =
     let to = gap_spot graph placed lane level digest in
-    flat_map-append stands_for (losses_of graph placed digest to) (shape.Gap to digest ∷ [])
-    ∙ ap (λ (l : List Finding). l ++ gap digest ∷ []) (losses_none graph placed digest to)
+    let losses = losses_of graph placed digest to in
+    flat_map-append stands_for (take most_losses losses) (shape.Gap to digest ∷ [])
+    ∙ ap (λ (l : List Finding). l ++ gap digest ∷ [])
+    (first_none most_losses losses (losses_none graph placed digest to))
 
 gaps_all : (graph : EntryGraph SealedEntry) (gaps : List (List ℕ)) (placed : List Placed) (lane : ℕ) →
     all (gaps_of graph gaps placed lane) ≡ map gap gaps
@@ -325,11 +340,12 @@ forks_none placed forks =
 below_none : (report : AuditReport) (placed : List Placed) → all (shapes_below report placed) ≡ []
 below_none report placed =
     let lights = lights_of placed report.verdicts in
-    let arrows = arrows_of report.graph placed in
+    let arrows = take most_arrows (arrows_of report.graph placed) in
     let bars = bars_of placed in
     flat_map-append stands_for (lights ++ arrows) bars
     ∙ ap (λ (l : List Finding). l ++ all bars) (flat_map-append stands_for lights arrows
-    ∙ ap (λ (l : List Finding). l ++ all arrows) (lights_none placed report.verdicts) ∙ arrows_none report.graph placed)
+    ∙ ap (λ (l : List Finding). l ++ all arrows) (lights_none placed report.verdicts)
+    ∙ first_none most_arrows (arrows_of report.graph placed) (arrows_none report.graph placed))
     ∙ bars_none placed
 
 beside_all : (report : AuditReport) (placed : List Placed) (machines : ℕ) →

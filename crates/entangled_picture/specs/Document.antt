@@ -22,7 +22,7 @@ use Rattle.entangled_picture.specs.Names.{rule_name, two_words}
 use Rattle.entangled_picture.specs.Drawing.{words_at}
 use Rattle.entangled_picture.specs.Legend.{arrow_heads, legend}
 use Rattle.entangled_picture.specs.ShapeMarks.{shape_line}
-use Rattle.entangled_picture.specs.Shapes.{shapes_of}
+use Rattle.entangled_picture.specs.Shapes.{arrow_count, shapes_of}
 
 -- the verdict is there and passes the test
 abbrev pub is_said : (Verdict → Bool) → Option Verdict → Bool
@@ -126,21 +126,31 @@ unsettled_words report = words_at (codes "rules") (codes "translate(8 64)") (uns
 unfoldable pub count_words : EntryGraph SealedEntry → ℕ → List ℕ
 count_words graph drawn = words_at (codes "rules") (codes "translate(8 82)") (graph_words graph drawn)
 
--- what the report comes to, the rules that aren't kept, and how many entries are drawn
-unfoldable pub picture_words : AuditReport → List ℕ → ℕ → List ℕ
-picture_words report verdict drawn =
+-- how many arrows between entries there are
+abbrev pub arrows_line : ℕ → List ℕ
+arrows_line arrows =
+    concat (codes "arrows between entries " ∷ decimal arrows
+    ∷ codes ", of which the first 5000 are drawn; to each gap the first 16" ∷ [])
+
+-- how many of the arrows are drawn
+unfoldable pub arrows_words : ℕ → List ℕ
+arrows_words arrows = words_at (codes "rules") (codes "translate(8 98)") (arrows_line arrows)
+
+-- what the report comes to, the rules that aren't kept, and how many entries and arrows are drawn
+unfoldable pub picture_words : AuditReport → List ℕ → ℕ → ℕ → List ℕ
+picture_words report verdict drawn arrows =
     verdict_words verdict ++ broken_words report ++ unsettled_words report
-    ++ count_words report.graph drawn
+    ++ count_words report.graph drawn ++ arrows_words arrows
 
 -- the title, the description, the style, the heads of arrows, and the paper
 unfoldable pub picture_base : List ℕ → List ℕ
 picture_base verdict = picture_titles verdict ++ arrow_heads ++ picture_paper
 
--- what stands before the shapes
-unfoldable pub picture_head : AuditReport → List Shape → List ℕ
-picture_head report shapes =
+-- what stands before the shapes, with the number of all arrows
+unfoldable pub picture_head : AuditReport → List Shape → ℕ → List ℕ
+picture_head report shapes arrows =
     picture_base (outcome_word (outcome_of report))
-    ++ picture_words report (outcome_word (outcome_of report)) (count_by is_entry shapes)
+    ++ picture_words report (outcome_word (outcome_of report)) (count_by is_entry shapes) arrows
     ++ legend ++ escaped (10 ∷ [])
 
 -- how many lanes there are: those of the machines, one for the logs of none, one for the strays, and
@@ -153,13 +163,14 @@ unfoldable pub attributes_of : AuditReport → List ℕ
 attributes_of report =
     picture_attributes (width_of (shapes_of report)) (height_of (shapes_of report) (lanes_in report))
 
--- what is in a picture with these shapes and lanes
-abbrev pub inner_of : AuditReport → List Shape → List ℕ → List ℕ
-inner_of report shapes tops = picture_head report shapes ++ flat_map (shape_line report tops) shapes
+-- what is in a picture with these shapes and lanes, and the number of all arrows
+abbrev pub inner_of : AuditReport → List Shape → ℕ → List ℕ → List ℕ
+inner_of report shapes arrows tops =
+    picture_head report shapes arrows ++ flat_map (shape_line report tops) shapes
 
 -- what is in a report's picture
 unfoldable pub all_of : AuditReport → List ℕ
-all_of report = inner_of report (shapes_of report) (tops_of (shapes_of report) (lanes_in report))
+all_of report = inner_of report (shapes_of report) (arrow_count report) (tops_of (shapes_of report) (lanes_in report))
 
 -- the picture of a report: one element
 unfoldable pub picture_of : AuditReport → List ℕ

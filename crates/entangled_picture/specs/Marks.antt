@@ -1,6 +1,6 @@
 -- The shapes of a graph.
 use Rattle.std.specs.Prelude.{ℕ, zero, suc, ◌+◌, ◌==◌, Bool, false, not, ◌&&◌, if◌then◌else◌, List, [], ◌∷◌, ◌++◌}
-use Rattle.std.specs.Prelude.{length, map, find, Option, Some, None, option_to_list, is_some, slice_get}
+use Rattle.std.specs.Prelude.{length, map, take, find, Option, Some, None, option_to_list, is_some, slice_get}
 use Rattle.std.specs.Prelude.{slice_index_or}
 use Rattle.std.specs.List.{flat_map, fold, range_with_len}
 use Rattle.entry_order.specs.Naming.{names_digest}
@@ -13,7 +13,7 @@ use Rattle.entangled_picture.specs.declared.shape.Shape.{Shape}
 use Rattle.entangled_picture.specs.declared.shape.Shape.TheVariants as shape
 use Rattle.entangled_picture.specs.declared.seen.Seen.{Seen}
 use Rattle.entangled_picture.specs.declared.placed.Placed.{Placed}
-use Rattle.entangled_picture.specs.Places.{places_in}
+use Rattle.entangled_picture.specs.Places.{most_losses, places_in}
 
 -- the spot of a survivor that is drawn
 abbrev pub spot_in : Option Placed → Option Spot
@@ -171,13 +171,13 @@ gap_spot graph placed lane level digest = record {
   level = level;
 }
 
--- the arrows to a gap, and its mark
+-- the first arrows to a gap, and its mark
 abbrev pub gap_of : EntryGraph SealedEntry → List Placed → ℕ → ℕ → List ℕ → List Shape
 gap_of graph placed lane level digest =
-    losses_of graph placed digest (gap_spot graph placed lane level digest)
+    take most_losses (losses_of graph placed digest (gap_spot graph placed lane level digest))
     ++ shape.Gap (gap_spot graph placed lane level digest) digest ∷ []
 
--- the arrows to each of these gaps, and its mark
+-- the first arrows to each of these gaps, and its mark
 abbrev pub gaps_of : EntryGraph SealedEntry → List (List ℕ) → List Placed → ℕ → List Shape
 gaps_of graph gaps placed lane =
     flat_map (λ level. gap_of graph placed lane level (slice_index_or gaps level []))

@@ -14,6 +14,14 @@ use Rattle.entangled_picture.specs.declared.placed.Placed.{Placed}
 abbrev pub most_drawn : ℕ
 most_drawn = 300
 
+-- of the arrows between survivors the first ones up to this number are drawn
+abbrev pub most_arrows : ℕ
+most_arrows = 5000
+
+-- of the arrows to a gap the first ones up to this number are drawn
+abbrev pub most_losses : ℕ
+most_losses = 16
+
 -- what a picture shows of a survivor
 abbrev pub seen_of : SealedEntry → Seen
 seen_of sealed = record {

@@ -189,6 +189,14 @@ break_shape report tops at order log record_at =
     mark (codes "break") (behind_text tops at order) (break_words (file_name report log) record_at)
     (codes "M-4 -10V10M4 -10V10") below (codes "break")
 
+-- a mark at the end of a log; other shapes are none
+abbrev pub drawn_log_mark : AuditReport → List ℕ → Shape → List ℕ
+drawn_log_mark report tops (Refused at order log place fault) =
+    refused_shape report tops at order log place (fault_word fault)
+drawn_log_mark report tops (Ending at order log end) = ending_shape report tops at order log end
+drawn_log_mark report tops (Break at order log place) = break_shape report tops at order log place
+drawn_log_mark report tops other = []
+
 -- a shape
 abbrev pub drawn_shape : AuditReport → List ℕ → Shape → List ℕ
 drawn_shape report tops (Lane end logs) = lane_shape report tops end logs
@@ -202,10 +210,7 @@ drawn_shape report tops (Gap at digest) = gap_shape tops at digest
 drawn_shape report tops (Loss from number to) = loss_shape report tops from number to
 drawn_shape report tops (Fork from to number) = fork_shape report tops from to number
 drawn_shape report tops (Stray at order digest) = stray_shape tops at order digest
-drawn_shape report tops (Refused at order log place fault) =
-    refused_shape report tops at order log place (fault_word fault)
-drawn_shape report tops (Ending at order log end) = ending_shape report tops at order log end
-drawn_shape report tops (Break at order log place) = break_shape report tops at order log place
+drawn_shape report tops other = drawn_log_mark report tops other
 
 -- a shape, and a new line after it
 abbrev pub shape_line : AuditReport → List ℕ → Shape → List ℕ

@@ -3,7 +3,7 @@ use Rattle.std.specs.Prelude.{ℕ, ◌+◌, ◌-◌, List, ◌++◌, length, tak
 use Rattle.auditor.specs.Report.{AuditReport}
 use Rattle.entangled_picture.specs.declared.shape.Shape.{Shape}
 use Rattle.entangled_picture.specs.declared.placed.Placed.{Placed}
-use Rattle.entangled_picture.specs.Places.{most_drawn, placed_of}
+use Rattle.entangled_picture.specs.Places.{most_arrows, most_drawn, placed_of}
 use Rattle.entangled_picture.specs.Marks.{column_in, spot_at, lights_of, arrows_of, bars_of, gaps_of, entry_marks}
 use Rattle.entangled_picture.specs.Marks.{forks_of, strays_of}
 use Rattle.entangled_picture.specs.LogMarks.{lanes_of, logs_of}
@@ -12,9 +12,10 @@ use Rattle.entangled_picture.specs.LogMarks.{lanes_of, logs_of}
 abbrev pub last_column : List Placed → ℕ
 last_column placed = column_in (spot_at placed (length placed - 1))
 
--- what is drawn below the entries: the lights of broken rules, the arrows, and the bars
+-- what is drawn below the entries: the lights of broken rules, the first arrows, and the bars
 abbrev pub shapes_below : AuditReport → List Placed → List Shape
-shapes_below report placed = lights_of placed report.verdicts ++ arrows_of report.graph placed ++ bars_of placed
+shapes_below report placed =
+    lights_of placed report.verdicts ++ take most_arrows (arrows_of report.graph placed) ++ bars_of placed
 
 -- what is found beside the entries: the first forks; the first gaps, in the last of three lanes
 -- below the machines'; and the first strays, in the one above it
@@ -38,3 +39,7 @@ shapes_with report placed machines =
 -- all shapes
 abbrev pub shapes_of : AuditReport → List Shape
 shapes_of report = shapes_with report (placed_of report.graph report.verdicts) (length report.machines)
+
+-- how many arrows there are between the survivors that are drawn, with those that are left out
+abbrev pub arrow_count : AuditReport → ℕ
+arrow_count report = length (arrows_of report.graph (placed_of report.graph report.verdicts))

@@ -8,7 +8,6 @@ ghost use Rattle.entangled_picture.specs.Places.{
   is_forked,
   is_lit,
   matters_at,
-  most_drawn,
   places_in,
 };
 
@@ -20,16 +19,16 @@ use std::alloc::{AllocError, Global};
 
 /// Up to this many survivors each is drawn, and of gaps, forks and strays the first ones up to this
 /// number.
-const MOST_DRAWN: usize = 300;
+pub(crate) const MOST_DRAWN: usize = 300;
 
-/// The first ones, up to the number that is drawn.
-pub(crate) fn first_ones<T>(items: &[T]) -> &[T]
-    ensures { result.now ≡ take most_drawn items.now }
+/// The first ones, up to this number.
+pub(crate) fn first_ones<T>(items: &[T], most: usize) -> &[T]
+    ensures { result.now ≡ take most items.now }
 {
-    if items.len() <= MOST_DRAWN {
+    if items.len() <= most {
         items
     } else {
-        &items[..MOST_DRAWN]
+        &items[..most]
     }
 }
 
@@ -84,7 +83,11 @@ fn matters(graph: &Graph, verdicts: &[Verdict], seen: &[Seen], place: usize) -> 
     !has_maker(&seen[..place], entry.maker)
         || !has_maker(&seen[place + 1..], entry.maker)
         || graph.ragged(place)
-        || is_forked(first_ones(graph.forks()), entry.maker, entry.number)
+        || is_forked(
+            first_ones(graph.forks(), MOST_DRAWN),
+            entry.maker,
+            entry.number,
+        )
         || is_lit(verdicts, place)
 }
 

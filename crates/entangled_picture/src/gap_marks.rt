@@ -1,5 +1,5 @@
 //! The marks of gaps, and the arrows to them.
-ghost use Rattle.std.specs.Prelude.{◌≡◌, ◌++◌, ◌<◌, OnOk, Some, length};
+ghost use Rattle.std.specs.Prelude.{◌≡◌, ◌++◌, ◌<◌, IfOk, OnOk, Some, length};
 ghost use Rattle.entangled_picture.specs.Marks.{
   first_namer,
   gap_column,
@@ -11,6 +11,7 @@ ghost use Rattle.entangled_picture.specs.Marks.{
   losses_of,
 };
 
+use crate::drawn::first_ones;
 use crate::marks::{number_at, spot_at};
 use crate::placed::Placed;
 use crate::shape::{Shape, Spot};
@@ -18,7 +19,11 @@ use crate::shape_list::push_some;
 use entry_graph::Graph;
 use entry_order::names_digest;
 use precedence::Arrows;
-use std::alloc::AllocError;
+use std::alloc::{AllocError, Global};
+
+/// Of the arrows to a gap the first ones up to this number are drawn. An honest entry is named by
+/// at most one other of each machine, until all have it.
+const MOST_LOSSES: usize = 16;
 
 /// The place of the first survivor that names the digest.
 fn first_namer(graph: &Graph, digest: &[u8; 32]) -> Option<usize>
@@ -73,21 +78,22 @@ fn loss_at(
     }
 }
 
-/// Adds an arrow to the gap from each survivor that names it.
-fn add_losses(
-    shapes: &mut Vec<Shape>,
+/// An arrow to the gap from each survivor that names it.
+fn losses_of(
+    alloc: Global,
     graph: &Graph,
     placed: &[Placed],
     digest: &[u8; 32],
     to: Spot,
-) -> Result<(), AllocError>
-    ensures { OnOk result (shapes.new.items
-        ≡ shapes.old.items ++ losses_of graph.now placed.now digest.now to) }
+) -> Result<Vec<Shape>, AllocError>
+    ensures { IfOk result (λ losses.
+        losses.items ≡ losses_of graph.now placed.now digest.now to) }
 {
+    let mut losses = Vec::new(alloc);
     for i in 0..graph.count() {
-        push_some(shapes, loss_at(graph, placed, digest, to, i))?;
+        push_some(&mut losses, loss_at(graph, placed, digest, to, i))?;
     }
-    Ok(())
+    Ok(losses)
 }
 
 /// The spot of a gap.
@@ -101,8 +107,9 @@ fn gap_spot(graph: &Graph, placed: &[Placed], lane: usize, level: usize, digest:
     }
 }
 
-/// Adds the arrows to a gap, and its mark.
+/// Adds the first arrows to a gap, and its mark.
 fn add_gap(
+    alloc: Global,
     shapes: &mut Vec<Shape>,
     graph: &Graph,
     placed: &[Placed],
@@ -114,7 +121,8 @@ fn add_gap(
         ≡ shapes.old.items ++ gap_of graph.now placed.now lane level digest.now) }
 {
     let at = gap_spot(graph, placed, lane, level, digest);
-    add_losses(shapes, graph, placed, digest, at)?;
+    let losses = losses_of(alloc, graph, placed, digest, at)?;
+    shapes.extend_from_slice(first_ones(losses.as_slice(), MOST_LOSSES))?;
     shapes.push(Shape::Gap {
         at,
         digest: *digest,
@@ -124,6 +132,7 @@ fn add_gap(
 
 /// Adds these gaps, in a lane of their own, one below another.
 pub(crate) fn add_gaps(
+    alloc: Global,
     shapes: &mut Vec<Shape>,
     graph: &Graph,
     gaps: &[[u8; 32]],
@@ -134,7 +143,7 @@ pub(crate) fn add_gaps(
         (shapes.new.items ≡ shapes.old.items ++ gaps_of graph.now gaps.now placed.now lane) }
 {
     for level in 0..gaps.len() {
-        add_gap(shapes, graph, placed, lane, level, &gaps[level])?;
+        add_gap(alloc, shapes, graph, placed, lane, level, &gaps[level])?;
     }
     Ok(())
 }

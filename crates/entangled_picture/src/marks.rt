@@ -1,5 +1,5 @@
 //! The marks of a graph: entries, arrows, forks, strays, and the lights of broken rules.
-ghost use Rattle.std.specs.Prelude.{◌≡◌, ◌++◌, ◌<◌, OnOk, find, length, slice_get};
+ghost use Rattle.std.specs.Prelude.{◌≡◌, ◌++◌, ◌<◌, IfOk, OnOk, find, length, slice_get};
 ghost use Rattle.entangled_picture.specs.Marks.{
   arrow_at,
   arrow_between,
@@ -30,7 +30,7 @@ use crate::shape_list::push_some;
 use entry_graph::Graph;
 use precedence::Arrows;
 use rule_engine::Verdict;
-use std::alloc::AllocError;
+use std::alloc::{AllocError, Global};
 
 /// The spot of the survivor at this place, if it is drawn.
 pub(crate) fn spot_at(placed: &[Placed], place: usize) -> Option<Spot>
@@ -133,18 +133,19 @@ fn add_arrows_from(
     Ok(())
 }
 
-/// Adds an arrow for each pair of a survivor and another one that it names.
-pub(crate) fn add_arrows(
-    shapes: &mut Vec<Shape>,
+/// An arrow for each pair of a survivor and another one that it names.
+pub(crate) fn arrows_of(
+    alloc: Global,
     graph: &Graph,
     placed: &[Placed],
-) -> Result<(), AllocError>
-    ensures { OnOk result (shapes.new.items ≡ shapes.old.items ++ arrows_of graph.now placed.now) }
+) -> Result<Vec<Shape>, AllocError>
+    ensures { IfOk result (λ arrows. arrows.items ≡ arrows_of graph.now placed.now) }
 {
+    let mut arrows = Vec::new(alloc);
     for i in 0..graph.count() {
-        add_arrows_from(shapes, graph, placed, i)?;
+        add_arrows_from(&mut arrows, graph, placed, i)?;
     }
-    Ok(())
+    Ok(arrows)
 }
 
 /// The light of a rule at a spot.

@@ -7,6 +7,8 @@ ghost use Rattle.auditor.specs.Outcomes.{is_broken, is_unsettled};
 ghost use Rattle.page_markup.specs.WellFormed.{IsDocument};
 ghost use Rattle.entangled_picture.specs.Document.{
   all_of,
+  arrows_line,
+  arrows_words,
   attributes_of,
   broken_line,
   broken_words,
@@ -43,7 +45,7 @@ use crate::legend::{STYLE, add_arrow_heads, add_legend};
 use crate::names::{rule_name, two_words};
 use crate::shape::Shape;
 use crate::shape_marks::add_shape_line;
-use crate::shapes::shapes_of;
+use crate::shapes::drawing_of;
 use auditor::Report;
 use entry_graph::Graph;
 use page_markup::{AttributeName, Attributes, Markup, Tag, svg_document};
@@ -314,22 +316,43 @@ fn add_count_words(
     add_words(alloc, out, b"rules", b"translate(8 82)", line.as_bytes())
 }
 
-/// What the report comes to, the rules that aren't kept, and how many entries are drawn.
+/// How many arrows between entries there are.
+fn arrows_line(alloc: Global, arrows: usize) -> Result<String, AllocError>
+    ensures { IfOk result (λ text. string_bytes text ≡ arrows_line arrows) }
+{
+    format!(in alloc;
+        "arrows between entries {arrows}, of which the first 5000 are drawn; \
+to each gap the first 16"
+    )
+}
+
+/// Adds how many of the arrows are drawn.
+#[tactic(auto, unfolding(crate::specs::Document::arrows_words))]
+fn add_arrows_words(alloc: Global, out: &mut Markup, arrows: usize) -> Result<(), AllocError>
+    ensures { OnOk result (out.new ≡ out.old ++ arrows_words arrows) }
+{
+    let line = arrows_line(alloc, arrows)?;
+    add_words(alloc, out, b"rules", b"translate(8 98)", line.as_bytes())
+}
+
+/// What the report comes to, the rules that aren't kept, and how many entries and arrows are drawn.
 #[tactic(auto, unfolding(crate::specs::Document::picture_words))]
 fn picture_words(
     alloc: Global,
     report: &Report,
     verdict: &str,
     drawn: usize,
+    arrows: usize,
 ) -> Result<Markup, AllocError>
     ensures { IfOk result (λ lines.
-        lines ≡ picture_words (report_of report.now) verdict.now drawn) }
+        lines ≡ picture_words (report_of report.now) verdict.now drawn arrows) }
 {
     let mut lines = Markup::new(alloc);
     add_verdict(alloc, &mut lines, verdict)?;
     add_broken_words(alloc, &mut lines, report)?;
     add_unsettled_words(alloc, &mut lines, report)?;
     add_count_words(alloc, &mut lines, report.graph(), drawn)?;
+    add_arrows_words(alloc, &mut lines, arrows)?;
     Ok(lines)
 }
 
@@ -344,13 +367,18 @@ fn picture_base(alloc: Global, verdict: &str) -> Result<Markup, AllocError>
     Ok(base)
 }
 
-/// What stands before the shapes.
+/// What stands before the shapes, with the number of all arrows.
 #[tactic(auto, unfolding(crate::specs::Document::picture_head))]
-fn picture_head(alloc: Global, report: &Report, shapes: &[Shape]) -> Result<Markup, AllocError>
-    ensures { IfOk result (λ head. head ≡ picture_head (report_of report.now) shapes.now) }
+fn picture_head(
+    alloc: Global,
+    report: &Report,
+    shapes: &[Shape],
+    arrows: usize,
+) -> Result<Markup, AllocError>
+    ensures { IfOk result (λ head. head ≡ picture_head (report_of report.now) shapes.now arrows) }
 {
     let verdict = report.outcome().word();
-    let lines = picture_words(alloc, report, verdict, count_entries(shapes))?;
+    let lines = picture_words(alloc, report, verdict, count_entries(shapes), arrows)?;
     let mut head = picture_base(alloc, verdict)?;
     head.add(&lines)?;
     add_legend(alloc, &mut head)?;
@@ -387,11 +415,11 @@ fn parts_of(alloc: Global, report: &Report) -> Result<(Attributes, Markup), Allo
     ensures attributes { IfOk result (λ parts. parts.0 ≡ attributes_of (report_of report.now)) }
     ensures inner { IfOk result (λ parts. parts.1 ≡ all_of (report_of report.now)) }
 {
-    let shapes = shapes_of(alloc, report)?;
+    let (shapes, arrows) = drawing_of(alloc, report)?;
     let lanes = lanes_in(report);
     let (tops, height) = tops_of(alloc, shapes.as_slice(), lanes)?;
     let attributes = picture_attributes(alloc, width_of(shapes.as_slice()), height)?;
-    let mut inner = picture_head(alloc, report, shapes.as_slice())?;
+    let mut inner = picture_head(alloc, report, shapes.as_slice(), arrows)?;
     add_shapes(
         alloc,
         &mut inner,

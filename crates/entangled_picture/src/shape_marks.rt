@@ -7,6 +7,7 @@ ghost use Rattle.entangled_picture.specs.ShapeMarks.{
   behind_text,
   break_shape,
   count_text,
+  drawn_log_mark,
   drawn_shape,
   end_mark,
   ending_shape,
@@ -608,6 +609,44 @@ fn add_break(
     )
 }
 
+/// Adds a mark at the end of a log; other shapes are none.
+fn add_log_mark(
+    alloc: Global,
+    out: &mut Markup,
+    report: &Report,
+    tops: &[u64],
+    shape: &Shape,
+) -> Result<(), AllocError>
+    ensures { OnOk result (out.new ≡ out.old
+        ++ drawn_log_mark (report_of report.now) tops.now shape.now) }
+{
+    match *shape {
+        Shape::Refused {
+            at,
+            order,
+            log,
+            place,
+            fault,
+        } => {
+            let cause = fault.word();
+            add_refused(alloc, out, report, tops, at, order, log, place, cause)
+        }
+        Shape::Ending {
+            at,
+            order,
+            log,
+            end,
+        } => add_ending(alloc, out, report, tops, at, order, log, end),
+        Shape::Break {
+            at,
+            order,
+            log,
+            place,
+        } => add_break(alloc, out, report, tops, at, order, log, place),
+        _ => Ok(()),
+    }
+}
+
 /// Adds a shape.
 fn add_shape(
     alloc: Global,
@@ -644,28 +683,7 @@ fn add_shape(
         Shape::Loss { from, number, to } => add_loss(alloc, out, report, tops, from, number, to),
         Shape::Fork { from, to, number } => add_fork(alloc, out, report, tops, from, to, number),
         Shape::Stray { at, order, digest } => add_stray(alloc, out, tops, at, order, &digest),
-        Shape::Refused {
-            at,
-            order,
-            log,
-            place,
-            fault,
-        } => {
-            let cause = fault.word();
-            add_refused(alloc, out, report, tops, at, order, log, place, cause)
-        }
-        Shape::Ending {
-            at,
-            order,
-            log,
-            end,
-        } => add_ending(alloc, out, report, tops, at, order, log, end),
-        Shape::Break {
-            at,
-            order,
-            log,
-            place,
-        } => add_break(alloc, out, report, tops, at, order, log, place),
+        _ => add_log_mark(alloc, out, report, tops, shape),
     }
 }
 
