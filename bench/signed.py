@@ -7,8 +7,12 @@ import sys
 
 sys.path.insert(0, str(pathlib.Path(__file__).resolve().parent.parent / "second"))
 
-from entries import Machine, Roster, entry_of, write_body, write_entry, write_log  # noqa: E402
-from signatures import HEIGHT_WORDS, SET_WORDS, SigningKey  # noqa: E402
+from entries import Machine, Roster, read_entry, write_body, write_entry  # noqa: E402
+from signatures import SigningKey  # noqa: E402
+from texts import read_text, write_text  # noqa: E402
+
+HEIGHTS = {"h5": 5, "h10": 6}
+KINDS = {"w4": 3, "w8": 4}
 
 
 class Place:
@@ -16,7 +20,7 @@ class Place:
 
     def __init__(self, folder, makers=1, kind="w4", height="h10"):
         self.folder = pathlib.Path(folder)
-        self.keys = [SigningKey(HEIGHT_WORDS[height], SET_WORDS[kind], bytes([m] * 16), bytes([m + 1] * 32))
+        self.keys = [SigningKey((HEIGHTS[height], KINDS[kind]), bytes([m] * 16), bytes([m + 1] * 32))
                      for m in range(makers)]
         names = ["sv", *(f"b{m}" for m in range(1, makers))]
         roles = ["supervisor"] + ["booth"] * (makers - 1)
@@ -30,12 +34,13 @@ class Place:
 
     def entry(self, maker, number, stamp, names=(), deed=("opened",)):
         """An entry with its signature. The names are digests."""
-        body = write_body(1, self.roster.election, maker, number, stamp, sorted(set(names)), deed)
-        return entry_of(write_entry(body, self.keys[maker].sign(number, body)))
+        body = write_body(1, self.roster.election, maker, number, stamp, sorted(set(names)), list(deed))
+        return read_entry(read_text(write_entry(body, self.keys[maker].sign(number, body)))[0])
 
     def log(self, name, entries, owner=0):
         """A log in which each entry is one that was sent."""
-        return self.write(name, write_log(owner, [("sent", entry) for entry in entries]))
+        sent = [b"(4:sent" + entry.text + b")" for entry in entries]
+        return self.write(name, write_text(["log", 1, owner]) + b"".join(sent))
 
 
 def seconds(program, folder, *words):
