@@ -40,7 +40,7 @@ TABLE = "command_parts"
 LAW = ("OrderIsReceiptIn", "Distinct", "OrderIsReceiptInOrderlyWorlds", "OrderIsReceipt")
 # What is said of answers, beside what they are. Only `run` has several right answers, so all of it is read.
 MEANING = ("IsSound", "IsSettled", "IsExact", "IsOrderOfPlaces", "IsAuditOfPlaces", "KeepOrder", "LeaveHonestFiles",
-           "HoldsAmong", "MayBeAll", "TellsNoneBroken")
+           "HoldsOf", "Completes", "TellsNoneBroken")
 MANY_ANSWERS = "run"
 # What the laws of the top crate say of answers.
 LAWS = ("IsComplete", "NumbersRise", "WatchesAgreeWithAudits", "HonestWatchesBreakNoRule", "ChecksAgreeWithAudits",
@@ -151,8 +151,11 @@ def meant(known, text, imported, aliases, here=None):
             found = target(known, *aliases[first], second)
             if found:
                 yield found
-        elif here and first in here.owners and (first in given or first not in here.fields):
-            yield here.crate, here.name, here.owners[first]
+        elif here and first in here.owners:
+            owner = here.owners[first]
+            # A record is written with all of its fields.
+            if first not in here.fields or here.parts[owner] <= given:
+                yield here.crate, here.name, owner
 
 
 def named_by(known, key):

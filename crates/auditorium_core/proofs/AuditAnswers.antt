@@ -64,7 +64,8 @@ module _ (machines : List Post) (graph : EntryGraph SealedEntry) (is : IsEntryGr
   each P one (r ∷ rules) (v ∷ vs) judged = (one r v judged.0, each P one rules vs judged.1)
 
 -- there are entries that complete the survivors of a report
-some_completion : (report : AuditReport) → IsReport report → (G : List Plain) × Completes report G
+some_completion : (report : AuditReport) → IsReport report → (G : List Plain) ×
+    Completes report.machines report.graph.survivors G
 some_completion report is =
     some_here report.machines (entries_of report.logs) report.graph is.makers is.graphed
 
@@ -76,10 +77,12 @@ report_is_sound report settled unknown unique exact is =
     let kept = is.graphed.2.kept in
     record {
       kept = each report.machines report.graph kept settled unknown
-          (λ rule v. v ≡ verdict.Kept → (G : List Plain) → Completes report G → HoldsOf report G rule)
+          (λ rule v. v ≡ verdict.Kept → (G : List Plain) → Completes report.machines report.graph.survivors G →
+          HoldsOf report.machines report.graph.survivors G rule)
           (kept_here report.machines report.graph kept settled unknown) report.rules report.verdicts is.judged;
       broken = each report.machines report.graph kept settled unknown
-          (λ rule v. IsTrue (is_broken v) → (G : List Plain) → Completes report G → ¬ HoldsOf report G rule)
+          (λ rule v. IsTrue (is_broken v) → (G : List Plain) → Completes report.machines report.graph.survivors G →
+          ¬ HoldsOf report.machines report.graph.survivors G rule)
           (broken_here report.machines report.graph kept settled unknown) report.rules report.verdicts is.judged;
       some = some_completion report is;
       unsettled = each report.machines report.graph kept settled unknown

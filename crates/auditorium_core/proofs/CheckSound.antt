@@ -9,7 +9,7 @@ use Rattle.auditorium_core.proofs.Imports.{ProofsSayNoMore, RosterRead, entries_
 use Rattle.auditorium_core.proofs.Imports.{HaveMakers, row_of, row_said, nodes_of, RuleSource, standard, in_file}
 use Rattle.auditorium_core.proofs.Imports.{logs_have_makers, survivors_have_makers, plain_rules, Answer, GivesProof}
 use Rattle.auditorium_core.proofs.Imports.{CheckReport, AreChecked, ChecksLines, ChecksProof, ChecksLogs, ChecksFiles}
-use Rattle.auditorium_core.proofs.Imports.{ChecksRules, GivesCheck, MayBeAll, HoldsAmong, IsCheckOf, check_answer}
+use Rattle.auditorium_core.proofs.Imports.{ChecksRules, GivesCheck, Completes, HoldsOf, IsCheckOf, check_answer}
 use Rattle.audit_proof.specs.declared.fault.Verdict.{Verdict}
 use Rattle.audit_proof.specs.declared.fault.Verdict.TheVariants.{Kept, Broken}
 use Rattle.auditorium_core.proofs.PlainSurvivors.{some_completion}
@@ -85,7 +85,7 @@ module _ (less : ProofsSayNoMore) (machines : List Post) (given : List SealedEnt
 
   module _ (rules : List RuleTree) (verdicts : List Verdict) where
     kept_here : (rule : RuleTree) (v : Verdict) → Checked rule v → v ≡ Kept → (G : List Plain) →
-        MayBeAll (report rules verdicts) G → HoldsAmong (report rules verdicts) G rule
+        Completes machines graph.survivors G → HoldsOf machines graph.survivors G rule
     kept_here rule v checked e G whole =
         let value = kept_true (by_proof rule) (sym checked.1 ∙ e) in
         (plain_rules (row_said machines) (length machines) graph.survivors (parents_of graph.links)
@@ -93,7 +93,7 @@ module _ (less : ProofsSayNoMore) (machines : List Post) (given : List SealedEnt
         (known_more (by_proof rule) (by_graph rule) True (no_more rule) true_known value)
 
     broken_here : (rule : RuleTree) (v : Verdict) → Checked rule v → v ≡ Broken → (G : List Plain) →
-        MayBeAll (report rules verdicts) G → ¬ HoldsAmong (report rules verdicts) G rule
+        Completes machines graph.survivors G → ¬ HoldsOf machines graph.survivors G rule
     broken_here rule v checked e G whole =
         let value = broken_false (by_proof rule) (sym checked.1 ∙ e) in
         (plain_rules (row_said machines) (length machines) graph.survivors (parents_of graph.links)
@@ -114,12 +114,12 @@ module _ (less : ProofsSayNoMore) (machines : List Post) (given : List SealedEnt
       IsCheckOf (report rules verdicts) answer
   report_is_right rules verdicts answer checked told = record {
     kept = each
-        (λ rule v. v ≡ Kept → (G : List Plain) → MayBeAll (report rules verdicts) G →
-        HoldsAmong (report rules verdicts) G rule)
+        (λ rule v. v ≡ Kept → (G : List Plain) → Completes machines graph.survivors G →
+        HoldsOf machines graph.survivors G rule)
         (kept_here rules verdicts) rules verdicts checked;
     broken = each
-        (λ rule v. v ≡ Broken → (G : List Plain) → MayBeAll (report rules verdicts) G →
-        ¬ HoldsAmong (report rules verdicts) G rule)
+        (λ rule v. v ≡ Broken → (G : List Plain) → Completes machines graph.survivors G →
+        ¬ HoldsOf machines graph.survivors G rule)
         (broken_here rules verdicts) rules verdicts checked;
     some = some_completion machines given graph makers gives;
     told = told;

@@ -2,8 +2,8 @@
 use Rattle.auditorium_core.proofs.Imports.{◌≡◌, ◌∙◌, ℕ, List, [], ◌∷◌, inl, inr, refl, ap, sym, subst, Result, Ok, Err}
 use Rattle.auditorium_core.proofs.Imports.{node_of_sealed, SealedEntry, Distinct, World, sent_in, Script, Refusal}
 use Rattle.auditorium_core.proofs.Imports.{absent, refused, AreAllFilesOf, Outcome, GivesReport, outcome_of}
-use Rattle.auditorium_core.proofs.Imports.{AuditReport, report_text, RuleSource, standard, FindsNothing, SaysAllKept}
-use Rattle.auditorium_core.proofs.Imports.{SaysNoneBroken, kept_text, files_read, IsHonestRefusal, IsHonestReport}
+use Rattle.auditorium_core.proofs.Imports.{AuditReport, RuleSource, standard, SaysAllKept}
+use Rattle.auditorium_core.proofs.Imports.{SaysNoneBroken, files_read, IsHonestRefusal, IsHonestReport}
 use Rattle.auditorium_core.proofs.Imports.{report_answer, status_by, Answer, refusal_answer, source_named, IsAuditOver}
 use Rattle.auditorium_core.proofs.Imports.{IsAuditAnswer, IsAuditOfPlace, IsOfReport}
 use Rattle.std.proofs.Common.{Option}
@@ -25,14 +25,6 @@ only_broken outcome.Broken e = refl
 only_broken outcome.Kept e = let no : status.Done ≡ status.Broken = e in cc
 only_broken outcome.Findings e = let no : status.Findings ≡ status.Broken = e in cc
 only_broken outcome.Unsettled e = let no : status.Unsettled ≡ status.Broken = e in cc
-
--- the answer of a report that finds nothing
-nothing_answer : (report : AuditReport) → FindsNothing report →
-    report_answer report ≡ record { status = status.Done; files = []; ahead = 0; output = kept_text report }
-nothing_answer report nothing =
-    ap (λ (o : Outcome). record { status = status_by o; files = []; ahead = 0; output = report_text report })
-    nothing.outcome
-    ∙ ap (λ (t : List ℕ). record { status = status.Done; files = []; ahead = 0; output = t }) nothing.text
 
 module _ (script : Script) (w : World SealedEntry) (roster : Option (List ℕ)) (files : List (Option (List ℕ)))
     (place : HasLeft script w roster files) (rules : Option (List ℕ)) (name : List ℕ) (source : RuleSource)
@@ -95,7 +87,9 @@ module _ (script : Script) (w : World SealedEntry) (roster : Option (List ℕ)) 
           record {
             report = report;
             honest = accuses_nobody apart;
-            told = told ∙ nothing_answer report (says.nothing (says.clean whole));
+            told = told;
+            kept = says;
+            done = ap (λ (a : Answer). a.status) told ∙ ap status_by (says.nothing (says.clean whole));
           };
       shown = λ all how.
           whole_reports_show_distinct script w roster place.roster files all name source rules names report gives;

@@ -40,9 +40,9 @@ pub use Rattle.auditorium_core.specs.Answer.{AnswersWords, HasItsWords, IsAnswer
 pub use Rattle.auditorium_core.specs.Answer.{WordsTellAbsence}
 pub use Rattle.auditorium_core.specs.Audit.{Completes, HoldsOf, IsAuditAnswer, IsAuditOf, IsAuditOver, audit_parts}
 pub use Rattle.auditorium_core.specs.Audit.{source_named}
-pub use Rattle.auditorium_core.specs.Check.{AreChecked, CheckReport, GivesCheck, GivesChecked, HoldsAmong, IsCheckOf}
+pub use Rattle.auditorium_core.specs.Check.{AreChecked, CheckReport, GivesCheck, GivesChecked, IsCheckOf}
 pub use Rattle.auditorium_core.specs.Check.{check_files}
-pub use Rattle.auditorium_core.specs.Check.{IsCheckOver, MayBeAll, check_answer, check_parts, checked_line}
+pub use Rattle.auditorium_core.specs.Check.{IsCheckOver, check_answer, check_parts, checked_line}
 pub use Rattle.auditorium_core.specs.Check.{checked_status, verdict_on_all}
 pub use Rattle.auditorium_core.specs.CheckAgrees.{ChecksAgreeWithAudits, without_entries}
 pub use Rattle.auditorium_core.specs.CommandParts.{CommandParts}
@@ -87,7 +87,7 @@ pub use Rattle.auditorium_core.specs.Prove.{GivesMade, GivesText, IsProofOver, P
 pub use Rattle.auditorium_core.specs.Repair.{AreMendedBy, IsRepairAnswer, IsRepairOf, mended_lines, repair_answer}
 pub use Rattle.auditorium_core.specs.Repair.{repair_parts, with_steps}
 pub use Rattle.auditorium_core.specs.ReportAnswers.{report_answer, report_statuses, status_by}
-pub use Rattle.auditorium_core.specs.Run.{IsRunOf, loss_lines, run_answer, run_parts}
+pub use Rattle.auditorium_core.specs.Run.{AreRunMachines, IsRunMachine, IsRunOf, loss_lines, run_answer, run_parts}
 pub use Rattle.auditorium_core.specs.ScriptFile.{GivesScript, IsScriptFile, max_script}
 pub use Rattle.auditorium_core.specs.Watch.{AreFewDistinct, AreSummaries, Evidence, GivesEvidence, GivesSummaries}
 pub use Rattle.auditorium_core.specs.Watch.{GivesWatch, IsTooWideAfter, IsWatchOver, Watches}
@@ -223,7 +223,7 @@ pub use Rattle.honest_logs.specs.OfScript.{IsOfScript}
 pub use Rattle.honest_logs.specs.WhatIsLeft.{AreReadIn, IsLeftIn}
 pub use Rattle.honest_reports.proofs.Judged.{none_broken}
 pub use Rattle.honest_reports.proofs.RosterGiven.{is_honest, of_script}
-pub use Rattle.honest_reports.specs.Kept.{FindsNothing, SaysAllKept, SaysNoneBroken, kept_text}
+pub use Rattle.honest_reports.specs.Kept.{SaysAllKept, SaysNoneBroken}
 pub use Rattle.honest_reports.specs.Places.{AreWholeFilesOf, IsRosterOf, IsWholeIn, files_read}
 pub use Rattle.honest_reports.specs.Refusals.{IsHonestRefusal, IsTooWideFor}
 pub use Rattle.honest_reports.specs.Reports.{IsHonestReport}

@@ -17,7 +17,7 @@ use Rattle.std.proofs.lemmas.Bool.{cond-true}
 use Rattle.std.proofs.lemmas.List.{append_cancel_left, append_cancel_right}
 use Rattle.entry_order.proofs.Lists.{Contains-cons_cases}
 use Rattle.entry_order.proofs.Places.{all_at, place_of}
-use Rattle.finished_floor.specs.Places.{AreMachinesOf}
+use Rattle.auditorium_core.proofs.Imports.{AreRunMachines}
 use Rattle.honest_logs.specs.WhatIsLeft.{IsLeftOf}
 use Rattle.honest_logs.proofs.ReadLogs.{whole_is_left}
 use Rattle.honest_reports.specs.Places.{HasLeft}
@@ -290,7 +290,7 @@ named_of_play script machines are place m at =
     )
 
 -- the machines of a run have the names of the script's lines
-named_of_run : (script : Script) (machines : List MachineState) → AreMachinesOf script machines →
+named_of_run : (script : Script) (machines : List MachineState) → AreRunMachines script machines →
     AreNamedBy script machines
 named_of_run script machines are place m at =
     let (cast, there, is) = (are.each place m at).made in

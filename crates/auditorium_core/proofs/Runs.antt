@@ -6,7 +6,7 @@ use Rattle.auditorium_core.proofs.Imports.{node_of_sealed, SealedEntry, Step, Pl
 use Rattle.auditorium_core.proofs.Imports.{history, start, length_play, length_start, worlds_have_one_merged_order}
 use Rattle.auditorium_core.proofs.Imports.{one_order, Post, Loss, Script, IsLawful, script_configs, post_of}
 use Rattle.auditorium_core.proofs.Imports.{MachineState, ComesTo, world_of, next_of, tells_next, ArePlayedAgain}
-use Rattle.auditorium_core.proofs.Imports.{IsFloorOf, Answer, SayUndone, IsBetween, IsRunOf, run_answer}
+use Rattle.auditorium_core.proofs.Imports.{IsFloorOf, Answer, SayUndone, IsBetween, IsRunMachine, IsRunOf, run_answer}
 use Rattle.entry_order.specs.World.{play}
 use Rattle.auditorium_core.proofs.HonestPlaces.{leave_honest_files}
 
@@ -54,6 +54,12 @@ module _ (prefix : List ℕ) (script : Script) (lawful : IsLawful script) (posts
       let count = ap length floor.roster ∙ length-map script.machines (post_of script) ∙ sym floor.machines.count in
       record { from = omega (arith, count, on_way.from); to = omega (arith, count, on_way.to) }
 
+  -- of each machine its stop line and how it was made
+  run_machine : (place : ℕ) (m : MachineState) → slice_get machines place ≡ Some m → IsRunMachine script place m
+  run_machine place m at =
+      let is = floor.machines.each place m at in
+      record { stop = is.stop; made = is.made; within = is.machine.stop }
+
   -- the answer is that of the run
   pub is_run : (undone : List ℕ) (answer : Answer) → SayUndone machines undone →
       answer ≡ run_answer prefix posts machines losses undone → IsRunOf prefix script answer
@@ -63,7 +69,13 @@ module _ (prefix : List ℕ) (script : Script) (lawful : IsLawful script) (posts
     steps = steps;
     w = again;
     undone = undone;
-    floor = subst (λ (p : List Post). IsFloorOf script p machines losses) floor.roster floor;
+    floor = record {
+      machines = record { count = floor.machines.count; each = run_machine };
+      orderly = floor.orderly;
+      losses = floor.losses;
+      roomy = floor.roomy;
+      at_end = floor.at_end;
+    };
     again = record { merged = (merged.0, merged.1, refl); comes = comes; same = same };
     order = one_order node_of_sealed (world_of machines) floor.orderly;
     honest = leave_honest_files machines again many numbered same script lawful steps comes;

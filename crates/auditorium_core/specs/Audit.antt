@@ -4,6 +4,8 @@ use Rattle.std.specs.List.{AllZip}
 use Rattle.std.specs.Str.{bytes_eq}
 use Rattle.entry_order.specs.Completion.{Completion}
 use Rattle.entry_order.specs.Survivors.{IsGaps}
+use Rattle.roster.specs.declared.post.Post.{Post}
+use Rattle.entry_format.specs.SealedEntry.{SealedEntry}
 use Rattle.entry_format.specs.Nodes.{node_of, node_of_sealed}
 use Rattle.entry_format.specs.declared.plain.Plain.{Plain}
 use Rattle.entry_format.specs.Plains.{plains}
@@ -29,13 +31,13 @@ source_named word = if bytes_eq word (codes "standard") then standard else in_fi
 
 -- the rule holds of the survivors if these were all that there was, of which nothing is known but
 -- what they say
-abbrev pub HoldsOf : AuditReport → List Plain → RuleTree → Type 0
-HoldsOf report G rule =
-    Holds node_of (λ (plain : Plain). row_said report.machines plain.entry) (plains report.graph.survivors) G rule.body
+abbrev pub HoldsOf : List Post → List SealedEntry → List Plain → RuleTree → Type 0
+HoldsOf machines survivors G rule =
+    Holds node_of (λ (plain : Plain). row_said machines plain.entry) (plains survivors) G rule.body
 
 -- entries with such digests may be all that there was: they complete the survivors
-abbrev pub Completes : AuditReport → List Plain → Type 0
-Completes report G = Completion node_of (length report.machines) (plains report.graph.survivors) G
+abbrev pub Completes : List Post → List SealedEntry → List Plain → Type 0
+Completes machines survivors G = Completion node_of (length machines) (plains survivors) G
 
 -- What the verdicts and the gaps of a report mean: a rule that is reported kept holds whatever was
 -- lost, and one that is reported broken holds in no case. There is such a case. A rule is unsettled
@@ -44,12 +46,15 @@ Completes report G = Completion node_of (length report.machines) (plains report.
 -- rules of one's own of a class. The gaps are exactly the digests that a survivor names and none has,
 -- each once, ascending.
 pub record IsSound (report : AuditReport) : Type 0 where
-  pub kept : AllZip (λ rule is. is ≡ verdict.Kept → (G : List Plain) → Completes report G → HoldsOf report G rule)
+  pub kept : AllZip
+      (λ rule is. is ≡ verdict.Kept → (G : List Plain) → Completes report.machines report.graph.survivors G →
+      HoldsOf report.machines report.graph.survivors G rule)
       report.rules report.verdicts
   pub broken : AllZip
-      (λ rule is. IsTrue (is_broken is) → (G : List Plain) → Completes report G → ¬ HoldsOf report G rule)
+      (λ rule is. IsTrue (is_broken is) → (G : List Plain) → Completes report.machines report.graph.survivors G →
+      ¬ HoldsOf report.machines report.graph.survivors G rule)
       report.rules report.verdicts
-  pub some : (G : List Plain) × Completes report G
+  pub some : (G : List Plain) × Completes report.machines report.graph.survivors G
   pub unsettled : AllZip (λ rule is. is ≡ verdict.Unsettled → report.graph.gaps ≢ []) report.rules report.verdicts
   pub exact : UnsettledIsExact report
   pub gaps : IsGaps node_of_sealed report.graph.survivors report.graph.gaps

@@ -5,13 +5,9 @@ use Rattle.std.specs.List.{AllZip, flat_map, list_any, zip}
 use Rattle.precedence.specs.Graph.{Graph}
 use Rattle.roster.specs.declared.post.Post.{Post}
 use Rattle.entry_format.specs.SealedEntry.{SealedEntry}
-use Rattle.entry_format.specs.Nodes.{node_of}
 use Rattle.entry_format.specs.declared.plain.Plain.{Plain}
-use Rattle.entry_format.specs.Plains.{plains}
-use Rattle.entry_order.specs.Completion.{Completion}
 use Rattle.rule_language.specs.declared.row.Row.{Row}
 use Rattle.rule_language.specs.Trees.{RuleTree}
-use Rattle.rule_meaning.specs.Meaning.{Holds}
 use Rattle.audit_proof.specs.declared.fault.Verdict.{Verdict}
 use Rattle.audit_proof.specs.declared.fault.Verdict.TheVariants.{Kept, Broken, Unsettled}
 use Rattle.audit_proof.specs.Answers.{IsCheckAnswer}
@@ -20,7 +16,7 @@ use Rattle.evidence.specs.Refusal.{Refusal, refused}
 use Rattle.evidence.specs.RosterFile.{GivesRoster}
 use Rattle.evidence.specs.Logs.{GivesLogs}
 use Rattle.evidence.specs.Graphs.{entries_of, GivesGraph}
-use Rattle.auditor.specs.Rows.{row_of, row_said}
+use Rattle.auditor.specs.Rows.{row_of}
 use Rattle.auditor.specs.Judged.{nodes_of, IsFirstTooWide}
 use Rattle.auditor.specs.Audits.{AndThen, FileThen, RulesThen}
 use Rattle.auditor.specs.Sources.{RuleSource, source_word, rule_files}
@@ -29,7 +25,7 @@ use Rattle.auditorium_core.specs.declared.status.Status.{Status}
 use Rattle.auditorium_core.specs.declared.status.Status.TheVariants as status
 use Rattle.auditorium_core.specs.Lines.{Answer, OrRefused}
 use Rattle.auditorium_core.specs.WordForms.{AreLogs}
-use Rattle.auditorium_core.specs.Audit.{source_named}
+use Rattle.auditorium_core.specs.Audit.{Completes, HoldsOf, source_named}
 use Rattle.auditorium_core.specs.ProofFile.{GivesProof}
 use Rattle.auditorium_core.specs.CommandParts.{CommandParts}
 
@@ -124,27 +120,18 @@ check_answer rules verdicts = record {
   output = checked_text rules verdicts;
 }
 
--- entries with such digests may be all that there was: they complete the survivors
-abbrev pub MayBeAll : CheckReport → List Plain → Type 0
-MayBeAll report G = Completion node_of (length report.machines) (plains report.survivors) G
-
--- the rule holds of the survivors if these were all that there was, of which nothing is known but
--- what they say
-abbrev pub HoldsAmong : CheckReport → List Plain → RuleTree → Type 0
-HoldsAmong report G rule =
-    Holds node_of (λ (plain : Plain). row_said report.machines plain.entry)
-    (plains report.survivors) G rule.body
-
 -- The answer is that of the report. Whoever made the proof, a rule that is called kept holds
 -- whatever was lost, and one that is called broken holds in no case. There is such a case.
 pub record IsCheckOf (report : CheckReport) (answer : Answer) : Type 0 where
   pub kept : AllZip
-      (λ rule is. is ≡ Kept → (G : List Plain) → MayBeAll report G → HoldsAmong report G rule)
+      (λ rule is. is ≡ Kept → (G : List Plain) → Completes report.machines report.survivors G →
+      HoldsOf report.machines report.survivors G rule)
       report.rules report.verdicts
   pub broken : AllZip
-      (λ rule is. is ≡ Broken → (G : List Plain) → MayBeAll report G → ¬ HoldsAmong report G rule)
+      (λ rule is. is ≡ Broken → (G : List Plain) → Completes report.machines report.survivors G →
+      ¬ HoldsOf report.machines report.survivors G rule)
       report.rules report.verdicts
-  pub some : (G : List Plain) × MayBeAll report G
+  pub some : (G : List Plain) × Completes report.machines report.survivors G
   pub told : answer ≡ check_answer report.rules report.verdicts
 
 -- the answer for these files, or the first refusal

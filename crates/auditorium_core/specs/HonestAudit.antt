@@ -9,7 +9,7 @@ use Rattle.evidence.specs.Refusal.{Refusal}
 use Rattle.honest_logs.specs.LeftFiles.{AreAllFilesOf}
 use Rattle.auditor.specs.Report.{AuditReport}
 use Rattle.auditor.specs.Sources.{RuleSource, standard}
-use Rattle.honest_reports.specs.Kept.{SaysAllKept, SaysNoneBroken, kept_text}
+use Rattle.honest_reports.specs.Kept.{SaysAllKept, SaysNoneBroken}
 use Rattle.honest_reports.specs.Open.{StandardRulesAreOpen}
 use Rattle.honest_reports.specs.Places.{AreWholeFilesOf, files_read}
 use Rattle.honest_reports.specs.Refusals.{IsHonestRefusal}
@@ -51,13 +51,14 @@ IsHonestAudit script w source rules_file names files answer =
     ((refusal : Refusal) × IsHonestRefusal script w source rules_file files refusal × (answer ≡ refusal_answer refusal))
     ⊎ TellsHonestReport script w source names files answer
 
--- The answer is that of such a report which finds nothing: the status is Done, and the output says
--- of each standard rule that it is kept.
+-- The answer is that of such a report in which each standard rule is kept, and the status is Done.
 pub record TellsAllKept (script : Script) (w : World SealedEntry) (names : List (List ℕ))
     (files : List (Option (List ℕ))) (answer : Answer) : Type 0 where
   pub report : AuditReport
   pub honest : IsHonestReport script w names files report
-  pub told : answer ≡ record { status = status.Done; files = []; ahead = 0; output = kept_text report }
+  pub told : answer ≡ report_answer report
+  pub kept : SaysAllKept w files report
+  pub done : answer.status ≡ status.Done
 
 -- The answer is an honest one where different entries of w have different digests. By the standard
 -- rules, over all logs of w and where each of the files is a whole log, it finds nothing. A report

@@ -1,16 +1,15 @@
 -- A report on what is left of an honest place accuses nobody.
-use Rattle.honest_reports.proofs.Imports.{◌≡◌, ◌∙◌, ℕ, List, ◌++◌, map, Option, refl, sym, ap, subst, Ok, Contains}
-use Rattle.honest_reports.proofs.Imports.{flat_map, zip, All-contains, Script, node_of_sealed, SealedEntry, Distinct}
+use Rattle.honest_reports.proofs.Imports.{◌≡◌, ℕ, List, map, Option, refl, sym, ap, subst, Ok, Contains}
+use Rattle.honest_reports.proofs.Imports.{All-contains, Script, node_of_sealed, SealedEntry, Distinct}
 use Rattle.honest_reports.proofs.Imports.{World, sent_in, EntryGraph, LogRead, refused_lines, Verdict, RuleTree, Post}
 use Rattle.honest_reports.proofs.Imports.{RosterRead, GivesGraph, entries_of, GivesLogs, GivesRoster, IsHonestGraph}
 use Rattle.honest_reports.proofs.Imports.{IsHonestlyRead, AreAllFilesOf, AreFilesOf, IsReadIn, AreReadIn}
 use Rattle.honest_reports.proofs.Imports.{script_distinct, script_read, of_script_election, of_script_is_honest}
 use Rattle.honest_reports.proofs.Imports.{files_are_read, GivesReport, GivesVerdicts, WithGraph, WithLogs, AreJudged}
-use Rattle.honest_reports.proofs.Imports.{nodes_of, AuditReport, report_on, break_line, fork_lines, graph_lines}
-use Rattle.honest_reports.proofs.Imports.{rule_line, stray_lines, row_of, RuleSource, IsRosterOf, files_read}
-use Rattle.honest_reports.proofs.Imports.{AccusesNobody, IsHonestReport, log_and_torn_line}
+use Rattle.honest_reports.proofs.Imports.{nodes_of, AuditReport, report_on, break_line, fork_lines}
+use Rattle.honest_reports.proofs.Imports.{stray_lines, row_of, RuleSource, IsRosterOf, files_read}
+use Rattle.honest_reports.proofs.Imports.{AccusesNobody, End, Clean, Torn, Malformed, IsCutAt, IsCleanOrTorn, IsHonestReport}
 use Rattle.honest_reports.proofs.Found.{AreRulesOf, both_found, report_read}
-use Rattle.honest_reports.proofs.Lines.{graph_innocent, logs_innocent, not_malformed}
 use Rattle.honest_reports.proofs.RosterGiven.{machines_same, of_script}
 
 -- what was found where an audit reports
@@ -65,6 +64,12 @@ found_in name roster source rules_file names files report gives =
       is = cc;
     }
 
+-- where bytes are cut no end is malformed
+not_malformed : (place size : ℕ) (end : End) → IsCutAt place size end → IsCleanOrTorn end
+not_malformed place size Clean is = tt
+not_malformed place size (Torn at) is = tt
+not_malformed place size (Malformed at why) is = is
+
 -- logs and a graph of an honest place accuse nobody
 accuses_nobody : (w : World SealedEntry) (machines : List Post) (names : List (List ℕ)) (logs : List LogRead)
     (graph : EntryGraph SealedEntry) (rules : List RuleTree) (verdicts : List Verdict) → AreReadIn w logs →
@@ -78,10 +83,6 @@ accuses_nobody w machines names logs graph rules verdicts read honest =
       no_break = λ file log inside. ap (break_line file) (each log inside).read.no_break;
       no_stray = ap stray_lines honest.no_stray;
       no_fork = ap (fork_lines machines) honest.no_fork;
-      lines = let rest = flat_map (rule_line machines graph.survivors) (zip rules verdicts) in
-          ap (λ (x : List ℕ). x ++ graph_lines machines graph ++ rest) (logs_innocent w names logs read)
-          ∙ ap (λ (x : List ℕ). flat_map log_and_torn_line (zip names logs) ++ x ++ rest)
-          (graph_innocent machines graph honest.no_stray honest.no_fork);
     }
 
 module _ (script : Script) (w : World SealedEntry) (roster : Option (List ℕ)) (is : IsRosterOf script w roster)

@@ -40,12 +40,10 @@ pub use Rattle.honest_logs.specs.HonestWorld.{IsHonestWorld}
 pub use Rattle.honest_logs.specs.LeftFiles.{AreAllFilesOf, AreFilesOf}
 pub use Rattle.honest_logs.specs.OfScript.{IsOfScript}
 pub use Rattle.honest_logs.specs.WhatIsLeft.{AreReadIn, IsCutAt, IsReadIn}
-pub use Rattle.honest_reports.specs.Kept.{EndClean, FindsNothing, SaysAllKept, SaysNoneBroken, kept_line, kept_text}
-pub use Rattle.honest_reports.specs.Kept.{unbroken_line}
+pub use Rattle.honest_reports.specs.Kept.{EndClean, SaysAllKept, SaysNoneBroken}
 pub use Rattle.honest_reports.specs.Places.{AreWholeFilesOf, IsRosterOf, IsWholeIn, files_read}
 pub use Rattle.honest_reports.specs.Refusals.{IsHonestRefusal}
-pub use Rattle.honest_reports.specs.Reports.{AccusesNobody, IsCleanOrTorn, IsHonestReport, entries_and_gap_lines}
-pub use Rattle.honest_reports.specs.Reports.{innocent_lines, log_and_torn_line, torn_line}
+pub use Rattle.honest_reports.specs.Reports.{AccusesNobody, IsCleanOrTorn, IsHonestReport}
 pub use Rattle.honest_rules.proofs.Audits.{honest_audits_never_say_broken, honest_audits_say_kept}
 pub use Rattle.honest_rules.proofs.Scripts.{scripts_lead_to_honest_places}
 pub use Rattle.honest_rules.specs.Honest.{IsHonest}

@@ -6,7 +6,6 @@ use Rattle.honest_reports.proofs.Imports.{Contains-head, Contains-later, Contain
 use Rattle.honest_reports.proofs.Imports.{IsEntryGraph, parents_of, ragged_of, Post, Row, RuleTree, Verdict, three_in}
 use Rattle.honest_reports.proofs.Imports.{IsJudged, unknown_only_by_gaps, AreJudged, nodes_of, has_finding, is_broken}
 use Rattle.honest_reports.proofs.Imports.{is_unsettled, outcome_by, outcome_of, AuditReport, rule_line, row_of}
-use Rattle.honest_reports.proofs.Imports.{unbroken_line}
 use Rattle.entry_order.specs.declared.three.Three.TheVariants as known
 use Rattle.rule_engine.specs.declared.verdict.Verdict.TheVariants as verdict
 use Rattle.auditor.specs.declared.outcome.Outcome.TheVariants as outcome
@@ -111,23 +110,3 @@ outcome_not_broken report each same =
     not_broken_by (list_any is_unsettled report.verdicts) (has_finding report)
     (ap (λ (b : Bool). outcome_by b (list_any is_unsettled report.verdicts) (has_finding report))
     (sym (none_by is_broken report.verdicts each)) ∙ same)
-
--- the line of a rule that isn't broken
-one_line : (machines : List Post) (survivors : List SealedEntry) (rule : RuleTree) (answer : Verdict) →
-    is_broken answer ≡ false → rule_line machines survivors (rule, answer) ≡ unbroken_line (rule, answer)
-one_line machines survivors rule verdict.Kept free = refl
-one_line machines survivors rule (verdict.Broken places) free = cc
-one_line machines survivors rule verdict.Unsettled free = refl
-
--- where no verdict is Broken, no line names entries against a rule
-pub unbroken_lines : (machines : List Post) (survivors : List SealedEntry) (rules : List RuleTree)
-    (verdicts : List Verdict) → ((answer : Verdict) → Contains verdicts answer → is_broken answer ≡ false) →
-    flat_map (rule_line machines survivors) (zip rules verdicts) ≡ flat_map unbroken_line (zip rules verdicts)
-unbroken_lines machines survivors [] verdicts free = refl
-unbroken_lines machines survivors (rule ∷ rules) [] free = refl
-unbroken_lines machines survivors (rule ∷ rules) (answer ∷ verdicts) free =
-    ap (λ (x : List ℕ). x ++ flat_map (rule_line machines survivors) (zip rules verdicts))
-    (one_line machines survivors rule answer (free answer (Contains-head answer verdicts)))
-    ∙ ap (λ (x : List ℕ). unbroken_line (rule, answer) ++ x)
-    (unbroken_lines machines survivors rules verdicts
-    (λ other there. free other (Contains-later answer verdicts other there)))

@@ -1,7 +1,6 @@
 mod Imports
 pub mod RosterGiven
 pub mod Found
-pub mod Lines
 pub mod Accused
 pub mod Judged
 pub mod NothingFound

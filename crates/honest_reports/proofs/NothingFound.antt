@@ -9,10 +9,8 @@ use Rattle.honest_reports.proofs.Imports.{IsSealedLogOf, SaysSealed, line, gap_l
 use Rattle.honest_reports.proofs.Imports.{Verdict, election_of, entries_of, GivesLogs, IsHonestGraph, IsHonestWorld}
 use Rattle.honest_reports.proofs.Imports.{IsReadIn, AreReadIn, whole_in, Outcome, graph_has_finding, has_finding}
 use Rattle.honest_reports.proofs.Imports.{has_some, is_broken, is_clean, is_unsettled, log_has_finding, outcome_by}
-use Rattle.honest_reports.proofs.Imports.{outcome_of, outcome_word, AuditReport, entries_line, log_head_line}
-use Rattle.honest_reports.proofs.Imports.{main_lines, report_text, rule_line, EndClean, FindsNothing, kept_line}
-use Rattle.honest_reports.proofs.Imports.{kept_text, AreWholeFilesOf, IsWholeIn, entries_and_gap_lines}
-use Rattle.honest_reports.proofs.Imports.{innocent_lines, log_and_torn_line, torn_line}
+use Rattle.honest_reports.proofs.Imports.{outcome_of, AuditReport}
+use Rattle.honest_reports.proofs.Imports.{EndClean, AreWholeFilesOf, IsWholeIn}
 use Rattle.rule_engine.specs.declared.verdict.Verdict.TheVariants as verdict
 use Rattle.auditor.specs.declared.outcome.Outcome.TheVariants as outcome
 use Rattle.honest_reports.proofs.Judged.{none_by}
@@ -72,30 +70,6 @@ kept_only test fails (rule ∷ rules) =
     ap (λ (b : Bool). b || list_any test (map (λ (rule : RuleTree). verdict.Kept) rules)) fails
     ∙ kept_only test fails rules
 
--- the lines of rules that are kept
-kept_lines : (machines : List Post) (survivors : List SealedEntry) (rules : List RuleTree) →
-    flat_map (rule_line machines survivors) (zip rules (map (λ (rule : RuleTree). verdict.Kept) rules))
-    ≡ flat_map kept_line rules
-kept_lines machines survivors [] = refl
-kept_lines machines survivors (rule ∷ rules) =
-    ap (λ (x : List ℕ). kept_line rule ++ x) (kept_lines machines survivors rules)
-
--- a log with a clean end has its line and no other
-abbrev line_of : List ℕ × LogRead → List ℕ
-line_of named = log_head_line named.0 named.1
-
--- logs with clean ends have no line but their own
-clean_lines : (files : List (List ℕ)) (logs : List LogRead) → EndClean logs →
-    flat_map log_and_torn_line (zip files logs) ≡ flat_map line_of (zip files logs)
-clean_lines [] logs clean = refl
-clean_lines (file ∷ files) [] clean = refl
-clean_lines (file ∷ files) (log ∷ logs) clean =
-    ap (λ (e : End). log_head_line file log ++ torn_line file e ++ flat_map log_and_torn_line (zip files logs))
-    (clean log (Contains-head log logs))
-    ∙ ap (λ (x : List ℕ). x ++ flat_map log_and_torn_line (zip files logs)) (append-nil (log_head_line file log))
-    ∙ ap (λ (x : List ℕ). log_head_line file log ++ x)
-    (clean_lines files logs (λ other there. clean other (Contains-later log logs other there)))
-
 -- what is so of no member
 no_member : {A : Type 0} (test : A → Bool) (xs : List A) → list_any test xs ≡ false → (x : A) → Contains xs x →
     test x ≡ false
@@ -138,7 +112,7 @@ module _ (report : AuditReport) (kept : report.verdicts ≡ map (λ (rule : Rule
           end_clean log.end (or_parts (not (is_clean log.end)) (is_some log.broke) rest).0))
 
 module _ (w : World SealedEntry) (report : AuditReport) (read : AreReadIn w report.logs)
-    (honest : IsHonestGraph w (entries_of report.logs) report.graph) (rules : report.rules ≡ standard_rules)
+    (honest : IsHonestGraph w (entries_of report.logs) report.graph)
     (kept : report.verdicts ≡ map (λ (rule : RuleTree). verdict.Kept) standard_rules)
     (no_gap : report.graph.gaps ≡ []) (clean : EndClean report.logs) where
   -- no log of an honest place that ends clean has a finding
@@ -154,40 +128,5 @@ module _ (w : World SealedEntry) (report : AuditReport) (read : AreReadIn w repo
       ∙ no_graph_finding report.graph.strays report.graph.forks report.graph.gaps honest.no_stray honest.no_fork no_gap
 
   -- and the outcome is Kept
-  comes_to : outcome_of report ≡ outcome.Kept
+  pub comes_to : outcome_of report ≡ outcome.Kept
   comes_to = comes_by report kept false quiet
-
-  -- the lines of the entries and gaps
-  graph_text : entries_and_gap_lines report.graph ≡ entries_line (length report.graph.survivors)
-  graph_text =
-      ap (λ (gaps : List (List ℕ)). entries_line (length report.graph.survivors) ++ gap_lines gaps) no_gap
-      ∙ append-nil (entries_line (length report.graph.survivors))
-
-  -- those of the rules
-  rules_text : flat_map (rule_line report.machines report.graph.survivors) (zip report.rules report.verdicts)
-      ≡ flat_map kept_line standard_rules
-  rules_text =
-      ap (λ (rs : List RuleTree). flat_map (rule_line report.machines report.graph.survivors) (zip rs report.verdicts))
-      rules
-      ∙ ap (λ (vs : List Verdict). flat_map (rule_line report.machines report.graph.survivors) (zip standard_rules vs))
-      kept
-      ∙ kept_lines report.machines report.graph.survivors standard_rules
-
-  -- a report with innocent lines alone, where each rule is kept, has the text of one that found
-  -- nothing
-  text : main_lines report ≡ innocent_lines report → report_text report ≡ kept_text report
-  text lines =
-      let logs = flat_map line_of (zip report.files report.logs) in
-      let entries = entries_line (length report.graph.survivors) in
-      let rest = flat_map (rule_line report.machines report.graph.survivors) (zip report.rules report.verdicts) in
-      let last : Outcome → List ℕ = λ o. line (codes "verdict " ++ outcome_word o) in
-      ap (λ (x : List ℕ). x ++ last (outcome_of report)) lines
-      ∙ ap (λ (x : List ℕ). x ++ entries_and_gap_lines report.graph ++ rest ++ last (outcome_of report))
-      (clean_lines report.files report.logs clean)
-      ∙ ap (λ (x : List ℕ). logs ++ x ++ rest ++ last (outcome_of report)) graph_text
-      ∙ ap (λ (x : List ℕ). logs ++ entries ++ x ++ last (outcome_of report)) rules_text
-      ∙ ap (λ (o : Outcome). logs ++ entries ++ flat_map kept_line standard_rules ++ last o) comes_to
-
-  -- a report with innocent lines alone, where each rule is kept, finds nothing
-  pub nothing_found : main_lines report ≡ innocent_lines report → FindsNothing report
-  nothing_found lines = record { outcome = comes_to; text = text lines }

@@ -1,21 +1,21 @@
 -- With the standard rules no report on an honest place says that one is broken, and all logs show
 -- that each is kept.
 use Rattle.honest_reports.proofs.Imports.{◌≡◌, ◌≢◌, ◌∙◌, ℕ, false, List, [], map, length, Option, sym, ap, subst, Ok}
-use Rattle.honest_reports.proofs.Imports.{Contains, flat_map, zip, Script, node_of_sealed, SealedEntry, Distinct}
+use Rattle.honest_reports.proofs.Imports.{Contains, Script, node_of_sealed, SealedEntry, Distinct}
 use Rattle.honest_reports.proofs.Imports.{World, sent_in, IsEntryGraph, parents_of, ragged_of, Post, Row, RuleTree}
 use Rattle.honest_reports.proofs.Imports.{standard_rules, Verdict, three_in, election_of, entries_of, GivesLogs}
 use Rattle.honest_reports.proofs.Imports.{IsAllGiven, IsHonestlyRead, IsHonestWorld, AreAllFilesOf, AreFilesOf}
 use Rattle.honest_reports.proofs.Imports.{IsOfScript, all_given, left_agrees, of_script_election, of_script_is_honest}
 use Rattle.honest_reports.proofs.Imports.{IsHonest, WereSentIn, honest_audits_never_say_broken}
 use Rattle.honest_reports.proofs.Imports.{honest_audits_say_kept, is_broken, AuditReport, report_on, row_of, standard}
-use Rattle.honest_reports.proofs.Imports.{EndClean, SaysAllKept, SaysNoneBroken, unbroken_line, AreWholeFilesOf}
+use Rattle.honest_reports.proofs.Imports.{EndClean, SaysAllKept, SaysNoneBroken, AreWholeFilesOf}
 use Rattle.honest_reports.proofs.Imports.{IsRosterOf, IsHonestReport}
 use Rattle.entry_order.specs.declared.three.Three.TheVariants as three
 use Rattle.rule_engine.specs.declared.verdict.Verdict.TheVariants as verdict
 use Rattle.honest_reports.proofs.Accused.{IsFound, found_distinct, found_logs, found_read, report_honest}
-use Rattle.honest_reports.proofs.Judged.{all_kept, as_many, none_broken, outcome_not_broken, unbroken_lines}
+use Rattle.honest_reports.proofs.Judged.{all_kept, as_many, none_broken, outcome_not_broken}
 use Rattle.honest_reports.proofs.Judged.{unsettled_by_gap}
-use Rattle.honest_reports.proofs.NothingFound.{nothing_found, torn_found, whole_clean}
+use Rattle.honest_reports.proofs.NothingFound.{comes_to, torn_found, whole_clean}
 use Rattle.honest_reports.proofs.RosterGiven.{is_honest, of_script}
 
 module _ (script : Script) (w : World SealedEntry) (roster : Option (List ℕ)) (is : IsRosterOf script w roster)
@@ -93,8 +93,6 @@ module _ (script : Script) (w : World SealedEntry) (roster : Option (List ℕ)) 
     one_each = as_many rows found.graph found.rules found.verdicts found.judged
         ∙ ap (λ (rules : List RuleTree). length rules) found.of_source;
     verdicts = answers_free;
-    lines = unbroken_lines machines survivors found.rules found.verdicts answers_free
-        ∙ ap (λ (rules : List RuleTree). flat_map unbroken_line (zip rules found.verdicts)) found.of_source;
     unsettled = unsettled_by_gap machines found.graph graphed found.rules found.verdicts found.judged;
     outcome = outcome_not_broken
         (report_on machines names found.logs found.graph found.rules found.verdicts) answers_free;
@@ -150,8 +148,7 @@ module _ (script : Script) (w : World SealedEntry) (roster : Option (List ℕ)) 
       verdicts = verdicts_kept;
       no_gap = no_gap;
       clean = clean;
-      nothing = λ ends. nothing_found w report honest.logs honest.graph parts_kept verdicts_kept no_gap ends
-          honest.accuses_nobody.lines;
+      nothing = comes_to w report honest.logs honest.graph verdicts_kept no_gap;
       torn = torn_found report verdicts_kept;
     }
 
