@@ -70,3 +70,6 @@ pub mod StillAnswers
 pub mod Endings
 pub mod SignedInTurn
 pub mod ReadBack
+pub mod SameLosses
+pub mod OneHistory
+pub mod OneRun

@@ -33,5 +33,6 @@ pub mod Outside
 pub mod Outcome
 pub mod Complete
 pub mod ReadBack
+pub mod OneRun
 pub mod OfficeCalls
 pub mod inside

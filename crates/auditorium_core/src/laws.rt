@@ -10,6 +10,7 @@ ghost use Rattle.auditorium_core.specs.Outcome.{HasDone, IsGivenBy, IsGivenSomeh
 ghost use Rattle.auditorium_core.specs.Outside.{Outside, outside};
 ghost use Rattle.auditorium_core.specs.CheckAgrees.{ChecksAgreeWithAudits, ChecksSayNoMore};
 ghost use Rattle.auditorium_core.specs.Complete.{IsComplete};
+ghost use Rattle.auditorium_core.specs.OneRun.{HistoriesDetermineRuns, WrittenFilesDetermineAnswers};
 ghost use Rattle.auditorium_core.specs.ReadBack.{
   PlaysAreReadBack,
   RepairsAreReadBack,
@@ -30,11 +31,34 @@ use polling_world::{scripts_are_played_in_one_way, what_is_left_is_told_in_one_w
 use rule_language::one_reading_is_right as rules_are_read_in_one_way;
 
 /// Without threads words and files have at most one answer. What is lost between threads is not
-/// determined by a script, so `run` may have several. It does nothing.
+/// determined by a script, so `run` may have several: `histories_determine_answers` says how far
+/// they differ. It does nothing.
 pub fn one_answer_is_right()
     ensures { (words : List (List ℕ)) (files : Files) (answer other : Answer) →
         AnswersWords IsStill words (OnExposed (Some files)) answer →
         AnswersWords IsStill words (OnExposed (Some files)) other → answer ≡ other }
+{
+    bytes_say_one_log();
+    one_reading_is_right();
+    scripts_are_played_in_one_way();
+    what_is_left_is_told_in_one_way();
+    roster_files_give_one_answer();
+    log_files_give_one_answer();
+    entries_give_one_graph();
+    survivors_are_sound();
+    one_text_is_canonical();
+    proofs_are_read_in_one_way();
+    rules_are_read_in_one_way();
+    files_give_one_report();
+    scripts_are_shown_in_one_way();
+}
+
+/// With threads, too, an answer is determined but for the causes of losses, once it is known what
+/// each machine of a run did: by the histories, and so by the logs that were written. It does
+/// nothing.
+pub fn histories_determine_answers()
+    ensures histories { HistoriesDetermineRuns }
+    ensures files { WrittenFilesDetermineAnswers }
 {
     bytes_say_one_log();
     one_reading_is_right();
