@@ -19,7 +19,8 @@ use Rattle.log_files.specs.LogText.{header_tree}
 use Rattle.log_files.specs.Written.{record_text}
 use Rattle.log_files.proofs.RecordTexts.{tree_of, records_fit, records_spelt}
 use Rattle.election_script.specs.declared.script.StopAt.{StopAt}
-use Rattle.finished_floor.specs.Places.{AreMachinesOf, IsMachineOf, IsStopOf}
+use Rattle.finished_floor.specs.Places.{IsStopOf}
+use Rattle.auditorium_core.specs.Run.{AreRunMachines, IsRunMachine}
 use Rattle.polling_world.specs.Configs.{config_of}
 
 -- ---- the events of a log
@@ -145,8 +146,8 @@ machine_with config stop marked events =
     record { config = config; stop = stop; marked = marked; events = events }
 
 -- two machines at one place of a lawful script are one where their histories are
-one_machine : (script : Script) → IsLawful script → (place : ℕ) (m n : MachineState) → IsMachineOf script place m →
-    IsMachineOf script place n → m.events ≡ n.events → m ≡ n
+one_machine : (script : Script) → IsLawful script → (place : ℕ) (m n : MachineState) → IsRunMachine script place m →
+    IsRunMachine script place n → m.events ≡ n.events → m ≡ n
 one_machine script lawful place m n of also events =
     let (cast, at, is) = of.made in
     let (other, there, is') = also.made in
@@ -163,8 +164,8 @@ one_machine script lawful place m n of also events =
     ∙ ap (λ (xs : List (Event SealedEntry)). machine_with n.config n.stop n.marked xs) events
 
 -- so a lawful script's machines are those of their histories
-pub same_machines : (script : Script) → IsLawful script → (ms ns : List MachineState) → AreMachinesOf script ms →
-    AreMachinesOf script ns →
+pub same_machines : (script : Script) → IsLawful script → (ms ns : List MachineState) → AreRunMachines script ms →
+    AreRunMachines script ns →
     ((place : ℕ) (m n : MachineState) → slice_get ms place ≡ Some m → slice_get ns place ≡ Some n →
     m.events ≡ n.events) → ms ≡ ns
 same_machines script lawful ms ns of also events =
