@@ -9,7 +9,7 @@ next column what it uses of the kit; --write fills both. Printed is where a tabl
 crate that only one of the two has, each that crates.txt has before a crate that it uses, and each that uses one
 of a higher band, other than entry_order. The exit status is 1 if there is any such line.
 
-The picture has the crates of the bands, each at its place in PLACES, and the page's ways through them: a way is
+The picture has the crates of the bands, each at its place in PLACES, and the page's paths through them: a path is
 a numbered list, and a step of it is at the crate that it names first. A crate without a place, or in another
 band there, is printed, too. What has a place and isn't in crates.txt isn't drawn.
 """
@@ -320,7 +320,7 @@ def drawn(crates, bands, drawn_ways):
     lines = [
         f'<svg xmlns="http://www.w3.org/2000/svg" viewBox="0 0 {sheet.width:.0f} {sheet.height + 74:.0f}"'
         ' font-family="Helvetica, Arial, DejaVu Sans, sans-serif" font-size="12.5">',
-        "<title>Six bands of crates, and three ways through them</title>",
+        "<title>Six bands of crates, and three paths through them</title>",
         f"<defs>{tips}</defs>",
         '<rect width="100%" height="100%" fill="#fff"/>',
         *band_lines(sheet, bands),
