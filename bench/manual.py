@@ -4,14 +4,16 @@
 Run from anywhere: python3 bench/manual.py
 
 The tables are the constants of crates/command_hints/src/commands.rt. The pages are written anew; where `mandoc` is
-installed, what it finds fault with is printed. Printed is, too, each command line of the tables that README.md or
-docs/FORMATS.md lacks. The exit status is 1 if a page was another before, or if anything is printed.
+installed, what it finds fault with is printed. So is each command line of the tables that README.md or docs/FORMATS.md
+lacks, and whether CHANGELOG.md begins with another version, or README.md lacks the logic. The exit status is 1 if a
+page was another before, or if anything is printed.
 """
 import pathlib
 import re
 import shutil
 import subprocess
 import sys
+import textwrap
 
 ROOT = pathlib.Path(__file__).resolve().parent.parent
 TABLES = ROOT / "crates" / "command_hints" / "src" / "commands.rt"
@@ -57,7 +59,8 @@ and
 .Fl -version
 are no valid words either: with them the standard output is
 .Dq usage ,
-the status is 4, and the help is on standard error.
+the status is 4, and the help, with the version and the logic by which it was
+proved, is on standard error.
 The words are:
 """
 
@@ -75,7 +78,8 @@ With 8, 9 and 10 a line on standard error says what failed, except on a broken
 pipe.
 After
 .Cm endorse ,
-a line on standard error says so if FILE.sig isn't good under NAME.key.
+a line on standard error says so if FILE.sig isn't good under NAME.key, or if
+others than its owner had access to NAME.office.
 """
 
 EXAMPLES = """\
@@ -165,9 +169,14 @@ def table(name):
     return [row.partition(": ")[::2] for row in rows]
 
 
+def constant(name):
+    """A constant beside the tables."""
+    return re.search(rf'const {name}: &str = "(.*)";', TABLES.read_text()).group(1)
+
+
 def sentence(text):
-    """The text as a sentence that begins with a capital, unless it begins with a number."""
-    return text[0].upper() + text[1:] + "."
+    """The text as a sentence that begins with a capital, unless it begins with a number, in lines of at most 80."""
+    return textwrap.fill(text[0].upper() + text[1:] + ".", 80, break_long_words=False, break_on_hyphens=False)
 
 
 def listed(items):
@@ -224,6 +233,10 @@ def faults():
     for document in ("README.md", "docs/FORMATS.md"):
         known = (ROOT / document).read_text()
         yield from (f"{document} lacks `{line}`" for line, _ in table("COMMANDS") if f"`{line}`" not in known)
+    if not (ROOT / "CHANGELOG.md").read_text().startswith(f"# Changelog\n\n## {constant('VERSION')}\n"):
+        yield f"CHANGELOG.md doesn't begin with {constant('VERSION')}"
+    if f"`{constant('LOGIC')}`" not in (ROOT / "README.md").read_text():
+        yield f"README.md lacks the logic {constant('LOGIC')}"
 
 
 def main():

@@ -126,13 +126,13 @@ pub fn sentence(cause: Cause) -> &'static str {
             "the rows of the rule's nested quantifiers multiply to more than 268,435,456"
         }
         Cause::TooMany =>
-            "the logs have more than 16,384 distinct entries, or than 1,024 for watch",
+            "the logs have more than 16,384 distinct entries, or for watch more than 1,024",
         Cause::Collision => "two entries with different texts have one digest",
         Cause::NoEntry => "no surviving entry is meant by this word",
         Cause::Exists => "an office's file is never overwritten; take another name",
         Cause::Office => {
             "an office's file is (6:office1:132: with its 32 bytes, and a number up to 32,768; one \
-             that was cut short while it was written is of no more use"
+             that was cut short while it was written can't be used any more"
         }
         Cause::Spent => "the office's key has made its 32,768 signatures; make another office",
     }
@@ -144,7 +144,7 @@ fn script_sentence(why: ScriptWhy) -> &'static str {
             "a line has only bytes from space to ~, so no tab and no carriage return"
         }
         ScriptWhy::UnknownWord => {
-            "a word isn't one that may be there: a line begins with version, seed, key, log, link, \
+            "a word isn't allowed in its place: a line begins with version, seed, key, log, link, \
              machine, do, lose, stop or step, and then come a deed, a role or another fixed word"
         }
         ScriptWhy::OutOfOrder => {
@@ -198,8 +198,8 @@ fn rule_sentence(why: RuleWhy) -> &'static str {
              and nothing else"
         }
         RuleWhy::Shape => {
-            "a rule begins with \"(rule NAME\", and a formula is true or begins with every, some, \
-             and, or, not, implies, same, before, next, is, kind, = or < behind a parenthesis"
+            "a rule begins with \"(rule NAME\", and a formula is true, or a parenthesis and then \
+             every, some, and, or, not, implies, same, before, next, is, kind, = or <"
         }
         RuleWhy::UnknownKind => {
             "a kind is entry, opened, authorise, override, forced, closed, activate, commit, cast, \
@@ -229,7 +229,7 @@ fn proof_sentence(why: ProofWhy) -> &'static str {
             "the entry before a colon is below the one before the colon of the word before"
         }
         ProofWhy::NotReached => {
-            "the entry after a colon is the one after past, or stands earlier on the line before \
+            "the entry after a colon is the one after past, or comes earlier on the line, before \
              a colon"
         }
         ProofWhy::NotParent => {

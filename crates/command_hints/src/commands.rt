@@ -3,7 +3,10 @@
 use std::fmt::{self, Formatter, Write};
 
 /// What `--version` says, as CHANGELOG.md has it.
-const VERSION: &str = "unreleased";
+const VERSION: &str = "1.0.0";
+
+/// The kit's logic by which the program was proved, as README.md has it.
+const LOGIC: &str = "dac8208d650f15bf";
 
 /// Each command with the words after it, and after a colon what it does, in the order of the help.
 pub(crate) const COMMANDS: &[&str] = &[
@@ -170,7 +173,8 @@ fn write_commands<W: fmt::Write>(f: &mut Formatter<W>) -> fmt::Result {
 pub(crate) fn write_help<W: fmt::Write>(f: &mut Formatter<W>) -> fmt::Result {
     write!(
         f,
-        "auditorium ({VERSION}): a simulated polling place and the auditor of its logs\n"
+        "auditorium {VERSION}: a simulated polling place and the auditor of its logs\n\
+         proved with logic {LOGIC}\n"
     )?;
     write_commands(f)?;
     f.write_str("exit status:\n")?;

@@ -197,7 +197,7 @@ impl<'a> Wrong<'a> {
             Wrong::NotPlain(word) => {
                 write!(
                     f,
-                    "{word:?} has a space or a byte outside ! to ~, as no word may"
+                    "{word:?} has a space or another byte outside ! to ~; a word has none"
                 )
             }
             Wrong::NoCommand(word, Some(name)) => {
@@ -222,7 +222,7 @@ impl<'a> Wrong<'a> {
     }
 }
 
-/// Writes what the word must be. A seed is secret, so its length alone is told.
+/// Writes what the word must be. A seed is secret, so only its length is shown.
 fn write_meaning<W: fmt::Write>(f: &mut Formatter<W>, word: &str, name: &str) -> fmt::Result {
     let meaning = meaning_of(name);
     write!(f, "{name} must be {meaning}; ")?;

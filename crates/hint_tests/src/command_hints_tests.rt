@@ -43,17 +43,17 @@ characters|office NAME SEED
 endorse,o|endorse wants NAME FILE; words given: 1|endorse NAME FILE
 endorsed,k,f|endorsed wants KEY FILE SIG; words given: 2|endorsed KEY FILE SIG
 gaps,--all|\"--all\" begins with -, and there are no options|gaps LOG
-gaps,my log|\"my log\" has a space or a byte outside ! to ~, as no word may|gaps LOG
+gaps,my log|\"my log\" has a space or another byte outside ! to ~; a word has none|gaps LOG
 gaps,|word 2 is empty|gaps LOG
 -,|\"-\" begins with -, and there are no options|COMMAND WORD..";
 
 /// The words, each after a comma but the first; the first line of the output; and how the hint
 /// begins, or nothing where there is none.
 const ROWS: &str = "\
---help|usage|auditorium (unreleased): a simulated polling place and the auditor of its logs
-audit,-h|usage|auditorium (unreleased)
---version|usage|auditorium (unreleased)
-play,s,-V|usage|auditorium (unreleased)
+--help|usage|auditorium 1.0.0: a simulated polling place and the auditor of its logs
+audit,-h|usage|auditorium 1.0.0: a
+--version|usage|auditorium 1.0.0: a
+play,s,-V|usage|auditorium 1.0.0: a
 play,w.script,p|refused w.script 3 UnknownWord|auditorium: w.script, line 3, UnknownWord: a word
 run,s,p|refused s 9 SameName|auditorium: s, line 9, SameName: a machine is named twice
 audit,r,c,l|refused c 28 Unbound|auditorium: c, byte 28, counted from 0, Unbound: no every or some
@@ -106,7 +106,7 @@ check,r,c,q,l|absent l|auditorium: there is no file l, which is named as LOG: a 
 demo,1|absent x|auditorium: there is no file x";
 
 /// The words; what is refused, its place and the cause; the text, with `/` for a newline; how what
-/// is said of it begins, behind the cause; and the lines that show the place, likewise.
+/// is said of it begins, after the cause; and the lines that show the place, likewise.
 const TEXTS: &str = "\
 play,s,p|s 3 UnknownWord|# keys/seed 01/key w3 h5/log 64/|\"w3\" isn't one of w1, w2, w4, w8\
 |     3 | key w3 h5/       |     ^^/
@@ -332,7 +332,7 @@ fn refusals_quote_the_text_and_mark_it(rt: HostRuntime) -> Result<(), Fail> {
 }
 
 #[test]
-fn slips_are_told_in_three_lines(rt: HostRuntime) -> Result<(), Fail> {
+fn slips_have_three_lines(rt: HostRuntime) -> Result<(), Fail> {
     let alloc = rt.alloc();
     for row in SLIPS.lines() {
         let (words, rest) = row.split_once('|').unwrap_or(("", ""));
