@@ -3,3 +3,4 @@ pub mod Endings
 pub mod Marks
 pub mod Moves
 pub mod Wholes
+pub mod Renames

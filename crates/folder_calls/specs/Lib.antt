@@ -4,3 +4,4 @@ pub mod Placing
 pub mod Ready
 pub mod Sets
 pub mod Asides
+pub mod Leftovers

@@ -3,6 +3,7 @@ ghost use Rattle.std.specs.Prelude.{◌≡◌, true, false, ◌∷◌, OnOk, IfN
 ghost use Rattle.folder_calls.specs.World.{Now, Goes};
 ghost use Rattle.folder_calls.specs.Placing.{AllInPlace, AreBegun};
 ghost use Rattle.folder_calls.specs.Sets.{IsPlacing, marks_set};
+ghost use Rattle.folder_calls.specs.Leftovers.{AreGone};
 
 use crate::begun::Begun;
 use crate::folder::Folder;
@@ -49,6 +50,8 @@ pub fn finish<F: Folder>(folder: &mut F, begun: &[Begun], aside: &str) -> Result
         (F.moments folder.old) (F.moments folder.new) }
     ensures placed { OnOk result (Now (F.moments folder.old) (λ first.
         Now (F.moments folder.new) (AllInPlace begun.now first))) }
+    ensures gone { Now (F.moments folder.new)
+        (AreGone (F.removal_failed folder.new) begun.now) }
 {
     match set_of(begun) {
         Some((mark, rest)) => match finish_set(folder, mark, rest, aside) {

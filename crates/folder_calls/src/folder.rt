@@ -3,6 +3,8 @@ ghost use Rattle.std.specs.Prelude.{
   ◌≡◌,
   ◌<◌,
   ◌≤◌,
+  ℕ,
+  List,
   length,
   take,
   is_ok,
@@ -56,6 +58,9 @@ pub struct Found {
 pub trait Folder {
     /// The moments so far, the newest first. There is none where the folder exposes nothing.
     ghost moments: { Self → Moments };
+
+    /// A removal of this name has failed.
+    ghost removal_failed: { Self → List ℕ → Type 0 };
 
     /// What stands under the name itself: no link is followed (`lstat`).
     fn look(&mut self, name: &str) -> io::Result<Option<Found>>
@@ -115,7 +120,10 @@ pub trait Folder {
 
     /// Removes the name (`unlink`).
     fn remove(&mut self, name: &str) -> io::Result<()>
-        ensures did { Does (removed name.now) (is_ok result) (moments self.old) (moments self.new) };
+        ensures did { Does (removed name.now) (is_ok result) (moments self.old) (moments self.new) }
+        ensures failed { OnErr result (removal_failed self.new name.now) }
+        ensures kept { (other : List ℕ) → removal_failed self.old other
+            → removal_failed self.new other };
 
     /// Flushes the folder that the name is in to the disk (`fsync`).
     fn flush_name(&mut self, name: &str) -> io::Result<()>
@@ -124,5 +132,7 @@ pub trait Folder {
 
     /// Closes the files that were created, and with that unlocks them (`close`).
     fn close(&mut self)
-        ensures same { moments self.new ≡ moments self.old };
+        ensures same { moments self.new ≡ moments self.old }
+        ensures kept { (other : List ℕ) → removal_failed self.old other
+            → removal_failed self.new other };
 }

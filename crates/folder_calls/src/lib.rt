@@ -18,5 +18,5 @@ pub use begun::Begun;
 pub use finishing::finish;
 pub use folder::{Folder, Found};
 pub use names::is_other;
-pub use placing::{Stopped, finish_files, numbers_come_first};
+pub use placing::{Stopped, discard_all, finish_files, numbers_come_first};
 pub use sets::{finish_set, sets_are_never_mixed};

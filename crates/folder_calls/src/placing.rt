@@ -1,6 +1,10 @@
 // Files that are put in place together.
 ghost use Rattle.std.specs.Prelude.{
   ◌≡◌,
+  ◌≤◌,
+  ◌+◌,
+  List,
+  drop,
   true,
   false,
   ℕ,
@@ -35,6 +39,7 @@ ghost use Rattle.folder_calls.specs.Placing.{
   StandsReady,
   IsPlacedFirst,
 };
+ghost use Rattle.folder_calls.specs.Leftovers.{AreGone, AreRenamed, IsRenaming};
 ghost use Rattle.folder_calls.specs.declared.begun.Begun.{Begun};
 
 use crate::begun::Begun;
@@ -83,6 +88,9 @@ pub(crate) fn place<F: Folder>(folder: &mut F, file: &Begun) -> Result<(), Stopp
         (F.moments folder.old))) }
     ensures untouched { IfErr result (λ stopped. stopped.is_untouched ≡ true
         → F.moments folder.new ≡ F.moments folder.old) }
+    ensures renamed { Now (F.moments folder.new) (IsRenaming result (file.now ∷ [])) }
+    ensures stay { (others : List Begun) → Now (F.moments folder.old) (AreRenamed others)
+        → Now (F.moments folder.new) (AreRenamed others) }
 {
     match folder.rename(file.other_name.as_str(), file.name.as_str()) {
         Ok(()) => {}
@@ -110,6 +118,7 @@ pub(crate) fn place<F: Folder>(folder: &mut F, file: &Begun) -> Result<(), Stopp
 fn stopped_at(stopped: Stopped, placed: usize, is_first: bool) -> Stopped
     ensures first { result.is_untouched ≡ true → is_first ≡ true }
     ensures untouched { result.is_untouched ≡ true → stopped.is_untouched ≡ true }
+    ensures renamed { result.renamed ≤ placed + stopped.renamed }
 {
     Stopped {
         at: placed,
@@ -131,6 +140,7 @@ pub fn place_all<F: Folder>(folder: &mut F, begun: &[Begun]) -> Result<(), Stopp
         → F.moments folder.new ≡ F.moments folder.old) }
     ensures keeps { OnOk result ((other : Begun) → Now (F.moments folder.old) (StandsReady other begun.now)
         → Now (F.moments folder.new) (StandsReady other [])) }
+    ensures renamed { Now (F.moments folder.new) (IsRenaming result begun.now) }
 {
     let mut placed = 0usize;
     let mut is_first = true;
@@ -156,7 +166,9 @@ pub(crate) fn flush<F: Folder>(folder: &mut F, file: &Begun) -> io::Result<()>
     folder.flush_file(file.number)
 }
 
-pub(crate) fn not_flushed(at: usize, reason: io::Error) -> Stopped {
+pub(crate) fn not_flushed(at: usize, reason: io::Error) -> Stopped
+    ensures { result.renamed ≡ 0 }
+{
     Stopped {
         at,
         renamed: 0,
@@ -170,6 +182,7 @@ pub(crate) fn flush_all<F: Folder>(folder: &mut F, begun: &[Begun]) -> Result<()
     ensures any_moment { Goes IsFlushedMore
         (F.moments folder.old) (F.moments folder.new) }
     ensures flushed { OnOk result (Now (F.moments folder.new) (AreFlushed begun.now)) }
+    ensures none { IfErr result (λ stopped. stopped.renamed ≡ 0) }
 {
     let mut at = 0usize;
     for file in begun {
@@ -182,29 +195,41 @@ pub(crate) fn flush_all<F: Folder>(folder: &mut F, begun: &[Begun]) -> Result<()
     Ok(())
 }
 
-/// Removes the file under its other name, if it is to be, as far as the system does.
-pub(crate) fn discard<F: Folder>(folder: &mut F, file: &Begun, is_there: bool)
+/// Removes the file under its other name, as far as the system does.
+pub(crate) fn discard<F: Folder>(folder: &mut F, file: &Begun)
     requires { Now (F.moments folder.old) (λ w. HaveOtherNames (file.now ∷ [])) }
     ensures any_moment { Goes IsFewer
         (F.moments folder.old) (F.moments folder.new) }
+    ensures gone { Now (F.moments folder.new)
+        (AreGone (F.removal_failed folder.new) (file.now ∷ [])) }
+    ensures stay { (others : List Begun)
+        → Now (F.moments folder.old) (AreGone (F.removal_failed folder.old) others)
+        → Now (F.moments folder.new) (AreGone (F.removal_failed folder.new) others) }
 {
-    if is_there {
-        let _ = folder.remove(file.other_name.as_str());
-    }
+    let _ = folder.remove(file.other_name.as_str());
 }
 
-/// Removes the files after the first `renamed` ones under their other names, as far as the system
-/// does.
-pub(crate) fn discard_all<F: Folder>(folder: &mut F, begun: &[Begun], renamed: usize)
+/// Removes the files under their other names, as far as the system does.
+pub fn discard_all<F: Folder>(folder: &mut F, begun: &[Begun])
     requires { Now (F.moments folder.old) (λ w. HaveOtherNames begun.now) }
     ensures any_moment { Goes IsFewer
         (F.moments folder.old) (F.moments folder.new) }
+    ensures gone { Now (F.moments folder.new)
+        (AreGone (F.removal_failed folder.new) begun.now) }
+    ensures stay { (others : List Begun)
+        → Now (F.moments folder.old) (AreGone (F.removal_failed folder.old) others)
+        → Now (F.moments folder.new) (AreGone (F.removal_failed folder.new) others) }
 {
-    let mut at = 0usize;
     for file in begun {
-        discard(folder, file, at >= renamed);
-        at = at.saturating_add(1);
+        discard(folder, file);
     }
+}
+
+/// The files after the first `renamed` ones.
+pub(crate) fn left_after(begun: &[Begun], renamed: usize) -> &[Begun]
+    ensures { result.now ≡ drop renamed begun.now }
+{
+    &begun[renamed.min(begun.len())..]
 }
 
 fn flush_and_place<F: Folder>(folder: &mut F, begun: &[Begun]) -> Result<(), Stopped>
@@ -213,6 +238,7 @@ fn flush_and_place<F: Folder>(folder: &mut F, begun: &[Begun]) -> Result<(), Sto
         (F.moments folder.old) (F.moments folder.new) }
     ensures placed { OnOk result (Now (F.moments folder.old) (λ first.
         Now (F.moments folder.new) (AllInPlace begun.now first))) }
+    ensures renamed { Now (F.moments folder.new) (IsRenaming result begun.now) }
 {
     flush_all(folder, begun)?;
     place_all(folder, begun)
@@ -226,11 +252,13 @@ pub fn finish_files<F: Folder>(folder: &mut F, begun: &[Begun]) -> Result<(), St
         (F.moments folder.old) (F.moments folder.new) }
     ensures placed { OnOk result (Now (F.moments folder.old) (λ first.
         Now (F.moments folder.new) (AllInPlace begun.now first))) }
+    ensures gone { Now (F.moments folder.new)
+        (AreGone (F.removal_failed folder.new) begun.now) }
 {
     match flush_and_place(folder, begun) {
         Ok(()) => Ok(()),
         Err(stopped) => {
-            discard_all(folder, begun, stopped.renamed);
+            discard_all(folder, left_after(begun, stopped.renamed));
             Err(stopped)
         }
     }

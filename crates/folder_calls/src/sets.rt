@@ -1,12 +1,17 @@
 // Files that belong together: the first is the mark of the set.
 ghost use Rattle.std.specs.Prelude.{
   ◌≡◌,
+  ◌≤◌,
+  ◌+◌,
+  ◌++◌,
   true,
   false,
+  List,
   OnOk,
   IfErr,
   [],
   ◌∷◌,
+  take,
   string_bytes,
   None,
 };
@@ -22,11 +27,15 @@ ghost use Rattle.folder_calls.specs.Placing.{
 };
 ghost use Rattle.folder_calls.specs.Sets.{IsWholeSet, IsGone, IsNeverMixed};
 ghost use Rattle.folder_calls.specs.Asides.{AreElsewhere};
+ghost use Rattle.folder_calls.specs.Leftovers.{AreGone, AreRenamed, IsRenaming};
+ghost use Rattle.folder_calls.specs.declared.begun.Begun.{Begun};
 
 use crate::begun::Begun;
 use crate::folder::Folder;
 use crate::names::is_other;
-use crate::placing::{Stopped, discard, discard_all, flush, flush_all, place, place_all};
+use crate::placing::{
+    Stopped, discard, discard_all, flush, flush_all, left_after, place, place_all,
+};
 use std::io::{self, ErrorKind};
 
 /// Where a crash leaves a mark, it leaves all others old, or all others new.
@@ -58,7 +67,9 @@ fn is_free(aside: &str, mark: &Begun, rest: &[Begun]) -> bool
 }
 
 /// A failure with the mark, before any file was renamed.
-fn at_mark(others: usize, reason: io::Error) -> Stopped {
+fn at_mark(others: usize, reason: io::Error) -> Stopped
+    ensures { result.renamed ≡ 0 }
+{
     Stopped {
         at: others,
         renamed: 0,
@@ -69,7 +80,8 @@ fn at_mark(others: usize, reason: io::Error) -> Stopped {
 
 /// The same of the mark, which comes after the others.
 fn after_others(failed: Stopped, others: usize) -> Stopped
-    ensures { result.is_untouched ≡ false }
+    ensures untouched { result.is_untouched ≡ false }
+    ensures renamed { result.renamed ≤ others + failed.renamed }
 {
     Stopped {
         at: others,
@@ -90,6 +102,8 @@ fn place_set<F: Folder>(folder: &mut F, mark: &Begun, rest: &[Begun]) -> Result<
         Now (F.moments folder.new) (AllInPlace (mark.now ∷ rest.now) first))) }
     ensures untouched { IfErr result (λ stopped. stopped.is_untouched ≡ true
         → F.moments folder.new ≡ F.moments folder.old) }
+    ensures renamed { Now (F.moments folder.new)
+        (IsRenaming result (rest.now ++ mark.now ∷ [])) }
 {
     place_all(folder, rest)?;
     match place(folder, mark) {
@@ -107,6 +121,8 @@ fn place_new<F: Folder>(folder: &mut F, mark: &Begun, rest: &[Begun]) -> Result<
         (F.moments folder.old) (F.moments folder.new) }
     ensures placed { OnOk result (Now (F.moments folder.old) (λ first.
         Now (F.moments folder.new) (AllInPlace (mark.now ∷ rest.now) first))) }
+    ensures renamed { Now (F.moments folder.new)
+        (IsRenaming result (rest.now ++ mark.now ∷ [])) }
 {
     match folder.flush_name(mark.name.as_str()) {
         Ok(()) => {}
@@ -139,6 +155,8 @@ fn replace<F: Folder>(
         (F.moments folder.old) (F.moments folder.new) }
     ensures placed { OnOk result (Now (F.moments folder.old) (λ first.
         Now (F.moments folder.new) (AllInPlace (mark.now ∷ rest.now) first))) }
+    ensures renamed { Now (F.moments folder.new)
+        (IsRenaming result (rest.now ++ mark.now ∷ [])) }
 {
     match folder.rename(mark.name.as_str(), aside) {
         Ok(()) => {}
@@ -178,6 +196,8 @@ fn place_flushed<F: Folder>(
         (F.moments folder.old) (F.moments folder.new) }
     ensures placed { OnOk result (Now (F.moments folder.old) (λ first.
         Now (F.moments folder.new) (AllInPlace (mark.now ∷ rest.now) first))) }
+    ensures renamed { Now (F.moments folder.new)
+        (IsRenaming result (rest.now ++ mark.now ∷ [])) }
 {
     match folder.look(mark.name.as_str()) {
         Ok(Some(_)) => replace(folder, mark, rest, aside),
@@ -200,6 +220,8 @@ fn flush_and_place_set<F: Folder>(
         (F.moments folder.old) (F.moments folder.new) }
     ensures placed { OnOk result (Now (F.moments folder.old) (λ first.
         Now (F.moments folder.new) (AllInPlace (mark.now ∷ rest.now) first))) }
+    ensures renamed { Now (F.moments folder.new)
+        (IsRenaming result (rest.now ++ mark.now ∷ [])) }
 {
     flush_set(folder, mark, rest)?;
     place_flushed(folder, mark, rest, aside)
@@ -211,6 +233,7 @@ fn flush_set<F: Folder>(folder: &mut F, mark: &Begun, rest: &[Begun]) -> Result<
         (F.moments folder.old) (F.moments folder.new) }
     ensures flushed { OnOk result
         (Now (F.moments folder.new) (AreFlushed (mark.now ∷ rest.now))) }
+    ensures none { IfErr result (λ stopped. stopped.renamed ≡ 0) }
 {
     flush_all(folder, rest)?;
     match flush(folder, mark) {
@@ -223,22 +246,28 @@ fn flush_set<F: Folder>(folder: &mut F, mark: &Begun, rest: &[Begun]) -> Result<
 /// system does.
 fn clear<F: Folder>(folder: &mut F, name: &str, is_there: bool)
     requires { is_other_name name.now ≡ true }
-    ensures { Goes IsFewer (F.moments folder.old) (F.moments folder.new) }
+    ensures any_moment { Goes IsFewer (F.moments folder.old) (F.moments folder.new) }
+    ensures stay { (others : List Begun) → Now (F.moments folder.old) (AreRenamed others)
+        → Now (F.moments folder.new) (AreRenamed others) }
 {
     if is_there {
         let _ = folder.remove(name);
     }
 }
 
-/// Removes the files of a set that aren't in place, and the mark that was set aside where some are.
-fn give_up<F: Folder>(folder: &mut F, mark: &Begun, rest: &[Begun], aside: &str, renamed: usize)
-    requires other { is_other_name aside.now ≡ true }
+/// Removes the files of a set that aren't in place, of which the first `renamed` ones are.
+fn give_up<F: Folder>(folder: &mut F, mark: &Begun, rest: &[Begun], renamed: usize)
     requires others { Now (F.moments folder.old) (λ w. HaveOtherNames (mark.now ∷ rest.now)) }
-    ensures { Goes IsFewer (F.moments folder.old) (F.moments folder.new) }
+    requires renamed { Now (F.moments folder.old)
+        (AreRenamed (take renamed (rest.now ++ mark.now ∷ []))) }
+    ensures any_moment { Goes IsFewer (F.moments folder.old) (F.moments folder.new) }
+    ensures gone { Now (F.moments folder.new)
+        (AreGone (F.removal_failed folder.new) (mark.now ∷ rest.now)) }
 {
-    clear(folder, aside, renamed > 0);
-    discard_all(folder, rest, renamed);
-    discard(folder, mark, renamed <= rest.len());
+    discard_all(folder, left_after(rest, renamed));
+    if renamed <= rest.len() {
+        discard(folder, mark);
+    }
 }
 
 /// Puts a set in place: the mark's name is taken away first and placed last, so that the set is old,
@@ -255,8 +284,11 @@ pub fn finish_set<F: Folder>(
         (F.moments folder.old) (F.moments folder.new) }
     ensures placed { OnOk result (Now (F.moments folder.old) (λ first.
         Now (F.moments folder.new) (AllInPlace (mark.now ∷ rest.now) first))) }
+    ensures gone { Now (F.moments folder.new)
+        (AreGone (F.removal_failed folder.new) (mark.now ∷ rest.now)) }
 {
     if !is_free(aside, mark, rest) {
+        give_up(folder, mark, rest, 0);
         return Err(at_mark(rest.len(), io::Error::from(ErrorKind::AlreadyExists)));
     }
     match flush_and_place_set(folder, mark, rest, aside) {
@@ -265,7 +297,8 @@ pub fn finish_set<F: Folder>(
             Ok(())
         }
         Err(stopped) => {
-            give_up(folder, mark, rest, aside, stopped.renamed);
+            clear(folder, aside, stopped.renamed > 0);
+            give_up(folder, mark, rest, stopped.renamed);
             Err(stopped)
         }
     }

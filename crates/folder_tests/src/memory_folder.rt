@@ -3,6 +3,8 @@ ghost use Rattle.std.specs.Prelude.{
   ◌≡◌,
   ◌<◌,
   ◌≤◌,
+  true,
+  is_ok,
   OnErr,
   IfOk,
   length,
@@ -15,8 +17,10 @@ ghost use Rattle.folder_calls.specs.World.{
   IsClear,
   GivesPart,
   IsPieceFrom,
+  Does,
   does,
   longer_by,
+  removed,
 };
 ghost use Rattle.folder_tests.specs.Memory.{moments_of};
 
@@ -35,13 +39,19 @@ pub struct MemoryFolder<'a> {
     alloc: Global,
     disk: &'a mut Disk,
     fault: Option<Fault>,
+    removal_failed: bool,
 }
 
 impl<'a> MemoryFolder<'a> {
     /// A folder on this disk. An append, and a call that takes all bytes from a file, fails having
     /// done nothing.
     pub fn make(alloc: Global, disk: &'a mut Disk, fault: Option<Fault>) -> MemoryFolder<'a> {
-        MemoryFolder { alloc, disk, fault }
+        MemoryFolder {
+            alloc,
+            disk,
+            fault,
+            removal_failed: false,
+        }
     }
 }
 
@@ -122,10 +132,22 @@ fn append(alloc: Global, disk: &mut Disk, number: u64, piece: &[u8]) -> io::Resu
     Ok(piece.len())
 }
 
+/// Removes what has the name, or fails having done it or not, as it is to end.
+fn remove(alloc: Global, disk: &mut Disk, name: &str, ending: Ending) -> io::Result<()>
+    ensures { Does (removed name.now) (is_ok result)
+        (moments_of (disk.old).calls.items) (moments_of (disk.new).calls.items) }
+{
+    let call = removing(alloc, name)?;
+    perform_as(disk, call, ending)
+}
+
 impl<'a> Folder for MemoryFolder<'a> {
+    ghost use Rattle.std.specs.Prelude.{◌≡◌, true};
     ghost use Rattle.folder_tests.specs.Memory.{moments_of};
 
     ghost moments = { λ m. moments_of (m.disk.now).calls.items };
+
+    ghost removal_failed = { λ m _. m.removal_failed ≡ true };
 
     fn look(&mut self, name: &str) -> io::Result<Option<Found>> {
         if !succeeds(self.disk, self.fault) {
@@ -196,8 +218,13 @@ impl<'a> Folder for MemoryFolder<'a> {
 
     fn remove(&mut self, name: &str) -> io::Result<()> {
         let ending = next(self.disk, self.fault);
-        let call = removing(self.alloc, name)?;
-        perform_as(self.disk, call, ending)
+        match remove(self.alloc, self.disk, name, ending) {
+            Ok(()) => Ok(()),
+            Err(reason) => {
+                self.removal_failed = true;
+                Err(reason)
+            }
+        }
     }
 
     fn flush_name(&mut self, name: &str) -> io::Result<()> {

@@ -30,14 +30,13 @@ use std::rt::Files;
 ///
 /// The other name of a file is always the same, and the system's lock is on it. So a second program
 /// that writes the file fails, and what a program left there that was ended is removed by the next.
-/// Nor is a file created that was read since the last `finish`, if another program has written it
-/// meanwhile.
+/// Nor is a file created that was read, if another program has written it meanwhile.
 ///
-/// Only a regular file is replaced that its owner may write, that wasn't read since the last
-/// `finish`, and that isn't of another kind that commands write. It keeps its permission bits and,
-/// where the system allows that, its owner. A file whose name ends with `.office` holds a secret:
-/// only its owner can read it, it is neither read nor replaced where it is a link or has another
-/// name too, and it is replaced though it was read.
+/// Only a regular file is replaced that its owner may write, that wasn't read, and that isn't of
+/// another kind that commands write. What a `finish` put in place counts as not read. A replaced
+/// file keeps its permission bits and, where the system allows that, its owner. A file whose name
+/// ends with `.office` holds a secret: only its owner can read it, it is neither read nor replaced
+/// where it is a link or has another name too, and it is replaced though it was read.
 #[derive(Drop)]
 pub struct FolderStore<'a, R> {
     rt: &'a R,
@@ -167,7 +166,6 @@ impl<'a, R: Files<File = File> + AllocGlobal> Store for FolderStore<'a, R> {
     }
 
     fn finish(&mut self) -> Result<(), Failed> {
-        self.folder.forget_reads();
         match place(&mut self.folder, &mut self.files) {
             Ok(()) => Ok(()),
             Err(unplaced) => {

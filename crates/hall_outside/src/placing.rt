@@ -1,12 +1,13 @@
 // Files that were begun, put in place or given up.
 ghost use Rattle.std.specs.Prelude.{◌≡◌, [], OnOk, OnErr};
 ghost use Rattle.folder_calls.specs.World.{Now, Goes};
-ghost use Rattle.folder_calls.specs.Placing.{StandsInOrder, shown_files};
+ghost use Rattle.folder_calls.specs.Placing.{StandsInOrder, IsFewer, HaveOtherNames, shown_files};
 ghost use Rattle.folder_calls.specs.Sets.{IsPlacing};
+ghost use Rattle.folder_calls.specs.Leftovers.{AreGone};
 
 use crate::begun_files::BegunFiles;
 use crate::failure::Failure;
-use folder_calls::{Begun, Folder, finish};
+use folder_calls::{Begun, Folder, discard_all, finish};
 use std::alloc::Global;
 use std::io;
 
@@ -37,6 +38,8 @@ fn finish_begun<F: Folder>(folder: &mut F, begun: &[Begun], aside: &str) -> Resu
         ≡ shown_files begun.now (F.moments folder.old) }
     ensures any_moment { Goes (IsPlacing begun.now)
         (F.moments folder.old) (F.moments folder.new) }
+    ensures gone { Now (F.moments folder.new)
+        (AreGone (F.removal_failed folder.new) begun.now) }
 {
     match finish(folder, begun, aside) {
         Ok(()) => {
@@ -63,13 +66,18 @@ pub(crate) fn place<F: Folder>(folder: &mut F, files: &mut BegunFiles) -> Result
         ≡ shown_files files.old.begun.items (F.moments folder.old) }
     ensures any_moment { Goes (IsPlacing files.old.begun.items)
         (F.moments folder.old) (F.moments folder.new) }
+    ensures gone { Now (F.moments folder.new)
+        (AreGone (F.removal_failed folder.new) files.old.begun.items) }
 {
     match files.name_aside() {
         Ok(()) => place_named(folder, files),
-        Err(refused) => Err(Unplaced {
-            at: 0,
-            reason: io::Error::from(refused),
-        }),
+        Err(refused) => {
+            remove_all(folder, files.begun.as_slice());
+            Err(Unplaced {
+                at: 0,
+                reason: io::Error::from(refused),
+            })
+        }
     }
 }
 
@@ -83,17 +91,31 @@ fn place_named<F: Folder>(folder: &mut F, files: &mut BegunFiles) -> Result<(), 
         ≡ shown_files files.old.begun.items (F.moments folder.old) }
     ensures any_moment { Goes (IsPlacing files.old.begun.items)
         (F.moments folder.old) (F.moments folder.new) }
+    ensures gone { Now (F.moments folder.new)
+        (AreGone (F.removal_failed folder.new) files.old.begun.items) }
 {
     finish_begun(folder, files.begun.as_slice(), files.aside.as_str())?;
     files.clear();
     Ok(())
 }
 
-/// Gives all files up, and removes them.
-pub(crate) fn discard<F: Folder>(folder: &mut F, files: &mut BegunFiles) {
-    for file in files.begun.as_slice() {
-        let _ = folder.remove(file.other_name.as_str());
-    }
+/// Removes the files, and closes them.
+fn remove_all<F: Folder>(folder: &mut F, begun: &[Begun])
+    requires { Now (F.moments folder.old) (λ w. HaveOtherNames begun.now) }
+    ensures any_moment { Goes IsFewer (F.moments folder.old) (F.moments folder.new) }
+    ensures gone { Now (F.moments folder.new)
+        (AreGone (F.removal_failed folder.new) begun.now) }
+{
+    discard_all(folder, begun);
     folder.close();
+}
+
+/// Gives all files up, and removes them.
+pub(crate) fn discard<F: Folder>(folder: &mut F, files: &mut BegunFiles)
+    requires { Now (F.moments folder.old) (λ w. HaveOtherNames files.old.begun.items) }
+    ensures gone { Now (F.moments folder.new)
+        (AreGone (F.removal_failed folder.new) files.old.begun.items) }
+{
+    remove_all(folder, files.begun.as_slice());
     files.clear();
 }

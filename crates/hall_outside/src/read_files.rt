@@ -1,4 +1,6 @@
 // Files that were read, so that none is replaced that another program has written since.
+ghost use Rattle.std.specs.Prelude.{◌≡◌, true, ℕ, List, IfOk, OnOk};
+ghost use Rattle.hall_outside.specs.LookingBack.{IsAsRead, AreAsRead, AreAllAsRead};
 
 use crate::calls::again;
 use std::alloc::{AllocError, Global};
@@ -35,6 +37,33 @@ impl Identity {
             written: (file.mtime(), file.mtime_nsec()),
             changed: (file.ctime(), file.ctime_nsec()),
         }
+    }
+}
+
+/// What says whether names still stand for the files that they stood for.
+pub(crate) trait LookBack {
+    ghost use Rattle.hall_outside.specs.declared.read_files.Identity.{Identity};
+
+    /// The system has said that the name still stands for this file.
+    ghost still: { Self → List ℕ → Identity → Type 0 };
+
+    fn is_still(&self, name: &str, found: &Identity) -> io::Result<bool>
+        ensures { IfOk result (λ is. is ≡ true → still self.now name.now found.now) };
+}
+
+/// The names of the system.
+#[derive(Drop)]
+pub(crate) struct SystemNames<'a, R> {
+    pub rt: &'a R,
+}
+
+impl<'a, R: Files> LookBack for SystemNames<'a, R> {
+    ghost use Rattle.std.specs.Prelude.{⊤};
+
+    ghost still = { λ _ _ _. ⊤ };
+
+    fn is_still(&self, name: &str, found: &Identity) -> io::Result<bool> {
+        Ok(identity_at(self.rt, name)? == Some(*found))
     }
 }
 
@@ -76,9 +105,14 @@ impl ReadFiles {
         })
     }
 
-    /// Forgets the files.
-    pub fn clear(&mut self) {
-        self.count = 0;
+    /// Forgets what had the name.
+    pub fn forget(&mut self, name: &str) {
+        for file in self.places.iter_mut().take(self.count) {
+            if file.name.as_str() == name {
+                file.found = None;
+                file.name.clear();
+            }
+        }
     }
 
     /// Keeps what had the name, unless it was read before.
@@ -125,20 +159,35 @@ impl ReadFiles {
 
     /// Fails with `ResourceBusy` where a regular file that was read isn't what its name stands for
     /// now. So files that are replaced together are read together: all old, or all new.
-    pub fn require_all_unchanged<R: Files>(&self, rt: &R) -> io::Result<()> {
-        for file in self.places.iter().take(self.count) {
-            if is_regular(&file.found) && file.found != identity_at(rt, file.name.as_str())? {
-                return Err(busy("a file that was read before it has changed since: try again"));
-            }
+    pub fn require_all_unchanged<L: LookBack>(&self, names: &L) -> io::Result<()>
+        ensures { OnOk result (AreAllAsRead (L.still names.now) self.now) }
+    {
+        if are_as_read(names, &self.places[..self.count.min(self.places.len())])? {
+            return Ok(());
         }
-        Ok(())
+        Err(busy("a file that was read before it has changed since: try again"))
     }
 }
 
-fn is_regular(found: &Option<Identity>) -> bool {
-    match found {
-        Some(found) => found.is_regular,
-        None => false,
+/// Whether each of these is as it was read.
+fn are_as_read<L: LookBack>(names: &L, files: &[ReadFile]) -> io::Result<bool>
+    ensures { IfOk result (λ are. are ≡ true → AreAsRead (L.still names.now) files.now) }
+{
+    for file in files {
+        if !is_as_read(names, file)? {
+            return Ok(false);
+        }
+    }
+    Ok(true)
+}
+
+/// Whether the file is as it was read. What isn't a regular file, as a pipe, can't be said to be.
+fn is_as_read<L: LookBack>(names: &L, file: &ReadFile) -> io::Result<bool>
+    ensures { IfOk result (λ is. is ≡ true → IsAsRead (L.still names.now) file.now) }
+{
+    match &file.found {
+        Some(found) if found.is_regular => names.is_still(file.name.as_str(), found),
+        _ => Ok(true),
     }
 }
 

@@ -1,9 +1,10 @@
 // Files of the system, as they are opened and read.
-ghost use Rattle.std.specs.Prelude.{◌≤◌, [], length, IfOk, Some};
+ghost use Rattle.std.specs.Prelude.{◌≤◌, [], length, IfOk, IfSome, Some};
 ghost use Rattle.folder_calls.specs.World.{GivesPart};
+ghost use Rattle.hall_outside.specs.LookingBack.{AreAllAsRead};
 
 use crate::calls::again;
-use crate::read_files::{Identity, ROOM, ReadFiles};
+use crate::read_files::{Identity, LookBack, ROOM, ReadFiles, SystemNames};
 use crate::replacing::open_to_read;
 use std::alloc::{AllocError, Global};
 use std::fs::File;
@@ -81,7 +82,7 @@ fn reading_at<R: Files<File = File>>(
         return Ok(open);
     }
     last.keep_name(name)?;
-    opened_at(rt, read, name, at)
+    opened_at(rt, &SystemNames { rt }, read, name, at)
 }
 
 /// Reads the next bytes, and keeps the file open.
@@ -100,12 +101,15 @@ fn read_on<F: Read + Drop>(
 
 /// The file, open at this byte, or `None` where the system says that there is none. It fails where
 /// a file that was read before has changed.
-fn opened_at<R: Files<File = File>>(
+fn opened_at<R: Files<File = File>, L: LookBack>(
     rt: &R,
+    names: &L,
     read: &mut ReadFiles,
     name: &str,
     at: u64,
-) -> io::Result<Option<Reading<File>>> {
+) -> io::Result<Option<Reading<File>>>
+    ensures { IfOk result (λ reading. IfSome reading (λ _. AreAllAsRead (L.still names.now) read.new)) }
+{
     let mut file = match open_to_read(rt, name) {
         Ok(file) => file,
         Err(error) if error.kind() == ErrorKind::NotFound => {
@@ -116,7 +120,7 @@ fn opened_at<R: Files<File = File>>(
     };
     let found = again(|| file.metadata())?;
     read.note(name, Some(Identity::of(&found)))?;
-    read.require_all_unchanged(rt)?;
+    read.require_all_unchanged(names)?;
     if at > 0 {
         file.seek(SeekFrom::Start(at))?;
     }

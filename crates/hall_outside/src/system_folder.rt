@@ -46,15 +46,12 @@ impl<'a, R: AllocGlobal> SystemFolder<'a, R> {
     }
 }
 
-impl<'a, R> SystemFolder<'a, R> {
-    /// Forgets which files were read.
-    pub fn forget_reads(&mut self) {
-        self.read.clear();
-    }
-}
-
 impl<'a, R: Files<File = File>> Folder for SystemFolder<'a, R> {
+    ghost use Rattle.std.specs.Prelude.{⊤};
+
     ghost moments = { λ _. [] };
+
+    ghost removal_failed = { λ _ _. ⊤ };
 
     fn look(&mut self, name: &str) -> io::Result<Option<Found>> {
         match look_for(self.rt, name)? {
@@ -116,7 +113,10 @@ impl<'a, R: Files<File = File>> Folder for SystemFolder<'a, R> {
     }
 
     fn rename(&mut self, from: &str, to: &str) -> io::Result<()> {
-        rename(self.rt, from, to)
+        rename(self.rt, from, to)?;
+        // What was read under this name doesn't have it any more.
+        self.read.forget(to);
+        Ok(())
     }
 
     fn remove(&mut self, name: &str) -> io::Result<()> {

@@ -1,12 +1,18 @@
-use Rattle.std.proofs.Common.{drop}
+use Rattle.std.proofs.Common.{List, take, drop}
 use Rattle.folder_calls.specs.World.{Goes, Now}
 use Rattle.folder_calls.specs.Placing.{IsFewer, HaveOtherNames}
+use Rattle.folder_calls.specs.Leftovers.{AreGone}
+use Rattle.folder_calls.specs.declared.begun.Begun.{Begun}
 use Rattle.folder_calls.proofs.placing.discard_all.Given as goal
 
 abbrev pub invariant-loop-file : goal.invariant-loop-file
 invariant-loop-file g l =
     let moments = g.F.Folder.moments in
+    let failed = g.F.Folder.removal_failed in
     record {
       others : Now (moments l.fn.folder) (λ w. HaveOtherNames (drop l.file-index l.begun));
       any_moment : Goes IsFewer (moments l.fn.folder) (moments l.folder);
+      gone : Now (moments l.folder) (AreGone (failed l.folder) (take l.file-index l.begun));
+      stay : (others : List Begun) → Now (moments l.fn.folder) (AreGone (failed l.fn.folder) others)
+          → Now (moments l.folder) (AreGone (failed l.folder) others);
     }

@@ -2,6 +2,11 @@ use Rattle.std.proofs.Common.{◌∙◌, [], ◌∷◌, sym, subst}
 use Rattle.folder_calls.specs.World.{Goes}
 use Rattle.folder_calls.specs.Placing.{IsOldOrNew}
 use Rattle.folder_calls.proofs.Steps.{one_renamed, one_placed, unmoved}
+use Rattle.std.proofs.Common.{refl}
+use Rattle.std.specs.Prelude.{string_bytes}
+use Rattle.folder_calls.specs.World.{Now}
+use Rattle.folder_calls.specs.Leftovers.{AreRenamed}
+use Rattle.folder_calls.proofs.Renames.{one_moved, one_first, none_first, stay_named, stay_renamed, flush_adds_none}
 use Rattle.folder_calls.proofs.placing.place.Goals as goal
 
 pub returns-in-Err-clause-any_moment : goal.returns-in-Err-clause-any_moment
@@ -35,3 +40,46 @@ returns-in-Ok-flush_name-clause-any_moment g c =
     (moments c.flush_name.new.self) c.requires.begun c.requires.flushed
     (rw (c.as_str.ensures.value, c.as_str-2.ensures.value) at c.in-Ok.ensures.did)
     (rw c.as_str-3.ensures.value at c.flush_name.ensures.did)
+
+pub returns-in-Err-clause-renamed : goal.returns-in-Err-clause-renamed
+returns-in-Err-clause-renamed g c = none_first 0 (c.args.file.now ∷ []) (g.F.Folder.moments c.stands.new.folder) refl
+
+pub returns-in-Err-clause-stay : goal.returns-in-Err-clause-stay
+returns-in-Err-clause-stay g c = λ others are.
+    let moments = g.F.Folder.moments in
+    subst (λ n. Now n (AreRenamed others)) (sym c.stands.ensures.same)
+    (stay_named c.args.file.now _ (moments c.args.folder.now) (moments c.rename.new.self) c.requires.begun
+    (rw (c.as_str.ensures.value, c.as_str-2.ensures.value) at c.rename.ensures.did) others are)
+
+pub returns-in-Err-flush_name-clause-renamed : goal.returns-in-Err-flush_name-clause-renamed
+returns-in-Err-flush_name-clause-renamed g c =
+    let moments = g.F.Folder.moments in
+    one_first c.args.file.now (moments c.flush_name.new.self)
+    (one_moved c.args.file.now _ (moments c.args.folder.now) (moments c.rename.new.self)
+    (moments c.flush_name.new.self) c.requires.begun
+    (rw (c.as_str.ensures.value, c.as_str-2.ensures.value) at c.in-Ok.ensures.did)
+    (rw c.as_str-3.ensures.value at c.flush_name.ensures.did))
+
+pub returns-in-Ok-flush_name-clause-renamed : goal.returns-in-Ok-flush_name-clause-renamed
+returns-in-Ok-flush_name-clause-renamed g c =
+    let moments = g.F.Folder.moments in
+    one_moved c.args.file.now _ (moments c.args.folder.now) (moments c.rename.new.self)
+    (moments c.flush_name.new.self) c.requires.begun
+    (rw (c.as_str.ensures.value, c.as_str-2.ensures.value) at c.in-Ok.ensures.did)
+    (rw c.as_str-3.ensures.value at c.flush_name.ensures.did)
+
+pub returns-in-Err-flush_name-clause-stay : goal.returns-in-Err-flush_name-clause-stay
+returns-in-Err-flush_name-clause-stay g c = λ others are.
+    let moments = g.F.Folder.moments in
+    stay_renamed _ _ (flush_adds_none (string_bytes c.args.file.now.name)) others (moments c.rename.new.self)
+    (moments c.flush_name.new.self) (rw c.as_str-3.ensures.value at c.flush_name.ensures.did)
+    (stay_named c.args.file.now _ (moments c.args.folder.now) (moments c.rename.new.self) c.requires.begun
+    (rw (c.as_str.ensures.value, c.as_str-2.ensures.value) at c.rename.ensures.did) others are)
+
+pub returns-in-Ok-flush_name-clause-stay : goal.returns-in-Ok-flush_name-clause-stay
+returns-in-Ok-flush_name-clause-stay g c = λ others are.
+    let moments = g.F.Folder.moments in
+    stay_renamed _ _ (flush_adds_none (string_bytes c.args.file.now.name)) others (moments c.rename.new.self)
+    (moments c.flush_name.new.self) (rw c.as_str-3.ensures.value at c.flush_name.ensures.did)
+    (stay_named c.args.file.now _ (moments c.args.folder.now) (moments c.rename.new.self) c.requires.begun
+    (rw (c.as_str.ensures.value, c.as_str-2.ensures.value) at c.rename.ensures.did) others are)

@@ -1,7 +1,8 @@
-use Rattle.std.proofs.Common.{◌≡◌, true, drop}
+use Rattle.std.proofs.Common.{◌≡◌, ◌≤◌, true, take, drop}
 use Rattle.folder_calls.specs.World.{Now}
 use Rattle.folder_calls.specs.Placing.{AreBegun, AreFlushed, StandsReady}
 use Rattle.folder_calls.specs.declared.begun.Begun.{Begun}
+use Rattle.folder_calls.specs.Leftovers.{AreRenamed}
 use Rattle.folder_calls.proofs.Steps.{Completes, CompletesPlaced}
 use Rattle.folder_calls.proofs.placing.place_all.Given as goal
 
@@ -18,4 +19,6 @@ invariant-loop-file g l =
       keeps : (other : Begun) → Now (moments l.fn.folder) (StandsReady other l.begun)
           → Now (moments l.folder) (StandsReady other left);
       untouched : l.is_first ≡ true → moments l.folder ≡ moments l.fn.folder;
+      counted : l.placed ≤ l.file-index;
+      renamed : Now (moments l.folder) (AreRenamed (take l.file-index l.begun));
     }

@@ -1,3 +1,5 @@
+use Rattle.std.proofs.Common.{◌∷◌, ◌++◌, []}
+use Rattle.folder_calls.proofs.Renames.{none_first}
 use Rattle.folder_calls.proofs.Endings.{where_ok}
 use Rattle.folder_calls.proofs.Moves.{goes_flushed, no_move}
 use Rattle.folder_calls.proofs.Wholes.{begun_free, flushed_free, gone_now, goes_aside, after_aside, done_after_aside}
@@ -46,3 +48,7 @@ returns-clause-placed g c =
     where_ok c.place_set.result _ _ (λ done. done_after_aside c.args.mark.now c.args.rest.now a b (moments c.place_set.new.folder)
     (goes_flushed c.args.mark.now _ a a b (no_move c.args.mark.now a) (rw c.as_str.ensures.value at c.flush_name.ensures.did))
     c.place_set.ensures.any_moment done) c.place_set.ensures.placed
+
+pub returns-in-Err-clause-renamed : goal.returns-in-Err-clause-renamed
+returns-in-Err-clause-renamed g c = none_first _ (c.args.rest.now ++ c.args.mark.now ∷ [])
+    (g.F.Folder.moments c.flush_name.new.self) c.at_mark.ensures

@@ -1,6 +1,7 @@
-use Rattle.std.proofs.Common.{◌∙◌, [], sym}
+use Rattle.std.proofs.Common.{◌∙◌, ◌∷◌, [], sym}
 use Rattle.std.proofs.lemmas.Bool.{false≢true}
 use Rattle.folder_calls.proofs.Steps.{one_done}
+use Rattle.folder_calls.proofs.Renames.{longer_renaming, first_all, both_renamed}
 use Rattle.folder_calls.proofs.Wholes.{both_ready, ready_begun, ready_flushed, rest_are_begun, rest_are_flushed, rest_whole, set_whole, set_done}
 use Rattle.folder_calls.proofs.sets.place_set.Goals as goal
 
@@ -58,4 +59,16 @@ returns-in-Ok-clause-placed g c =
     (ready_flushed c.args.mark.now [] (moments c.place_all.new.folder) ready) c.in-Ok.ensures.done)
 
 pub returns-in-Err-clause-untouched : goal.returns-in-Err-clause-untouched
-returns-in-Err-clause-untouched g c = λ h. absurd (false≢true (sym c.after_others.ensures ∙ h))
+returns-in-Err-clause-untouched g c = λ h. absurd (false≢true (sym c.after_others.ensures.untouched ∙ h))
+
+pub returns-in_err-place_all-clause-renamed : goal.returns-in_err-place_all-clause-renamed
+returns-in_err-place_all-clause-renamed g c = longer_renaming c.from_residual.result _ c.args.rest.now (c.args.mark.now ∷ [])
+    (g.F.Folder.moments c.place_all.new.folder) c.from_residual.ensures.1 c.in_err-place_all.ensures.renamed
+
+pub returns-in-Err-clause-renamed : goal.returns-in-Err-clause-renamed
+returns-in-Err-clause-renamed g c = first_all c.args.rest.now c.args.mark.now _ _ (g.F.Folder.moments c.place.new.folder)
+    (c.place.ensures.stay _ c.in_ok-place_all.ensures.renamed) c.in-Err.ensures.renamed c.after_others.ensures.renamed
+
+pub returns-in-Ok-clause-renamed : goal.returns-in-Ok-clause-renamed
+returns-in-Ok-clause-renamed g c = both_renamed c.args.rest.now c.args.mark.now (g.F.Folder.moments c.place.new.folder)
+    (c.place.ensures.stay _ c.in_ok-place_all.ensures.renamed) c.in-Ok.ensures.renamed

@@ -1,7 +1,8 @@
-use Rattle.std.proofs.Common.{false, subst}
+use Rattle.std.proofs.Common.{◌∷◌, ◌++◌, [], false, subst}
 use Rattle.std.specs.Prelude.{string_bytes}
 use Rattle.folder_calls.specs.World.{Does, renamed}
 use Rattle.folder_calls.proofs.Moves.{goes_moved, goes_flushed, goes_restored}
+use Rattle.folder_calls.proofs.Renames.{goes_after, stay_restored}
 use Rattle.folder_calls.proofs.Wholes.{begun_in, flushed_in, gone_in, goes_aside, after_aside, done_after_aside}
 use Rattle.folder_calls.proofs.sets.replace.Goals as goal
 
@@ -92,3 +93,19 @@ returns-else-stopped-clause-any_moment g c =
     (goes_moved c.args.mark.now c.args.aside.now _ a m c.requires.other (rw c.as_str.ensures.value at c.rename.ensures.did))
     (rw c.as_str-2.ensures.value at c.flush_name.ensures.did))
     c.place_set.ensures.any_moment
+
+pub returns-then-stopped-clause-renamed : goal.returns-then-stopped-clause-renamed
+returns-then-stopped-clause-renamed g c =
+    let moments = g.F.Folder.moments in
+    let a = moments c.args.folder.now in
+    let m = moments c.rename.new.self in
+    let n = moments c.flush_name.new.self in
+    let q = moments c.place_set.new.folder in
+    let whole = after_aside c.args.mark.now c.args.rest.now a n q c.requires.begun
+    (goes_flushed c.args.mark.now _ a m n
+    (goes_moved c.args.mark.now c.args.aside.now _ a m c.requires.other (rw c.as_str.ensures.value at c.rename.ensures.did))
+    (rw c.as_str-2.ensures.value at c.flush_name.ensures.did))
+    c.place_set.ensures.any_moment in
+    stay_restored c.args.mark.now c.args.rest.now c.args.aside.now a q (moments c.restore-then-stopped.new.folder)
+    c.requires.begun (goes_after _ a q whole) c.restore-then-stopped.ensures c.in-Err-place_set.stopped.renamed
+    (c.args.rest.now ++ c.args.mark.now ∷ []) c.in-Err-place_set.ensures.renamed
