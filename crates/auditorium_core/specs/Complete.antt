@@ -1,13 +1,15 @@
 -- Completeness: a command whose inputs are all accepted is carried out.
-use Rattle.std.specs.Prelude.{◌≡◌, ◌⊎◌, ℕ, List, Option, ⊤}
+use Rattle.std.specs.Prelude.{◌≡◌, ◌⊎◌, ℕ, List, true, Option, ⊤}
 use Rattle.hall_outside.specs.Counts.{HasRisen}
-use Rattle.evidence.specs.NamedFiles.{OnExposed}
+use Rattle.hall_outside.specs.declared.sinks.Sink.{Ghosts as SinkGhosts}
+use Rattle.hall_outside.specs.declared.stores.Store.{Ghosts as StoreGhosts}
+use Rattle.evidence.specs.NamedFiles.{OnExposed, OnRead}
 use Rattle.auditorium_core.specs.declared.status.Status.{Status}
 use Rattle.auditorium_core.specs.declared.status.Status.TheVariants as status
 use Rattle.auditorium_core.specs.Words.{Command, command_parts, Means}
 use Rattle.auditorium_core.specs.Lines.{Answer}
-use Rattle.auditorium_core.specs.Outside.{Outside}
-use Rattle.auditorium_core.specs.Outcome.{IsUnwritten, IsWritten}
+use Rattle.auditorium_core.specs.Outside.{Outside, outside}
+use Rattle.auditorium_core.specs.Outcome.{IsUnwritten, IsWritten, IsWrittenBy}
 
 -- the statuses of a command that was carried out: 0, 1, 2, 3 and 7
 abbrev pub IsCarriedOut : Status → Type 0
@@ -41,3 +43,31 @@ IsComplete IsDone words old how new =
     (command : Command) → IsDone command → Means words command → HasNoFailure old new →
     OnExposed old.store.files (command_parts command).files (λ files. IsAnsweredOver command files old how new)
     ⊎ ((how ≡ status.Memory) × IsUnwritten old new)
+
+-- The answer is the command's over these files; where they are accepted, the command was carried out.
+pub record IsAnsweredFor (command : Command) (answer : Answer) (how : Status) (files : List (Option (List ℕ)))
+    : Type 0 where
+  pub right : (command_parts command).IsAnswer files answer
+  pub carried_out : (command_parts command).AreAccepted files → IsCarriedOut how
+
+module _ {S K : Type 0} (of_store : StoreGhosts S) (of_sink : SinkGhosts K) where
+  -- The command's files were read, and the answer is its over all files that are such as was found.
+  -- Then all of the answer was written, by calls that each did as it was asked.
+  pub record IsAnsweredAsRead (command : Command) (store : S) (out : K) (how : Status) (store_after : S) (out_after : K)
+      : Type 0 where
+    pub answer : Answer
+    pub told : how ≡ answer.status
+    pub read : S
+    pub right : OnRead of_store (command_parts command).files (IsAnsweredFor command answer how) store read
+    pub written : IsWrittenBy of_store of_sink answer read out true store_after out_after
+
+  -- The same of any store and sink, whether or not they expose anything: where no count of faults
+  -- rose in the call, the command was answered over the files as they were read, or it ran out of
+  -- memory, with nothing written.
+  abbrev pub IsCompleteAsRead : (Command → Type 0) → List (List ℕ) → S → K → Status → S → K → Type 0
+  IsCompleteAsRead IsDone words store out how store_after out_after =
+      let old = outside of_store of_sink store out in
+      let new = outside of_store of_sink store_after out_after in
+      (command : Command) → IsDone command → Means words command → HasNoFailure old new →
+      IsAnsweredAsRead command store out how store_after out_after
+      ⊎ ((how ≡ status.Memory) × IsUnwritten old new)

@@ -9,7 +9,7 @@ ghost use Rattle.auditorium_core.specs.Answer.{AnswersWords, HasItsWords};
 ghost use Rattle.auditorium_core.specs.Outcome.{HasDone, IsGivenBy, IsGivenSomehow};
 ghost use Rattle.auditorium_core.specs.Outside.{Outside, outside};
 ghost use Rattle.auditorium_core.specs.CheckAgrees.{ChecksAgreeWithAudits, ChecksSayNoMore};
-ghost use Rattle.auditorium_core.specs.Complete.{IsComplete};
+ghost use Rattle.auditorium_core.specs.Complete.{IsComplete, IsCompleteAsRead};
 ghost use Rattle.auditorium_core.specs.OneRun.{HistoriesDetermineRuns, WrittenFilesDetermineAnswers};
 ghost use Rattle.auditorium_core.specs.ReadBack.{
   PlaysAreReadBack,
@@ -148,6 +148,35 @@ pub fn answers_are_complete()
     ensures still { (words : List (List ℕ)) (old : Outside) (how : Status) (new : Outside) →
         HasDone IsStill words (IsGivenSomehow old) old how new →
         IsComplete IsStill words old how new }
+{
+    bytes_say_one_log();
+    one_reading_is_right();
+    scripts_are_played_in_one_way();
+    what_is_left_is_told_in_one_way();
+    roster_files_give_one_answer();
+    log_files_give_one_answer();
+    entries_give_one_graph();
+    survivors_are_sound();
+    one_text_is_canonical();
+    proofs_are_read_in_one_way();
+    rules_are_read_in_one_way();
+    files_give_one_report();
+    scripts_are_shown_in_one_way();
+}
+
+/// The same of what was read, whether or not the store exposes its files: so it holds of the
+/// program as it is shipped. It does nothing.
+pub fn answers_as_read_are_complete<S: Store, K: Sink>()
+    ensures any { (words : List (List ℕ)) (store store_after : S) (out out_after : K)
+        (how : Status) →
+        HasDone IsAny words (IsGivenBy S.Store K.Sink store out store_after out_after)
+        (outside S.Store K.Sink store out) how (outside S.Store K.Sink store_after out_after) →
+        IsCompleteAsRead S.Store K.Sink IsAny words store out how store_after out_after }
+    ensures still { (words : List (List ℕ)) (store store_after : S) (out out_after : K)
+        (how : Status) →
+        HasDone IsStill words (IsGivenBy S.Store K.Sink store out store_after out_after)
+        (outside S.Store K.Sink store out) how (outside S.Store K.Sink store_after out_after) →
+        IsCompleteAsRead S.Store K.Sink IsStill words store out how store_after out_after }
 {
     bytes_say_one_log();
     one_reading_is_right();

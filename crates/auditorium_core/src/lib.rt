@@ -37,9 +37,9 @@ mod words;
 mod writing;
 
 pub use laws::{
-    answers_are_complete, answers_are_over_exposed_files, checks_agree_with_audits,
-    checks_say_no_more, histories_determine_answers, one_answer_is_right, only_runs_need_threads,
-    statuses_have_their_words, written_files_are_read_back,
+    answers_are_complete, answers_are_over_exposed_files, answers_as_read_are_complete,
+    checks_agree_with_audits, checks_say_no_more, histories_determine_answers, one_answer_is_right,
+    only_runs_need_threads, statuses_have_their_words, written_files_are_read_back,
 };
 pub use office_laws::{
     endorsements_are_called_good, endorsements_leave_three_states, numbers_sign_once,
