@@ -1,2 +1,3 @@
 mod Imports
 pub mod Pieces
+pub mod LogDigests

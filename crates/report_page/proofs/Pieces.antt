@@ -2,7 +2,7 @@
 use Rattle.report_page.proofs.Imports.{◌≡◌, ◌∙◌, ℕ, zero, suc, ◌+◌, ◌<◌, ◌≤◌, List, [], ◌∷◌, ◌++◌, length, take}
 use Rattle.report_page.proofs.Imports.{get_or, map, ap, sym, append_assoc, append-nil, arith, flat_map, zip}
 use Rattle.report_page.proofs.Imports.{range_with_len, flat_map-append, take_more, take_all, get_or-map, length-map}
-use Rattle.report_page.proofs.Imports.{length-zip, get_or-zip, map-range_with_len_more, map-append}
+use Rattle.report_page.proofs.Imports.{length-zip, get_or-zip, map-range_with_len_more}
 
 range_last : (a n : ℕ) → range_with_len a (suc n) ≡ range_with_len a n ++ (a + n) ∷ []
 range_last a zero = let same : a ≡ a + 0 = omega arith in ap (λ k. k ∷ []) same

@@ -1,5 +1,5 @@
 -- The table of the entries that survive.
-use Rattle.std.specs.Prelude.{ℕ, Bool, false, ◌+◌, if◌then◌else◌, List, [], ◌∷◌, ◌++◌, length, map, codes}
+use Rattle.std.specs.Prelude.{ℕ, Bool, ◌+◌, if◌then◌else◌, List, [], ◌∷◌, ◌++◌, length, map, codes}
 use Rattle.std.specs.Prelude.{Option, Some, None, slice_get}
 use Rattle.std.specs.List.{flat_map, list_any, range_with_len}
 use Rattle.std.specs.Fmt.{decimal}
@@ -28,10 +28,14 @@ session_words other = decimal (session_of other)
 abbrev pub is_in_log : List ℕ → LogRead → Bool
 is_in_log digest log = list_any (λ (kept : Kept). bytes_eq kept.entry.digest digest) log.kept.items
 
+-- the number of the log at a place, from 1, if this is so
+abbrev pub number_if : Bool → ℕ → List ℕ
+number_if so place = if so then decimal (place + 1) ++ codes " " else []
+
 -- the number of the log, from 1, if it has the digest
 abbrev pub holder : List ℕ → ℕ → Option LogRead → List ℕ
 holder digest place None = []
-holder digest place (Some log) = if is_in_log digest log then decimal (place + 1) ++ codes " " else []
+holder digest place (Some log) = number_if (is_in_log digest log) place
 
 -- the numbers of the logs that have the digest
 abbrev pub holders : List LogRead → List ℕ → List ℕ

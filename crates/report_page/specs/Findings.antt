@@ -13,7 +13,7 @@ use Rattle.log_files.specs.declared.plain_log.End.TheVariants.{Clean, Torn, Malf
 use Rattle.log_files.specs.declared.sealed_log.LogRead.{LogRead}
 use Rattle.rule_language.specs.Trees.{RuleTree}
 use Rattle.rule_engine.specs.declared.verdict.Verdict.{Verdict}
-use Rattle.rule_engine.specs.declared.verdict.Verdict.TheVariants.{Kept, Broken, Unsettled}
+use Rattle.rule_engine.specs.declared.verdict.Verdict.TheVariants.{Broken, Unsettled}
 use Rattle.auditor.specs.Report.{AuditReport}
 use Rattle.auditor.specs.ReportText.{maker_name}
 use Rattle.report_page.specs.declared.words.TheConstants.{NEXT_REFUSED, NEXT_MALFORMED, NEXT_BREAK, NEXT_STRAY}

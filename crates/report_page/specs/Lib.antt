@@ -7,3 +7,4 @@ pub mod Entries
 pub mod Tables
 pub mod Sections
 pub mod Page
+pub mod inside

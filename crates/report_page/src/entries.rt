@@ -5,26 +5,30 @@ ghost use Rattle.std.specs.Prelude.{
   ◌∷◌,
   [],
   ◌<◌,
+  ℕ,
+  List,
   IfOk,
   OnOk,
-  Some,
   length,
+  map,
   string_bytes,
 };
 ghost use Rattle.auditor.specs.Report.{report_of};
+ghost use Rattle.report_page.specs.inside.Held.{has};
 ghost use Rattle.report_page.specs.Entries.{
   survivor_row,
   entry_rows,
   held_cells,
-  holder,
   holders,
   is_in_log,
   lost_words,
+  number_if,
   said_cells,
   session_words,
 };
 
 use crate::cell::{TableRow, TableRows, Text, add_linked, add_number, add_text};
+use crate::held::{Held, all_held};
 use crate::names::name_of;
 use crate::words::A_LOST_ONE;
 use auditor::Report;
@@ -53,24 +57,11 @@ fn session_words(alloc: Global, deed: Deed) -> Result<Text, AllocError>
     }
 }
 
-/// Whether a record of the log has the digest.
-fn is_in_log(digest: &[u8; 32], log: &LogRead) -> bool
-    ensures { result ≡ is_in_log digest.now log.now }
+/// Adds the number of the log at a place, if it has the digest.
+fn add_holder(text: &mut String, place: usize, has: bool) -> Result<(), AllocError>
+    ensures { OnOk result (string_bytes text.new ≡ string_bytes text.old ++ number_if has place) }
 {
-    log.kept.iter().any(|kept| kept.entry.digest() == digest)
-}
-
-/// Adds the number of the log, if it has the digest.
-fn add_holder(
-    text: &mut String,
-    place: usize,
-    log: &LogRead,
-    digest: &[u8; 32],
-) -> Result<(), AllocError>
-    ensures { OnOk result (string_bytes text.new ≡ string_bytes text.old
-        ++ holder digest.now place (Some log.now)) }
-{
-    if is_in_log(digest, log) {
+    if has {
         let number = place as u128 + 1;
         write!(text, "{number} ")
     } else {
@@ -79,12 +70,18 @@ fn add_holder(
 }
 
 /// The numbers of the logs that have the digest.
-fn holders(alloc: Global, logs: &[LogRead], digest: &[u8; 32]) -> Result<String, AllocError>
+fn holders(
+    alloc: Global,
+    logs: &[LogRead],
+    held: &[Held],
+    digest: &[u8; 32],
+) -> Result<String, AllocError>
+    requires { (d : List ℕ) → map (λ one. has one d) held.now ≡ map (is_in_log d) logs.now }
     ensures { IfOk result (λ text. string_bytes text ≡ holders logs.now digest.now) }
 {
     let mut text = String::new(alloc);
-    for place in 0..logs.len() {
-        add_holder(&mut text, place, &logs[place], digest)?;
+    for place in 0..held.len() {
+        add_holder(&mut text, place, held[place].has(digest))?;
     }
     Ok(text)
 }
@@ -119,12 +116,15 @@ fn add_held(
     row: &mut TableRow,
     alloc: Global,
     report: &Report,
+    held: &[Held],
     sealed: &Sealed,
 ) -> Result<(), AllocError>
+    requires { (d : List ℕ) → map (λ one. has one d) held.now
+        ≡ map (is_in_log d) (report_of report.now).logs }
     ensures { OnOk result (row.new ≡ row.old ++ held_cells (report_of report.now) sealed.now) }
 {
     let digits = hex::encode(alloc, *sealed.digest())?;
-    let holders = holders(alloc, report.logs(), sealed.digest())?;
+    let holders = holders(alloc, report.logs(), held, sealed.digest())?;
     add_text(row, alloc, digits.as_bytes())?;
     add_text(row, alloc, holders.as_bytes())
 }
@@ -134,9 +134,12 @@ fn add_entry(
     rows: &mut TableRows,
     alloc: Global,
     report: &Report,
+    held: &[Held],
     place: usize,
 ) -> Result<(), AllocError>
-    requires { place < length (report_of report.now).graph.survivors }
+    requires within { place < length (report_of report.now).graph.survivors }
+    requires held { (d : List ℕ) → map (λ one. has one d) held.now
+        ≡ map (is_in_log d) (report_of report.now).logs }
     ensures { OnOk result (rows.new ≡ rows.old ++ survivor_row (report_of report.now) place ∷ []) }
 {
     let graph = report.graph();
@@ -144,7 +147,7 @@ fn add_entry(
     let lost = lost_words(graph.ragged(place));
     let mut row = TableRow::new(alloc);
     add_said(&mut row, alloc, report, sealed)?;
-    add_held(&mut row, alloc, report, sealed)?;
+    add_held(&mut row, alloc, report, held, sealed)?;
     add_linked(&mut row, alloc, lost.as_bytes(), graph.parents(place))?;
     rows.push(row)
 }
@@ -153,9 +156,10 @@ fn add_entry(
 pub(crate) fn entry_rows(alloc: Global, report: &Report) -> Result<TableRows, AllocError>
     ensures { IfOk result (λ rows. rows ≡ entry_rows (report_of report.now)) }
 {
+    let held = all_held(alloc, report.logs())?;
     let mut rows = TableRows::new(alloc);
     for place in 0..report.graph().count() {
-        add_entry(&mut rows, alloc, report, place)?;
+        add_entry(&mut rows, alloc, report, held.as_slice(), place)?;
     }
     Ok(rows)
 }

@@ -7,6 +7,7 @@ mod cell;
 mod entries;
 mod findings;
 mod gaps;
+mod held;
 mod input;
 mod machines;
 mod names;

@@ -1,16 +1,37 @@
-use Rattle.report_page.proofs.Imports.{◌∙◌, ◌++◌, [], Option, ap, refl, sym, string_bytes}
-use Rattle.report_page.proofs.Imports.{slice_get, slice_get_read, LogRead}
-use Rattle.report_page.specs.Entries.{holder}
+use Rattle.report_page.proofs.Imports.{◌≡◌, ◌∙◌, ◌++◌, ℕ, [], Bool, ap, sym, length, string_bytes, flat_map, range_with_len}
+use Rattle.report_page.proofs.Imports.{slice_get, slice_get_read, length-map, refl, arith}
+use Rattle.report_page.specs.Entries.{holder, is_in_log, number_if}
+use Rattle.report_page.specs.inside.Held.{has}
+use Rattle.report_page.proofs.LogDigests.{holder_at}
 use Rattle.report_page.proofs.Pieces.{place_more}
 use Rattle.report_page.proofs.entries.holders.Goals as goal
 
 pub loop-place-preserved : goal.loop-place-preserved
 loop-place-preserved c =
     let logs = c.args.logs.now in
+    let digest = c.args.digest.now in
     let place = c.loop-place.place in
     let now = string_bytes c.loop-place.text in
-    place_more (λ place. holder c.args.digest.now place (slice_get logs place)) place [] now
+    place_more (λ place. holder digest place (slice_get logs place)) place [] now
     (string_bytes c.add_holder.new.text) c.loop-place.invariant
     (c.in_ok-add_holder.ensures
-    ∙ ap (λ (log : Option LogRead). now ++ holder c.args.digest.now place log)
-    (sym (slice_get_read logs _ place _ refl c.loop-place-test.true c.index-logs-place.is)))
+    ∙ ap (λ (b : Bool). now ++ number_if b place) c.has.ensures
+    ∙ ap (λ l. now ++ l) (sym (holder_at digest place logs c.args.held.now _ (c.requires digest)
+    (slice_get_read c.args.held.now _ place _ refl c.loop-place-test.true c.index-held-place.is))))
+
+pub returns : goal.returns
+returns c =
+    let logs = c.args.logs.now in
+    let held = c.args.held.now in
+    let digest = c.args.digest.now in
+    let at_end : c.loop-place.place ≡ length logs =
+    omega (
+      arith,
+      c.loop-place-test.false,
+      c.loop-place.auto.place-end,
+      length-map held (λ one. has one digest),
+      ap length (c.requires digest),
+      length-map logs (is_in_log digest),
+    ) in
+    c.loop-place.invariant
+    ∙ ap (λ (n : ℕ). flat_map (λ place. holder digest place (slice_get logs place)) (range_with_len 0 n)) at_end

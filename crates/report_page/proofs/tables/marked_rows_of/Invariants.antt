@@ -1,4 +1,4 @@
-use Rattle.report_page.proofs.Imports.{◌≡◌, ◌++◌, [], flat_map, range_with_len, slice_index_or, report_of}
+use Rattle.report_page.proofs.Imports.{◌≡◌, [], flat_map, range_with_len, slice_index_or, report_of}
 use Rattle.report_page.specs.Tables.{marked_row}
 use Rattle.report_page.proofs.tables.marked_rows_of.Given as goal
 

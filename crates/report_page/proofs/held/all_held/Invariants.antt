@@ -1,0 +1,9 @@
+use Rattle.report_page.proofs.Imports.{◌≡◌, ℕ, List, map, take}
+use Rattle.report_page.specs.Entries.{is_in_log}
+use Rattle.report_page.specs.inside.Held.{has}
+use Rattle.report_page.proofs.held.all_held.Given as goal
+
+-- the logs so far
+abbrev pub invariant-loop-log : goal.invariant-loop-log
+invariant-loop-log l =
+    (d : List ℕ) → map (λ held. has held d) l.all.items ≡ map (is_in_log d) (take l.log-index l.logs)

@@ -1,0 +1,2 @@
+-- Definitions that no public clause needs.
+pub mod Held
