@@ -12,6 +12,7 @@ use Rattle.auditorium_core.proofs.Imports.{IsFirstTooWide, nodes_of, is_broken, 
 use Rattle.auditorium_core.proofs.Imports.{standard, source_word, judged_is_narrow, SameVerdict, verdicts_agree}
 use Rattle.auditorium_core.proofs.Imports.{IsTooWideOver, Summary, After, is_kept, AreSummaries, GivesSummaries}
 use Rattle.auditorium_core.proofs.Imports.{IsTooWideAfter, watch_line, watch_lines}
+use Rattle.auditorium_core.specs.Watch.{IsNarrowOver}
 
 -- ---- one more
 
@@ -109,6 +110,21 @@ module _ (graphs : EntriesGiveOneGraph) (machines : List Post) (rules : List Rul
       one_place (map (row_of machines) graph.survivors) rules p q first
       (subst (λ (S : List SealedEntry). IsFirstTooWide (map (row_of machines) S) rules q) (sym same.survivors) second)
 
+module _ (graphs : EntriesGiveOneGraph) (machines : List Post) (rules : List RuleTree) (entries : List SealedEntry) where
+  -- where the first entries are said, they are narrow after each
+  pub none_wide : (k : ℕ) → k ≤ length entries → (ss : List Summary) → AreSummaries machines rules (take k entries) ss →
+      (n : ℕ) → n < k → IsNarrowOver machines rules (take (n + 1) entries)
+  none_wide k within ss said n less =
+      let long = length-take-le k entries within in
+      let (s, at) = element_at ss n (omega (arith, said.one_each, long, less)) in
+      let a : After machines rules (take (n + 1) entries) s =
+      subst (λ es. After machines rules es s) (take-take (n + 1) k entries (omega (arith, less))) (said.each n s at) in
+      record {
+        graph = a.graph;
+        graphed = a.graphed;
+        narrow = said_is_narrow graphs machines rules (take (n + 1) entries) s a;
+      }
+
 -- summaries that have the same line at each place have the same lines
 same_lines : (ss ts : List Summary) → length ss ≡ length ts →
     ((n : ℕ) (s t : Summary) → slice_get ss n ≡ Some s → slice_get ts n ≡ Some t → (k : ℕ) →
@@ -135,12 +151,7 @@ module _ (graphs : EntriesGiveOneGraph) (machines : List Post) (source : RuleSou
   -- nor are they after one before the first
   none_earlier : (p q : ℕ) (one : IsTooWideAfter machines rules entries p) (other : IsTooWideAfter machines rules entries q) →
       one.before < other.before → ⊥
-  none_earlier p q one other less =
-      let long = length-take-le other.before entries (omega (arith, other.within)) in
-      let (s, at) = element_at other.summaries one.before (omega (arith, other.said.one_each, long, less)) in
-      said_is_narrow graphs machines rules (take (one.before + 1) entries) s
-      (subst (λ es. After machines rules es s) (take-take (one.before + 1) other.before entries (omega (arith, less)))
-      (other.said.each one.before s at)) p one.too_wide
+  none_earlier p q one other less = (other.earlier one.before less).narrow p one.too_wide
 
   -- so the first that is too wide has one place
   one_late : (p q : ℕ) → IsTooWideAfter machines rules entries p → IsTooWideAfter machines rules entries q → p ≡ q

@@ -20,13 +20,16 @@ use Rattle.auditorium_core.proofs.Imports.{AreFewDistinct, IsTooWideAfter, Watch
 use Rattle.auditorium_core.proofs.Imports.{numbers_line, watch_line, watch_lines, AddsTo, AreLinesOf, IsUnadded}
 use Rattle.auditorium_core.proofs.Imports.{IsUnwatched, evidence_by, first_half, second_half}
 use Rattle.std.proofs.Common.{length-append, length-take}
+use Rattle.auditorium_core.proofs.Imports.{cases_lt, IsFirstTooWide, row_of}
+use Rattle.evidence.specs.Graphs.{IsSealedGraph}
+use Rattle.auditorium_core.specs.Watch.{IsNarrowOver}
 use Rattle.std.specs.Prelude.{All, ◌⊎◌, codes}
 use Rattle.std.specs.List.{Contains}
 use Rattle.rule_engine.specs.declared.verdict.Verdict.{Verdict}
 use Rattle.live_auditor.specs.declared.fresh.LiveFault.TheVariants.{TooWide as LiveTooWide}
 use Rattle.auditorium_core.specs.declared.watch.Unwatched.TheVariants.{TooWide, Memory}
 use Rattle.auditorium_core.proofs.CheckAnswers.{names_itself}
-use Rattle.auditorium_core.proofs.Summaries.{lines_more, none_said, said_more}
+use Rattle.auditorium_core.proofs.Summaries.{lines_more, none_said, none_wide, said_more}
 
 -- ---- how many are different
 
@@ -308,9 +311,9 @@ module _ (es : List SealedEntry) (k : ℕ) (e : SealedEntry) (within : k < lengt
         )
 
     -- where it isn't added, as a rule would be too wide, the entries aren't watched
-    pub not_added : (live : LiveState) (why : Unwatched) → live.machines ≡ machines → map rule_tree live.rules ≡ rules →
+    pub not_added : EntriesGiveOneGraph → (live : LiveState) (why : Unwatched) → live.machines ≡ machines → map rule_tree live.rules ≡ rules →
         live.added ≡ added → IsUnadded live e why → IsUnwatched machines rules es why
-    not_added live (TooWide place) one_roster one_list same (new, wide) =
+    not_added graphs live (TooWide place) one_roster one_list same (new, wide) =
         let (ss, said, lines) = so_far in
         let moved = subst (λ ms. IsTooWideOver ms rules (added ++ e ∷ []) place) one_roster
         (subst (λ rs. IsTooWideOver live.machines rs (added ++ e ∷ []) place) one_list
@@ -318,11 +321,62 @@ module _ (es : List SealedEntry) (k : ℕ) (e : SealedEntry) (within : k < lengt
         record {
           before = k;
           within = within;
-          summaries = ss;
-          said = said;
           too_wide = wide_given machines rules (added ++ e ∷ []) (take (k + 1) es) place stands_copied moved;
+          earlier = none_wide graphs machines rules es k (omega (arith, within)) ss said;
         }
-    not_added live Memory one_roster one_list same why = tt
+    not_added graphs live Memory one_roster one_list same why = tt
+
+-- entries are narrow where those that stand for them are
+narrow_given : EntriesGiveOneGraph → (machines : List Post) (trees rules : List RuleTree)
+    (added given : List SealedEntry) (s : Summary) → After machines trees added s →
+    StandFor node_of_sealed text_of_sealed added given →
+    ((place : ℕ) → ¬ IsTooWideOver machines rules added place) → IsNarrowOver machines rules given
+narrow_given graphs machines trees rules added given s a stand none = record {
+  graph = a.graph;
+  graphed = graphed;
+  narrow = λ place (graph, gives, first).
+      let same : SameGraph graph a.graph = graphs given (Ok graph) (Ok a.graph) gives graphed in
+      none place (
+        a.graph,
+        a.graphed,
+        subst (λ (S : List SealedEntry). IsFirstTooWide (map (row_of machines) S) rules place) same.survivors first,
+      );
+}
+  where
+    graphed : IsSealedGraph given (Ok a.graph)
+    graphed = same_gives added given stand (Ok a.graph) a.graphed
+
+-- the first entries are narrow after each
+abbrev pub AreNarrow : List Post → List RuleTree → List SealedEntry → ℕ → Type 0
+AreNarrow machines rules es k = (n : ℕ) → n < k → IsNarrowOver machines rules (take (n + 1) es)
+
+-- and so is one more, where those that stand for them are
+pub narrow_more : EntriesGiveOneGraph → (machines : List Post) (trees rules : List RuleTree)
+    (es added : List SealedEntry) (k : ℕ) (s : Summary) → After machines trees added s →
+    StandFor node_of_sealed text_of_sealed added (take (k + 1) es) →
+    ((place : ℕ) → ¬ IsTooWideOver machines rules added place) →
+    AreNarrow machines rules es k → AreNarrow machines rules es (k + 1)
+narrow_more graphs machines trees rules es added k s a stand none so_far n less = by (cases_lt n k)
+  where
+    -- it is one of the first, or the last
+    by : (n < k) ⊎ (k ≤ n) → IsNarrowOver machines rules (take (n + 1) es)
+    by (inl early) = so_far n early
+    by (inr late) =
+        let last : k ≡ n = omega (arith, less, late) in
+        subst (λ m. IsNarrowOver machines rules (take (m + 1) es)) last
+        (narrow_given graphs machines trees rules added (take (k + 1) es) s a stand none)
+
+-- the first that is too wide after entries that are narrow
+pub wide_after : (machines : List Post) (rules : List RuleTree) (es added : List SealedEntry) (k place : ℕ) →
+    k < length es → StandFor node_of_sealed text_of_sealed added (take (k + 1) es) →
+    IsTooWideOver machines rules added place → AreNarrow machines rules es k →
+    IsTooWideAfter machines rules es place
+wide_after machines rules es added k place within stand wide narrow = record {
+  before = k;
+  within = within;
+  earlier = narrow;
+  too_wide = wide_given machines rules added (take (k + 1) es) place stand wide;
+}
 
 -- before the first entry nothing is printed
 pub none_told : (machines : List Post) (rules : List RuleTree) (es : List SealedEntry) →

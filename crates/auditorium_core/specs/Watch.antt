@@ -5,13 +5,14 @@ use Rattle.std.specs.Fmt.{decimal}
 use Rattle.roster.specs.declared.post.Post.{Post}
 use Rattle.entry_format.specs.Nodes.{node_of_sealed}
 use Rattle.entry_format.specs.SealedEntry.{SealedEntry}
+use Rattle.entry_graph.specs.EntryGraph.{EntryGraph}
 use Rattle.entry_graph.specs.Given.{distinct}
 use Rattle.log_files.specs.declared.sealed_log.LogRead.{LogRead}
 use Rattle.rule_language.specs.Trees.{RuleTree}
 use Rattle.evidence.specs.Refusal.{Refusal, refused}
 use Rattle.evidence.specs.RosterFile.{GivesRoster}
 use Rattle.evidence.specs.Logs.{GivesLogs}
-use Rattle.evidence.specs.Graphs.{entries_of, GivesGraph}
+use Rattle.evidence.specs.Graphs.{entries_of, GivesGraph, IsSealedGraph}
 use Rattle.log_files.specs.Lines.{line}
 use Rattle.auditor.specs.Audits.{AndThen, FileThen, RulesThen, WithGraph, audit_files}
 use Rattle.auditor.specs.Outcomes.{is_broken, is_unsettled, outcome_of}
@@ -49,14 +50,20 @@ pub record AreSummaries (machines : List Post) (rules : List RuleTree) (entries 
   pub each : (n : ℕ) (summary : Summary) → slice_get summaries n ≡ Some summary →
       After machines rules (take (n + 1) entries) summary
 
--- each of the entries before one has its summary, and over the survivors of all up to that one some
--- rule is too wide, of which the first has this place
+-- the entries have a graph, and over its survivors no rule is too wide
+pub record IsNarrowOver (machines : List Post) (rules : List RuleTree) (entries : List SealedEntry)
+    : Type 0 where
+  pub graph : EntryGraph SealedEntry
+  pub graphed : IsSealedGraph entries (Ok graph)
+  pub narrow : (place : ℕ) → ¬ IsTooWideOver machines rules entries place
+
+-- over the survivors of all entries up to one some rule is too wide, of which the first has this
+-- place, and over those of the entries up to any before it none is
 pub record IsTooWideAfter (machines : List Post) (rules : List RuleTree)
     (entries : List SealedEntry) (place : ℕ) : Type 0 where
   pub before : ℕ
   pub within : before < length entries
-  pub summaries : List Summary
-  pub said : AreSummaries machines rules (take before entries) summaries
+  pub earlier : (n : ℕ) → n < before → IsNarrowOver machines rules (take (n + 1) entries)
   pub too_wide : IsTooWideOver machines rules (take (before + 1) entries) place
 
 -- at most 1,024 of the entries are different

@@ -1,6 +1,6 @@
 // The command `watch`: what an audit says after each entry that the logs keep.
 ghost use Rattle.std.specs.Prelude.{◌≡◌, ◌≢◌, ◌<◌, ◌≤◌, ◌||◌, ◌++◌, ◌↔◌, [], All, IsTrue, codes};
-ghost use Rattle.std.specs.Prelude.{List, ℕ, Err, IfErr, IfOk, IfSome, Ok, OnOk, length, map};
+ghost use Rattle.std.specs.Prelude.{List, ℕ, Err, IfErr, IfNone, IfOk, IfSome, Ok, OnOk, length, map};
 ghost use Rattle.std.specs.Prelude.{count_by, string_bytes};
 ghost use Rattle.std.specs.List.{list_any};
 ghost use Rattle.std.specs.Str.{bytes_eq};
@@ -16,12 +16,19 @@ ghost use Rattle.auditor.specs.Audits.{audit_files};
 ghost use Rattle.auditor.specs.Outcomes.{graph_has_finding, is_broken, is_unsettled};
 ghost use Rattle.auditor.specs.Outcomes.{log_has_finding, outcome_by};
 ghost use Rattle.auditor.specs.Sources.{rule_files};
-ghost use Rattle.live_auditor.specs.Adding.{Collides, IsOfSameAudit};
+ghost use Rattle.live_auditor.specs.Adding.{Collides, IsOfSameAudit, IsTooWideOver};
 ghost use Rattle.live_auditor.specs.Live.{IsLive, IsOfMachine, max_added};
 ghost use Rattle.demonstration.specs.Shown.{is_kept};
 ghost use Rattle.auditorium_core.specs.Audit.{source_named};
 ghost use Rattle.auditorium_core.specs.ReportAnswers.{status_by};
-ghost use Rattle.auditorium_core.specs.Watch.{AreFewDistinct, GivesEvidence, GivesWatch, Watches, watch_line};
+ghost use Rattle.auditorium_core.specs.Watch.{
+  AreFewDistinct,
+  GivesEvidence,
+  GivesWatch,
+  IsTooWideAfter,
+  Watches,
+  watch_line,
+};
 ghost use Rattle.auditorium_core.specs.Words.{watch};
 ghost use Rattle.auditorium_core.specs.inside.Meaning.{IsReadAs};
 ghost use Rattle.auditorium_core.specs.inside.Promise.{IsAnsweredBy};
@@ -44,7 +51,7 @@ use crate::rules_file::read_rules;
 use crate::status::Status;
 use crate::word_forms::are_logs;
 use crate::words::Request;
-use auditor::{Outcome, RulesFrom};
+use auditor::{Outcome, RulesFrom, rows};
 use entry_format::Sealed;
 use entry_graph::Graph;
 use evidence::{AuditFault, RosterRead, entries_give_one_graph, graph_of, read_logs, read_roster};
@@ -54,6 +61,7 @@ use log_files::{End, Kept, LogRead};
 use roster::Roster;
 use rule_engine::Verdict;
 use rule_language::{Rule, standard};
+use rule_meaning::width::is_too_wide;
 use std::alloc::{AllocError, Global};
 use std::fmt::Write;
 
@@ -307,6 +315,87 @@ fn add_line(lines: &mut String, number: usize, live: &Live) -> Result<(), AllocE
     add_second_half(lines, kept, broken, unsettled)
 }
 
+/// Adds a copy of the entry, as `add_entry` does, and answers the place of the first of these rules
+/// that is too wide then. The audit may be by others.
+fn add_narrow(
+    alloc: Global,
+    live: &mut Live,
+    rules: &[Rule],
+    entry: &Sealed,
+) -> Result<Option<usize>, Unwatched>
+    requires live { IsLive live.old }
+    requires machine { IsOfMachine live.old.machines entry.now }
+    requires apart { ¬ Collides live.old.added entry.now }
+    requires room { IsNew node_of_sealed live.old.added entry.now →
+        length live.old.added < max_added }
+    ensures ok { OnOk result (AddsTo live.old.added entry.now live.new.added) }
+    ensures some { IfOk result (λ found. IfSome found
+        (IsTooWideOver live.new.machines (map rule_tree rules.now) live.new.added)) }
+    ensures none { IfOk result (λ found. IfNone found ((place : ℕ) →
+        ¬ IsTooWideOver live.new.machines (map rule_tree rules.now) live.new.added place)) }
+    ensures same { IsOfSameAudit live.old live.new }
+    ensures kept { IsLive live.new }
+{
+    match add_entry(alloc, live, entry) {
+        Ok(()) => Ok(live.first_too_wide(rules)),
+        Err(why) => Err(why),
+    }
+}
+
+/// The place of the first rule that is too wide after one of the entries, which are added to an
+/// audit by no rule, so that none is judged. If there is none, nothing is said.
+fn wide_after(
+    alloc: Global,
+    live: &mut Live,
+    rules: &[Rule],
+    entries: &[&Sealed],
+) -> Result<Option<usize>, AllocError>
+    requires live { IsLive live.old }
+    requires empty { live.old.added ≡ [] }
+    requires machines { All (IsOfMachine live.old.machines) (map (λ e. e.now) entries.now) }
+    requires apart { HasNoCollision node_of_sealed text_of_sealed (map (λ e. e.now) entries.now) }
+    requires few { AreFewDistinct (map (λ e. e.now) entries.now) }
+    ensures { IfOk result (λ found. IfSome found (λ place. IsTooWideAfter live.old.machines
+        (map rule_tree rules.now) (map (λ e. e.now) entries.now) place)) }
+{
+    entries_give_one_graph();
+    for k in 0..entries.len() {
+        match add_narrow(alloc, live, rules, entries[k]) {
+            Ok(None) => {}
+            Ok(Some(place)) => return Ok(Some(place)),
+            Err(Unwatched::TooWide(_)) => return Ok(None),
+            Err(Unwatched::Memory) => return Err(AllocError),
+        }
+    }
+    Ok(None)
+}
+
+/// The place of the first rule that is too wide after one of the entries, which have this graph,
+/// before anything is judged. Where no entry is a stray and no rule is too wide over all, each rule
+/// is narrow after each entry.
+fn wide_among(
+    alloc: Global,
+    roster: &Roster,
+    rules: &[Rule],
+    graph: &Graph,
+    entries: &[&Sealed],
+) -> Result<Option<usize>, AllocError>
+    requires graphed { GivesGraph (map (λ e. e.now) entries.now) (Ok graph.now) }
+    requires machines { All (IsOfMachine roster.now.machines) (map (λ e. e.now) entries.now) }
+    requires few { AreFewDistinct (map (λ e. e.now) entries.now) }
+    ensures { IfOk result (λ found. IfSome found (λ place. IsTooWideAfter roster.now.machines
+        (map rule_tree rules.now) (map (λ e. e.now) entries.now) place)) }
+{
+    if graph.strays().is_empty() {
+        let seen = rows(alloc, graph, roster)?;
+        if !rules.iter().any(|rule| is_too_wide(&rule.body, 1, seen.as_slice())) {
+            return Ok(None);
+        }
+    }
+    let mut live = Live::make(alloc, roster, Vec::new(alloc))?;
+    wide_after(alloc, &mut live, rules, entries)
+}
+
 /// Adds the entries one after another, and a line after each.
 fn watch_entries(alloc: Global, live: &mut Live, entries: &[&Sealed]) -> Result<String, Unwatched>
     requires live { IsLive live.old }
@@ -323,6 +412,7 @@ fn watch_entries(alloc: Global, live: &mut Live, entries: &[&Sealed]) -> Result<
     ensures same { IsOfSameAudit live.old live.new }
     ensures kept { IsLive live.new }
 {
+    entries_give_one_graph();
     let mut lines = String::new(alloc);
     for k in 0..entries.len() {
         match add_entry(alloc, live, entries[k]) {
@@ -371,6 +461,9 @@ fn watch_few(
     ensures status { IfOk result (λ answer. answer.status ≢ Status.Absent) }
 {
     entries_give_one_graph();
+    if let Some(place) = wide_among(alloc, roster, rules.as_slice(), graph, entries)? {
+        return Err(AuditFault::refused(alloc, word, place as u64, "TooWide"));
+    }
     let mut live = Live::make(alloc, roster, rules)?;
     match watch_entries(alloc, &mut live, entries) {
         Ok(lines) => Ok(answer_of(alloc, logs, graph, &live, lines)),

@@ -9,3 +9,4 @@ pub mod Judged
 pub mod Steps
 pub mod Kept
 pub mod Finds
+pub mod Wide

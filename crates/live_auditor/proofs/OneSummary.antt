@@ -32,7 +32,7 @@ survivor_moved strays given other same e has =
     (strays other e).1 ((same e).0 in_given, λ stray. sound (stray_moved other given (turned given other same) e stray))
 
 -- so the graph of entries is one of the same
-graph_moved : SurvivorsAreNoStrays node_of_sealed → (given other : List SealedEntry) → AreSame given other →
+pub graph_moved : SurvivorsAreNoStrays node_of_sealed → (given other : List SealedEntry) → AreSame given other →
     (graph : EntryGraph SealedEntry) → IsGraphOfGiven node_of_sealed given graph →
     IsGraphOfGiven node_of_sealed other graph
 graph_moved strays given other same graph is = record {

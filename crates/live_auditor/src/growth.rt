@@ -74,6 +74,10 @@ fn verdicts_by(
         (nodes_by (links.now ++ last.now ∷ [])) (map rule_tree rules.now) verdicts.items) }
     ensures err { IfErr result (IsUnjudged rows.now (map rule_tree rules.now)) }
 {
+    // Without rules the order of the rows isn't needed.
+    if rules.is_empty() {
+        return Ok(Vec::new(alloc));
+    }
     let grown = Grown::over(links, last);
     let order = Rows::make(alloc, &grown)?;
     let judge = Judge::over(alloc, rows, &order)?;

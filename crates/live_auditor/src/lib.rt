@@ -11,6 +11,7 @@ mod seen;
 mod summary;
 mod survivors;
 mod usual;
+mod widths;
 
 pub use fresh::{Fresh, LiveFault};
 pub use laws::orders_give_one_summary;

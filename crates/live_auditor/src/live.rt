@@ -1,6 +1,13 @@
 //! An audit that goes on while entries come.
-ghost use Rattle.std.specs.Prelude.{◌≡◌, [], IfOk};
-ghost use Rattle.live_auditor.specs.Adding.{Becomes, HasRoomFor, IsAddAnswer, IsOfSameAudit};
+ghost use Rattle.std.specs.Prelude.{◌≡◌, ℕ, [], map, IfNone, IfOk, IfSome};
+ghost use Rattle.rule_language.specs.Forms.{rule_tree};
+ghost use Rattle.live_auditor.specs.Adding.{
+  Becomes,
+  HasRoomFor,
+  IsAddAnswer,
+  IsOfSameAudit,
+  IsTooWideOver,
+};
 ghost use Rattle.live_auditor.specs.Live.{IsLive, IsOfMachine};
 
 use crate::borrowed::borrowed_with;
@@ -9,7 +16,9 @@ use crate::growth::growth_of;
 use crate::seen::{Seen, seen_among};
 use crate::summary::{Summary, Unsummed, summed_of};
 use crate::survivors::Survivors;
+use crate::widths::first_too_wide;
 use entry_format::Sealed;
+use evidence::entries_give_one_graph;
 use roster::Roster;
 use rule_engine::Verdict;
 use rule_language::Rule;
@@ -157,6 +166,18 @@ impl Live {
             Err(Unsummed::TooWide(place)) => Err(LiveFault::TooWide(s, place)),
             Err(Unsummed::Memory) => Err(LiveFault::Memory),
         }
+    }
+
+    /// The place, counted from 0, of the first of these rules that is too wide over the survivors.
+    /// The audit may be by others, or by none.
+    pub fn first_too_wide(&self, rules: &[Rule]) -> Option<usize>
+        ensures some { IfSome result
+            (IsTooWideOver self.now.machines (map rule_tree rules.now) self.now.added) }
+        ensures none { IfNone result ((place : ℕ) →
+            ¬ IsTooWideOver self.now.machines (map rule_tree rules.now) self.now.added place) }
+    {
+        entries_give_one_graph();
+        first_too_wide(rules, self.survivors.rows.as_slice())
     }
 
     /// How many entries survive: all that were added but the strays.

@@ -1,7 +1,7 @@
 //! What is said of entries.
 ghost use Rattle.std.specs.Prelude.{◌≡◌, ◌+◌, ◌<◌, ◌≤◌, length, map, IfOk, IfErr};
 ghost use Rattle.rule_language.specs.Forms.{rule_tree};
-ghost use Rattle.auditor.specs.Judged.{AreJudged};
+ghost use Rattle.auditor.specs.Judged.{AreJudged, nodes_of};
 ghost use Rattle.auditor.specs.Rows.{HaveMakers, row_of};
 ghost use Rattle.live_auditor.specs.inside.Grown.{said_with};
 ghost use Rattle.live_auditor.specs.inside.Kept.{IsSummed};
@@ -127,6 +127,28 @@ fn judge_all(
     Ok(verdicts)
 }
 
+/// Judges the rules by the survivors' rows and the graph.
+fn judge_over(
+    alloc: Global,
+    rules: &[Rule],
+    rows: &[Row],
+    graph: &Graph<Borrowed<'_>>,
+) -> Result<Vec<Verdict>, Unsummed>
+    requires one_each { length rows.now ≡ length graph.now.survivors }
+    requires few { length graph.now.survivors ≤ 16384 }
+    requires linked { length graph.now.links ≡ length graph.now.survivors }
+    ensures ok { IfOk result (λ verdicts. AreJudged rows.now (nodes_of graph.now)
+        (map rule_tree rules.now) verdicts.items) }
+    ensures err { IfErr result (IsUnjudged rows.now (map rule_tree rules.now)) }
+{
+    // Without rules the order of the rows isn't needed.
+    if rules.is_empty() {
+        return Ok(Vec::new(alloc));
+    }
+    let order = Rows::make(alloc, graph)?;
+    judge_all(alloc, rules, rows, &order)
+}
+
 /// What is said of entries, and their survivors.
 #[derive(Drop)]
 pub(crate) struct Summed {
@@ -173,8 +195,7 @@ fn summed_by(
         (map rule_tree rules.now)) }
 {
     let seen = rows(alloc, graph, roster)?;
-    let order = Rows::make(alloc, graph)?;
-    let verdicts = match judge_all(alloc, rules, seen.as_slice(), &order) {
+    let verdicts = match judge_over(alloc, rules, seen.as_slice(), graph) {
         Ok(verdicts) => verdicts,
         Err(fault) => return Err(fault),
     };

@@ -1,9 +1,36 @@
-use Rattle.auditorium_core.proofs.Imports.{◌∙◌, map, subst, sym, string_bytes, node_of_sealed}
-use Rattle.auditorium_core.proofs.Imports.{HasNoCollision, entries_of, text_of_sealed, IsOfMachine}
-use Rattle.auditorium_core.proofs.Imports.{AreFewDistinct}
+use Rattle.auditorium_core.proofs.Imports.{◌∙◌, List, refl, map, subst, sym, string_bytes, Ok, IfSome, node_of_sealed}
+use Rattle.auditorium_core.proofs.Imports.{SealedEntry, HasNoCollision, entries_of, GivesGraph, text_of_sealed}
+use Rattle.auditorium_core.proofs.Imports.{ℕ, Rule, rule_tree, IsOfMachine, AreFewDistinct, IsTooWideAfter}
+use Rattle.std.proofs.Common.{Option}
+use Rattle.auditorium_core.specs.declared.watch.Unwatched.TheVariants.{TooWide}
 use Rattle.std.specs.Prelude.{All}
 use Rattle.auditorium_core.proofs.WatchSteps.{lines_told, told_there, too_wide, unwatched_there}
 use Rattle.auditorium_core.proofs.watch.watch_few.Goals as goal
+
+pub wide_among-requires-clause-graphed : goal.wide_among-requires-clause-graphed
+wide_among-requires-clause-graphed c =
+    subst (λ (es : List SealedEntry). GivesGraph es (Ok c.args.graph.now)) (sym c.requires.entries) c.requires.graphed
+
+pub wide_among-requires-clause-machines : goal.wide_among-requires-clause-machines
+wide_among-requires-clause-machines c =
+    subst (All (IsOfMachine c.args.roster.now.machines)) (sym c.requires.entries) c.requires.machines
+
+pub wide_among-requires-clause-few : goal.wide_among-requires-clause-few
+wide_among-requires-clause-few c = subst AreFewDistinct (sym c.requires.entries) c.requires.few
+
+pub returns-in-Some-clause-err : goal.returns-in-Some-clause-err
+returns-in-Some-clause-err c names =
+    let machines = c.args.roster.now.machines in
+    let es = map (λ e. e.now) c.args.entries.now in
+    let place = c.in-Some.place in
+    let rules = c.as_slice.result.now in
+    let wide : IsTooWideAfter machines (map rule_tree rules) es place =
+    subst (λ (o : Option ℕ). IfSome o (λ at. IsTooWideAfter machines (map rule_tree rules) es at)) c.in-Some.is
+    c.in_ok-place.ensures in
+    too_wide machines c.args.word.now c.args.rules.items c.args.logs.now names c.args.graph.now c.requires.graphed es
+    c.requires.entries c.requires.few (TooWide place) c.refused.result place refl
+    (subst (λ (rs : List Rule). IsTooWideAfter machines (map rule_tree rs) es place) c.as_slice.ensures.value wide)
+    c.refused.ensures
 
 pub watch_entries-requires-clause-machines : goal.watch_entries-requires-clause-machines
 watch_entries-requires-clause-machines c =
@@ -36,8 +63,8 @@ returns-in-Err-TooWide-clause-err c names =
     let made = c.in_ok-live.ensures in
     too_wide c.args.roster.now.machines c.args.word.now c.args.rules.items c.args.logs.now names c.args.graph.now
     c.requires.graphed (map (λ e. e.now) c.args.entries.now) c.requires.entries c.requires.few
-    c.in-Err-TooWide.field-0 c.refused.result c.in-Err-TooWide.place c.in-Err-TooWide.field-0-is
+    c.in-Err-TooWide.field-0 c.refused-in-Err-TooWide.result c.in-Err-TooWide.place c.in-Err-TooWide.field-0-is
     (unwatched_there c.in_ok-live.live c.args.roster.now.machines c.args.rules.items
     (map (λ e. e.now) c.args.entries.now) c.in-Err-TooWide.field-0 made.machines made.rules
     c.in-Err-TooWide.ensures.err)
-    c.refused.ensures
+    c.refused-in-Err-TooWide.ensures
