@@ -1,6 +1,6 @@
 -- Losses of the same entries on the same ways, in order, are the same but for their causes.
 use Rattle.std.proofs.Common.{length, cond, Bool, true}
-use Rattle.std.specs.Prelude.{AllPairs}
+use Rattle.std.specs.Prelude.{AllPairs, ◌↔◌}
 use Rattle.std.specs.List.{Contains}
 use Rattle.auditorium_core.proofs.Imports.{◌≡◌, ◌∙◌, ℕ, zero, suc, ◌+◌, ◌<◌, inl, inr, List, [], ◌∷◌, refl, sym}
 use Rattle.auditorium_core.proofs.Imports.{ap, subst, arith, All-contains, Contains-none, Contains-head, Contains-later}
@@ -12,9 +12,11 @@ use Rattle.entry_order.specs.Receipt.{IsOrderly}
 use Rattle.entry_order.proofs.Histories.{nth_split}
 use Rattle.entry_order.proofs.Lists.{Contains-cons_cases}
 use Rattle.finished_floor.specs.declared.loss.LossWhy.{LossWhy}
+use Rattle.finished_floor.specs.declared.loss.LossWhy.TheVariants.{Scripted}
 use Rattle.finished_floor.specs.Arrivals.{is_of}
 use Rattle.finished_floor.specs.Laws.{times_lost}
-use Rattle.finished_floor.specs.Losses.{AreLosses, IsOnWay, IsToldBefore}
+use Rattle.finished_floor.specs.Losses.{AreLosses, IsCauseOf, IsOnWay, IsToldBefore}
+use Rattle.finished_floor.specs.Scripted.{is_scripted}
 use Rattle.finished_floor.proofs.Arriving.{is_of_parts, itself}
 use Rattle.std.proofs.lemmas.Bool.{cases_Bool}
 use Rattle.auditorium_core.specs.OneRun.{DifferInCauses}
@@ -96,21 +98,45 @@ cause_alone x y (f, n, t) =
 turned : (x y : Loss) → SameWay x y → SameWay y x
 turned x y (f, n, t) = (sym f, sym n, sym t)
 
+-- a line of the script names both or neither, where they are of one entry on one way
+abbrev AgreeOnLines : List Loss → List Loss → Type 0
+AgreeOnLines xs ys =
+    (x y : Loss) → Contains xs x → Contains ys y → SameWay x y → (x.why ≡ Scripted) ↔ (y.why ≡ Scripted)
+
 -- losses in order, of which each has one of the same entry and way among the others, differ in
 -- their causes alone
 alike : (xs ys : List Loss) → AllPairs IsToldBefore xs → AllPairs IsToldBefore ys → AreAmong xs ys → AreAmong ys xs →
-    DifferInCauses xs ys
-alike [] [] told others among back = tt
-alike [] (y ∷ ys) told others among back =
+    AgreeOnLines xs ys → DifferInCauses xs ys
+alike [] [] told others among back agree = tt
+alike [] (y ∷ ys) told others among back agree =
     let (x, none, same) = back y (Contains-head y ys) in absurd (Contains-none x none)
-alike (x ∷ xs) [] told others among back =
+alike (x ∷ xs) [] told others among back agree =
     let (y, none, same) = among x (Contains-head x xs) in absurd (Contains-none y none)
-alike (x ∷ xs) (y ∷ ys) told others among back =
+alike (x ∷ xs) (y ∷ ys) told others among back agree =
     let same = first_same x y xs ys told others among back in (
-      cause_alone x y same,
+      (cause_alone x y same, agree x y (Contains-head x xs) (Contains-head y ys) same),
       alike xs ys (later_told x xs told) (later_told y ys others) (later_among x y xs ys told same among)
-          (later_among y x ys xs others (turned x y same) back),
+          (later_among y x ys xs others (turned x y same) back)
+          (λ z w inside there. agree z w (Contains-later x xs z inside) (Contains-later y ys w there)),
     )
+
+-- losses in order have one of an entry on a way
+one_on_way : (xs : List Loss) (x y : Loss) → AllPairs IsToldBefore xs → Contains xs x → Contains xs y → SameWay x y →
+    x ≡ y
+one_on_way [] x y told inside there same = absurd (Contains-none x inside)
+one_on_way (z ∷ zs) x y told inside there same =
+    elim (Contains-cons_cases z zs x inside) [
+      | inl is ↦ elim (Contains-cons_cases z zs y there) [
+        | inl is' ↦ sym is ∙ is'
+        | inr later ↦ absurd (not_same x y same
+            (subst (λ (w : Loss). IsToldBefore w y) is (first_told z zs y told later)))
+      ]
+      | inr later ↦ elim (Contains-cons_cases z zs y there) [
+        | inl is' ↦ absurd (not_same y x (turned x y same)
+            (subst (λ (w : Loss). IsToldBefore w x) is' (first_told z zs x told later)))
+        | inr after ↦ one_on_way zs x y (later_told z zs told) later after same
+      ]
+    ]
 
 -- ---- losses of one world
 
@@ -181,8 +207,28 @@ module _ (script : Script) (machines : List MachineState) (orderly : IsOrderly n
         ]
       ]
 
+  -- where a line of the script names what one right list has, it names what another has
+  scripted_too : (losses others : List Loss) → AreLosses script machines losses → AreLosses script machines others →
+      (x y : Loss) → Contains losses x → Contains others y → SameWay x y → x.why ≡ Scripted → y.why ≡ Scripted
+  scripted_too losses others is also x y inside there (f, n, t) why =
+      let way = All-contains (IsOnWay machines) others y also.only there in
+      let cause = All-contains (λ (l : Loss). IsCauseOf script machines losses l l.why) losses x is.causes inside in
+      let named : is_scripted script.loses x.from x.number x.to ≡ true =
+      subst (λ (c : LossWhy). IsCauseOf script machines losses x c) why cause in
+      let line : is_scripted script.loses y.from y.number y.to ≡ true =
+      subst (λ (k : ℕ). is_scripted script.loses k y.number y.to ≡ true) f
+      (subst (λ (k : ℕ). is_scripted script.loses x.from k y.to ≡ true) n
+      (subst (λ (k : ℕ). is_scripted script.loses x.from x.number k ≡ true) t named)) in
+      let same = one_on_way others (loss_with y.from y.number y.to Scripted) y also.sorted
+      (also.scripted y.from y.number y.to way.from way.to way.other way.number line) there (refl, refl, refl) in
+      ap (λ (l : Loss). l.why) (sym same)
+
   -- two right lists of what machines lost differ in their causes alone
   pub same_losses : (losses others : List Loss) → AreLosses script machines losses →
       AreLosses script machines others → DifferInCauses losses others
   same_losses losses others is also =
       alike losses others is.sorted also.sorted (among losses others is also) (among others losses also is)
+      (λ x y inside there same. (
+        scripted_too losses others is also x y inside there same,
+        scripted_too others losses also is y x there inside (turned x y same),
+      ))
