@@ -43,8 +43,8 @@ MEANING = ("IsSound", "IsSettled", "IsExact", "IsOrderOfPlaces", "IsAuditOfPlace
            "HoldsOf", "Completes", "TellsNoneBroken")
 MANY_ANSWERS = "run"
 # What the laws of the top crate say of answers.
-LAWS = ("IsComplete", "NumbersRise", "WatchesAgreeWithAudits", "HonestWatchesBreakNoRule", "ChecksAgreeWithAudits",
-        "PlaysAreReadBack", "RunsAreReadBack")
+LAWS = ("IsCompleteAsRead", "NumbersRise", "WatchesAgreeWithAudits", "HonestWatchesBreakNoRule",
+        "ChecksAgreeWithAudits", "PlaysAreReadBack", "RunsAreReadBack")
 WORD = re.compile(r"[A-Za-z_][\w'?]*(?:\.[A-Za-z_][\w'?]*)?")
 GIVEN = re.compile(r"([A-Za-z_][\w'?]*) = ")
 IMPORT = re.compile(r"^\s*(?:pub |ghost )?use Rattle\.(\w+)\.specs\.([\w.]+?)(?:\.\{(.*?)\}| as (\w+));?$", re.S | re.M)
