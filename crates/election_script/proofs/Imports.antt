@@ -2,14 +2,16 @@
 pub use Rattle.election_script.specs.Before.{ComesAgain, ComesTooEarly, ComesTooLate, count_of_kind, is_of_kind}
 pub use Rattle.election_script.specs.Before.{is_supervisor_line, machine_told, machines_told, name_told, of_kind}
 pub use Rattle.election_script.specs.Before.{stopped_told, supervisors, told_by, version_of, version_told, words_of}
-pub use Rattle.election_script.specs.Deeds.{ballot_deed, do_of, machine_and_session, override_deed}
+pub use Rattle.election_script.specs.Deeds.{ballot_deed, do_read, machine_and_session, override_deed}
 pub use Rattle.election_script.specs.Faults.{Causes, IsFull, IsPlain, causes_of, ending_causes, kind_causes}
 pub use Rattle.election_script.specs.Faults.{place_causes, refused, word_causes, words_causes}
-pub use Rattle.election_script.specs.Lines.{entry_of, key_of, lose_of, machine_of, read_line, receiver_of, seed_of}
-pub use Rattle.election_script.specs.Lines.{one_number, step_of, stop_of, stopper_of}
-pub use Rattle.election_script.specs.Machines.{Machines, is_role, machine_named, machine_of_role, place_of}
-pub use Rattle.election_script.specs.Words.{Read, ballot_of, in_table, is_among, is_between, is_name, is_name_byte}
-pub use Rattle.election_script.specs.Words.{number_within, session_of}
+pub use Rattle.election_script.specs.Lines.{entry_read, key_read, lose_read}
+pub use Rattle.election_script.specs.Lines.{machine_said, read_line, receiver_read, seed_read}
+pub use Rattle.election_script.specs.Lines.{one_number, step_read, stop_read, stopper_read}
+pub use Rattle.election_script.specs.Machines.{Machines, is_same_role, machine_named, machine_of_role, place_of}
+pub use Rattle.election_script.specs.Words.{LineRead, ballot_read, in_table}
+pub use Rattle.election_script.specs.Words.{is_listed, is_between, is_name_word, is_name_byte}
+pub use Rattle.election_script.specs.Words.{number_within, session_read}
 pub use Rattle.std.proofs.Common.{cond}
 pub use Rattle.std.proofs.lemmas.Bool.{le-leb, leb-true}
 pub use Rattle.std.specs.Prelude.{IfNone, IfSome, nat_le, ok_or}

@@ -1,6 +1,6 @@
 -- Which words have the form of a name.
 use Rattle.election_script.proofs.Imports.{ℕ, ◌≤◌, List, refl, length, nat_le, leb-true, le-leb, IsName, IsNameByte}
-use Rattle.election_script.proofs.Imports.{is_between, is_name_byte, is_name, IsBetween}
+use Rattle.election_script.proofs.Imports.{is_between, is_name_byte, is_name_word, IsBetween}
 use Rattle.std.specs.List.{list_all}
 use Rattle.std.specs.Bool.{Decides}
 use Rattle.std.proofs.lemmas.Bool.Decides.{Decides-and, Decides-or, Decides-like, Decides-by_and}
@@ -21,9 +21,9 @@ byte_test byte =
     Decides-or (is_between 97 122 byte) (is_between 48 57 byte) (between_test 97 122 byte) (between_test 48 57 byte)
 
 -- a word is a name
-pub name_test : (word : List ℕ) → Decides (is_name word) (IsName word)
+pub name_test : (word : List ℕ) → Decides (is_name_word word) (IsName word)
 name_test word =
-    Decides-like (is_name word)
+    Decides-like (is_name_word word)
     (λ (size, bytes). record { some = size.0; at_most = size.1; bytes = bytes })
     (λ is. ((is.some, is.at_most), is.bytes))
     (Decides-and (is_between 1 16 (length word)) (list_all is_name_byte word) (between_test 1 16 (length word))

@@ -6,7 +6,7 @@ use Rattle.std.specs.Str.{bytes_eq}
 use Rattle.roster.specs.declared.post.Role.{Role}
 use Rattle.roster.specs.Machines.{is_supervisor}
 use Rattle.election_script.specs.declared.faults.ScriptWhy.TheVariants.{BadName, UnknownName, WrongRole}
-use Rattle.election_script.specs.Words.{Read, ◌>>=◌, is_name}
+use Rattle.election_script.specs.Words.{LineRead, ◌>>=◌, is_name_word}
 
 -- machines, each by its name and its role
 abbrev pub Machines : Type 0
@@ -17,20 +17,20 @@ abbrev pub place_of : Machines → List ℕ → Option ℕ
 place_of machines name = position_from (λ (machine : List ℕ × Role). bytes_eq machine.0 name) 0 machines
 
 -- the machine that the word names, by its place
-abbrev pub machine_named : Machines → List ℕ → Read ℕ
-machine_named machines name = if is_name name then ok_or (place_of machines name) UnknownName else Err BadName
+abbrev pub machine_named : Machines → List ℕ → LineRead ℕ
+machine_named machines name = if is_name_word name then ok_or (place_of machines name) UnknownName else Err BadName
 
 -- whether the second role is the first
-abbrev pub is_role : Role → Role → Bool
-is_role role other = if is_supervisor role then is_supervisor other else not (is_supervisor other)
+abbrev pub is_same_role : Role → Role → Bool
+is_same_role role other = if is_supervisor role then is_supervisor other else not (is_supervisor other)
 
 -- whether it is a machine of the role
-abbrev pub has_role : Role → Option (List ℕ × Role) → Bool
-has_role role None = false
-has_role role (Some machine) = is_role role machine.1
+abbrev pub is_of_role : Role → Option (List ℕ × Role) → Bool
+is_of_role role None = false
+is_of_role role (Some machine) = is_same_role role machine.1
 
 -- the machine of the role that the word names
-abbrev pub machine_of_role : Machines → Role → List ℕ → Read ℕ
+abbrev pub machine_of_role : Machines → Role → List ℕ → LineRead ℕ
 machine_of_role machines role name = do
   place ← machine_named machines name
-  if has_role role (slice_get machines place) then Ok place else Err WrongRole
+  if is_of_role role (slice_get machines place) then Ok place else Err WrongRole

@@ -19,7 +19,8 @@ whole_of [] s w begun fewer = tt
 whole_of (mark ∷ rest) s w begun fewer =
     whole_fewer mark rest s s w begun (whole_aside mark rest s s begun (aside_same mark s)) fewer
 
-pub fewer_placing : (bs : List Begun) (a b : Moments) → Now a (StandsInOrder bs) → Goes IsFewer a b → Goes (IsPlacing bs) a b
+pub fewer_placing : (bs : List Begun) (a b : Moments) → Now a (StandsInOrder bs) → Goes IsFewer a b →
+    Goes (IsPlacing bs) a b
 fewer_placing bs [] b ready goes = goes
 fewer_placing bs (s ∷ ss) b ready goes = since_map b (λ w fewer.
     let between = between_fewer bs s s w ready.stand (between_same bs s) fewer in
@@ -30,7 +31,8 @@ fewer_placing bs (s ∷ ss) b ready goes = since_map b (λ w fewer.
     }) goes
 
 -- what is gone is gone once the files are closed
-pub closed_gone : (before after : List ℕ → Type 0) → ((name : List ℕ) → before name → after name) → (bs : List Begun) (ws new : Moments)
+pub closed_gone : (before after : List ℕ → Type 0) → ((name : List ℕ) → before name → after name) →
+    (bs : List Begun) (ws new : Moments)
     → new ≡ ws → Now ws (AreGone before bs) → Now new (AreGone after bs)
 closed_gone before after kept bs ws new same gone =
     subst (λ n. Now n (AreGone after bs)) (sym same) (kept_gone before after kept bs ws gone)

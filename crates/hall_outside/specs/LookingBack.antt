@@ -9,10 +9,10 @@ abbrev pub IsAsRead : (List ℕ → Identity → Type 0) → ReadFile → Type 0
 IsAsRead still file = IfSome file.found (λ found. found.is_regular ≡ true → still (string_bytes file.name) found)
 
 -- each of these is as it was read
-abbrev pub AreAsRead : (List ℕ → Identity → Type 0) → List ReadFile → Type 0
-AreAsRead still [] = ⊤
-AreAsRead still (file ∷ files) = IsAsRead still file × AreAsRead still files
+abbrev pub AreUnchanged : (List ℕ → Identity → Type 0) → List ReadFile → Type 0
+AreUnchanged still [] = ⊤
+AreUnchanged still (file ∷ files) = IsAsRead still file × AreUnchanged still files
 
 -- each file that was read is as it was then
 abbrev pub AreAllAsRead : (List ℕ → Identity → Type 0) → ReadFiles → Type 0
-AreAllAsRead still read = AreAsRead still (take read.count read.places.items)
+AreAllAsRead still read = AreUnchanged still (take read.count read.places.items)

@@ -1,6 +1,6 @@
 // Files that were read, so that none is replaced that another program has written since.
 ghost use Rattle.std.specs.Prelude.{◌≡◌, true, ℕ, List, IfOk, OnOk};
-ghost use Rattle.hall_outside.specs.LookingBack.{IsAsRead, AreAsRead, AreAllAsRead};
+ghost use Rattle.hall_outside.specs.LookingBack.{IsAsRead, AreUnchanged, AreAllAsRead};
 
 use crate::calls::again;
 use std::alloc::{AllocError, Global};
@@ -171,7 +171,7 @@ impl ReadFiles {
 
 /// Whether each of these is as it was read.
 fn are_as_read<L: LookBack>(names: &L, files: &[ReadFile]) -> io::Result<bool>
-    ensures { IfOk result (λ are. are ≡ true → AreAsRead (L.still names.now) files.now) }
+    ensures { IfOk result (λ are. are ≡ true → AreUnchanged (L.still names.now) files.now) }
 {
     for file in files {
         if !is_as_read(names, file)? {

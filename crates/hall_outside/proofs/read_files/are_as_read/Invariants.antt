@@ -1,8 +1,9 @@
 use Rattle.std.proofs.Common.{drop}
-use Rattle.hall_outside.specs.LookingBack.{AreAsRead}
+use Rattle.hall_outside.specs.LookingBack.{AreUnchanged}
 use Rattle.hall_outside.proofs.read_files.are_as_read.Given as goal
 
 -- where the rest is as it was read all are
 abbrev pub invariant-loop-file : goal.invariant-loop-file
 invariant-loop-file g l =
-    AreAsRead (g.L.LookBack.still l.names) (drop l.file-index l.files) → AreAsRead (g.L.LookBack.still l.names) l.files
+    AreUnchanged (g.L.LookBack.still l.names) (drop l.file-index l.files) →
+        AreUnchanged (g.L.LookBack.still l.names) l.files
