@@ -1,6 +1,6 @@
 -- The picture of a report.
 use Rattle.std.specs.Prelude.{ℕ, ◌+◌, Bool, true, false, if◌then◌else◌, List, [], ◌∷◌, ◌++◌, length, codes, count_by}
-use Rattle.std.specs.Prelude.{Option, Some, None, slice_get}
+use Rattle.std.specs.Prelude.{Option, Some, None, nat_le, slice_get}
 use Rattle.std.specs.List.{concat, flat_map, range_with_len}
 use Rattle.std.specs.Fmt.{decimal}
 use Rattle.rule_engine.specs.declared.verdict.Verdict.{Verdict}
@@ -22,6 +22,7 @@ use Rattle.entangled_picture.specs.Names.{rule_name, two_words}
 use Rattle.entangled_picture.specs.Drawing.{words_at}
 use Rattle.entangled_picture.specs.Legend.{arrow_heads, legend}
 use Rattle.entangled_picture.specs.ShapeMarks.{shape_line}
+use Rattle.entangled_picture.specs.Places.{most_arrows}
 use Rattle.entangled_picture.specs.Shapes.{arrow_count, shapes_of}
 
 -- the verdict is there and passes the test
@@ -129,12 +130,13 @@ count_words graph drawn = words_at (codes "rules") (codes "translate(8 82)") (gr
 -- how many arrows between entries there are
 abbrev pub arrows_line : ℕ → List ℕ
 arrows_line arrows =
-    concat (codes "arrows between entries " ∷ decimal arrows
-    ∷ codes ", of which the first 5000 are drawn; to each gap the first 16" ∷ [])
+    concat (codes "arrows between entries " ∷ decimal arrows ∷ codes ", of which the first 5000 are drawn" ∷ [])
 
--- how many of the arrows are drawn
+-- how many of the arrows are drawn, where some aren't
 unfoldable pub arrows_words : ℕ → List ℕ
-arrows_words arrows = words_at (codes "rules") (codes "translate(8 98)") (arrows_line arrows)
+arrows_words arrows =
+    if nat_le arrows most_arrows then []
+    else words_at (codes "rules") (codes "translate(8 98)") (arrows_line arrows)
 
 -- what the report comes to, the rules that aren't kept, and how many entries and arrows are drawn
 unfoldable pub picture_words : AuditReport → List ℕ → ℕ → ℕ → List ℕ

@@ -45,7 +45,7 @@ use crate::legend::{STYLE, add_arrow_heads, add_legend};
 use crate::names::{rule_name, two_words};
 use crate::shape::Shape;
 use crate::shape_marks::add_shape_line;
-use crate::shapes::drawing_of;
+use crate::shapes::{MOST_ARROWS, drawing_of};
 use auditor::Report;
 use entry_graph::Graph;
 use page_markup::{AttributeName, Attributes, Markup, Tag, svg_document};
@@ -321,16 +321,18 @@ fn arrows_line(alloc: Global, arrows: usize) -> Result<String, AllocError>
     ensures { IfOk result (λ text. string_bytes text ≡ arrows_line arrows) }
 {
     format!(in alloc;
-        "arrows between entries {arrows}, of which the first 5000 are drawn; \
-to each gap the first 16"
+        "arrows between entries {arrows}, of which the first 5000 are drawn"
     )
 }
 
-/// Adds how many of the arrows are drawn.
+/// Adds how many of the arrows are drawn, if some aren't.
 #[tactic(auto, unfolding(crate::specs::Document::arrows_words))]
 fn add_arrows_words(alloc: Global, out: &mut Markup, arrows: usize) -> Result<(), AllocError>
     ensures { OnOk result (out.new ≡ out.old ++ arrows_words arrows) }
 {
+    if arrows <= MOST_ARROWS {
+        return Ok(());
+    }
     let line = arrows_line(alloc, arrows)?;
     add_words(alloc, out, b"rules", b"translate(8 98)", line.as_bytes())
 }

@@ -25,7 +25,7 @@ use std::alloc::{AllocError, Global};
 
 /// Of the arrows between survivors the first ones up to this number are drawn. An honest entry
 /// names at most one other of each machine, so of 300 none is left out.
-const MOST_ARROWS: usize = 5000;
+pub(crate) const MOST_ARROWS: usize = 5000;
 
 /// The survivors of the report with their spots.
 fn placed_of(alloc: Global, report: &Report) -> Result<Vec<Placed>, AllocError>
