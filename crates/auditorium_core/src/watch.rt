@@ -388,7 +388,10 @@ fn wide_among(
 {
     if graph.strays().is_empty() {
         let seen = rows(alloc, graph, roster)?;
-        if !rules.iter().any(|rule| is_too_wide(&rule.body, 1, seen.as_slice())) {
+        if !rules
+            .iter()
+            .any(|rule| is_too_wide(&rule.body, 1, seen.as_slice()))
+        {
             return Ok(None);
         }
     }

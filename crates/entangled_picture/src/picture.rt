@@ -320,9 +320,7 @@ fn add_count_words(
 fn arrows_line(alloc: Global, arrows: usize) -> Result<String, AllocError>
     ensures { IfOk result (λ text. string_bytes text ≡ arrows_line arrows) }
 {
-    format!(in alloc;
-        "arrows between entries {arrows}, of which the first 5000 are drawn"
-    )
+    format!(in alloc; "arrows between entries {arrows}, of which the first 5000 are drawn")
 }
 
 /// Adds how many of the arrows are drawn, if some aren't.
