@@ -12,7 +12,7 @@ from signatures import SigningKey  # noqa: E402
 from texts import read_text, write_text  # noqa: E402
 
 HEIGHTS = {"h5": 5, "h10": 6}
-KINDS = {"w4": 3, "w8": 4}
+KINDS = {"w1": 1, "w2": 2, "w4": 3, "w8": 4}
 
 
 class Place:

@@ -55,6 +55,7 @@ pub mod WatchReads
 pub mod WatchSteps
 pub mod WatchCommand
 pub mod WatchAgreement
+pub mod WatchOrders
 pub mod CheckLess
 pub mod HonestWatches
 pub mod CitedLaws

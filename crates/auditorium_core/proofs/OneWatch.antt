@@ -26,7 +26,7 @@ abbrev these : RosterRead → List RuleTree → List LogRead → Evidence
 these read rules logs = record { machines = read.roster.machines; rules = rules; logs = logs }
 
 -- files give one evidence, or one refusal
-evidence_agrees : Ones → (names : List (List ℕ)) (roster : List ℕ) (source : RuleSource)
+pub evidence_agrees : Ones → (names : List (List ℕ)) (roster : List ℕ) (source : RuleSource)
     (files : List (Option (List ℕ))) → IsOne SameEvidence (GivesEvidence roster source names files)
 evidence_agrees ones names roster source =
     roster_then_one ones SameEvidence roster (λ read. ReadsRules read source names)

@@ -70,7 +70,7 @@ module _ (machines : List Post) (rules : List RuleTree) (entries : List SealedEn
 -- ---- at most one answer
 
 -- summaries that say the same have one line
-same_line : (n : ℕ) (s t : Summary) → s.survivors ≡ t.survivors → s.gaps ≡ t.gaps →
+pub same_line : (n : ℕ) (s t : Summary) → s.survivors ≡ t.survivors → s.gaps ≡ t.gaps →
     AllZip SameVerdict s.verdicts t.verdicts → watch_line n s ≡ watch_line n t
 same_line n s t survivors gaps verdicts =
     let kept = same_count is_kept (λ v w same. (one_count v w same).kept) s.verdicts t.verdicts verdicts in
@@ -110,7 +110,8 @@ module _ (graphs : EntriesGiveOneGraph) (machines : List Post) (rules : List Rul
       one_place (map (row_of machines) graph.survivors) rules p q first
       (subst (λ (S : List SealedEntry). IsFirstTooWide (map (row_of machines) S) rules q) (sym same.survivors) second)
 
-module _ (graphs : EntriesGiveOneGraph) (machines : List Post) (rules : List RuleTree) (entries : List SealedEntry) where
+module _ (graphs : EntriesGiveOneGraph) (machines : List Post) (rules : List RuleTree)
+    (entries : List SealedEntry) where
   -- where the first entries are said, they are narrow after each
   pub none_wide : (k : ℕ) → k ≤ length entries → (ss : List Summary) → AreSummaries machines rules (take k entries) ss →
       (n : ℕ) → n < k → IsNarrowOver machines rules (take (n + 1) entries)
@@ -149,8 +150,8 @@ module _ (graphs : EntriesGiveOneGraph) (machines : List Post) (source : RuleSou
       late.too_wide
 
   -- nor are they after one before the first
-  none_earlier : (p q : ℕ) (one : IsTooWideAfter machines rules entries p) (other : IsTooWideAfter machines rules entries q) →
-      one.before < other.before → ⊥
+  none_earlier : (p q : ℕ) (one : IsTooWideAfter machines rules entries p)
+      (other : IsTooWideAfter machines rules entries q) → one.before < other.before → ⊥
   none_earlier p q one other less = (other.earlier one.before less).narrow p one.too_wide
 
   -- so the first that is too wide has one place

@@ -6,7 +6,7 @@ use Rattle.auditorium_core.proofs.Imports.{entries_of, EntriesGiveOneGraph, Refu
 use Rattle.auditorium_core.proofs.Imports.{GivesReport, WithGraph, FilesGiveOneReport, AuditReport}
 use Rattle.auditorium_core.proofs.Imports.{report_on, SameReport, RuleSource, Summary, After, Answer}
 use Rattle.auditorium_core.proofs.Imports.{refusal_answer, source_named, IsAuditOver, IsOfReport, report_answer}
-use Rattle.auditorium_core.proofs.Imports.{Evidence}
+use Rattle.auditorium_core.proofs.Imports.{Evidence, LogRead}
 use Rattle.auditorium_core.proofs.Imports.{watch_answer, watch_line, watch_lines, AgreesWithAudit}
 use Rattle.auditorium_core.proofs.Imports.{WatchesAgreeWithAudits, summary_of}
 use Rattle.std.specs.Prelude.{Some}
@@ -23,7 +23,7 @@ not_of_report (absent file) is = is
 not_of_report (refused file place cause) is = is
 
 -- what is found is no refusal
-not_refused : {A : Type 0} (found : A) (refusal : Refusal) → ◌≡◌ {A = Result A Refusal} (Ok found) (Err refusal) → ⊥
+pub not_refused : {A : Type 0} (found : A) (refusal : Refusal) → ◌≡◌ {A = Result A Refusal} (Ok found) (Err refusal) → ⊥
 not_refused found refusal e = cc
 
 -- what a report is made of by a graph
@@ -72,10 +72,11 @@ last_of (x ∷ y ∷ xs) some =
     (x ∷ front, last, ap (λ ys. x ∷ ys) is)
 
 -- the last line is that of the report
-last_line : EntriesGiveOneGraph → (source : RuleSource) (names : List (List ℕ)) (evidence : Evidence) (told : Answer)
+pub last_line : EntriesGiveOneGraph → (source : RuleSource) (names : List (List ℕ)) (evidence : Evidence) (told : Answer)
     (of : IsToldOf source names evidence told) → entries_of of.report.logs ≢ [] →
-    (earlier : List ℕ) × (told.output
-    ≡ earlier ++ watch_line (length (entries_of of.report.logs)) (summary_of of.report))
+    (front : List Summary) × (length front + 1 ≡ length (entries_of of.report.logs))
+    × (told.output
+    ≡ watch_lines 1 front ++ watch_line (length (entries_of of.report.logs)) (summary_of of.report))
 last_line graphs source names evidence told of some =
     let es = entries_of evidence.logs in
     let logs = of_logs source names evidence told of in
@@ -90,7 +91,8 @@ last_line graphs source names evidence told of some =
     one_line graphs evidence.machines evidence.rules es s (summary_of of.report) a
     (summed source names evidence told of) (length es) in
     let number : 1 + length front ≡ length es = omega (arith, long) in (
-      watch_lines 1 front,
+      front,
+      long ∙ ap (λ (ls : List LogRead). length (entries_of ls)) (sym logs),
       ap (λ (t : Answer). t.output) of.is ∙ ap (watch_lines 1) is ∙ lines_more 1 front s
           ∙ ap (λ n. watch_lines 1 front ++ watch_line n s) number
           ∙ ap (λ l. watch_lines 1 front ++ l) same
@@ -148,6 +150,6 @@ watches_agree graphs reports roster rules logs files watched audited (inr (told,
           status = status_is watched told e ∙ status_is told (watch_answer of.summaries of.report) of.is
               ∙ sym (status_is audited (report_answer of.report) answer);
           last = λ some.
-              let (earlier, line) = last_line graphs (source_named rules) logs found told of some in
-              (earlier, ap (λ (a : Answer). a.output) e ∙ line);
+              let (front, _, line) = last_line graphs (source_named rules) logs found told of some in
+              (watch_lines 1 front, ap (λ (a : Answer). a.output) e ∙ line);
         }

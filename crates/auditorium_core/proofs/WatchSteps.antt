@@ -311,8 +311,8 @@ module _ (es : List SealedEntry) (k : ℕ) (e : SealedEntry) (within : k < lengt
         )
 
     -- where it isn't added, as a rule would be too wide, the entries aren't watched
-    pub not_added : EntriesGiveOneGraph → (live : LiveState) (why : Unwatched) → live.machines ≡ machines → map rule_tree live.rules ≡ rules →
-        live.added ≡ added → IsUnadded live e why → IsUnwatched machines rules es why
+    pub not_added : EntriesGiveOneGraph → (live : LiveState) (why : Unwatched) → live.machines ≡ machines →
+        map rule_tree live.rules ≡ rules → live.added ≡ added → IsUnadded live e why → IsUnwatched machines rules es why
     not_added graphs live (TooWide place) one_roster one_list same (new, wide) =
         let (ss, said, lines) = so_far in
         let moved = subst (λ ms. IsTooWideOver ms rules (added ++ e ∷ []) place) one_roster

@@ -1,6 +1,8 @@
--- What `watch` has in common with an audit, and what it says where the logs' files are left of an
--- honest place.
-use Rattle.std.specs.Prelude.{◌≡◌, ◌≢◌, ◌⊎◌, ℕ, List, [], ◌∷◌, ◌++◌, length, codes, All, Option, Ok, count_by}
+-- What `watch` has in common with an audit and with itself over the logs in another order, and what it
+-- says where the logs' files are left of an honest place.
+use Rattle.std.specs.Prelude.{◌≡◌, ◌≢◌, ◌⊎◌, ℕ, ◌+◌, List, [], ◌∷◌, ◌++◌, length, map, codes, All, Option, Ok}
+use Rattle.std.specs.Prelude.{count_by}
+use Rattle.std.specs.List.Sorted.{IsPermutation}
 use Rattle.entry_format.specs.Nodes.{node_of_sealed}
 use Rattle.entry_order.specs.Naming.{Distinct}
 use Rattle.entry_order.specs.World.{sent_in}
@@ -8,6 +10,7 @@ use Rattle.evidence.specs.Graphs.{entries_of}
 use Rattle.auditor.specs.Audits.{GivesReport}
 use Rattle.auditor.specs.Outcomes.{is_broken}
 use Rattle.auditor.specs.Report.{AuditReport}
+use Rattle.honest_reports.specs.Places.{files_read}
 use Rattle.live_auditor.specs.Summary.{Summary}
 use Rattle.auditorium_core.specs.declared.status.Status.TheVariants as status
 use Rattle.auditorium_core.specs.HonestPlace.{OnEachPlace}
@@ -48,6 +51,39 @@ WatchesAgreeWithAudits =
     (watched audited : Answer) → IsWatchOver roster rules logs files watched →
     IsOfReport watched.status → IsAuditOver roster rules logs files audited →
     AgreesWithAudit roster rules logs files watched audited
+
+-- n lines are printed, of which the last says this
+abbrev pub PrintsLast : ℕ → Summary → Answer → Type 0
+PrintsLast n summary watched =
+    (earlier : List Summary) × (length earlier + 1 ≡ n)
+    × (watched.output ≡ watch_lines 1 earlier ++ watch_line n summary)
+
+-- the statuses are the same, and where the one prints something, so are the last lines
+pub record EndAlike (watched other : Answer) : Type 0 where
+  pub status : watched.status ≡ other.status
+  pub last : watched.output ≢ [] →
+      (n : ℕ) × (summary : Summary) × PrintsLast n summary watched × PrintsLast n summary other
+
+-- the file of a log: its name, and its bytes where it is there
+abbrev pub NamedLog : Type 0
+NamedLog = List ℕ × Option (List ℕ)
+
+-- the answer of `watch` for these files
+abbrev pub IsWatchOfLogs : List ℕ → List ℕ → Option (List ℕ) → Option (List ℕ) →
+    List NamedLog → Answer → Type 0
+IsWatchOfLogs roster rules roster_file rules_file logs =
+    IsWatchOver roster rules (map (λ (log : NamedLog). log.0) logs)
+    (files_read roster_file (source_named rules) rules_file (map (λ (log : NamedLog). log.1) logs))
+
+-- The law: the order of the logs decides how `watch` goes on, and not how it ends. Over the same logs
+-- in another order, where it is refused in neither, it has the same status and the same last line.
+abbrev pub OrdersOfLogsEndAlike : Type 0
+OrdersOfLogsEndAlike =
+    (roster rules : List ℕ) (roster_file rules_file : Option (List ℕ))
+    (logs others : List NamedLog) (watched other : Answer) → IsPermutation logs others →
+    IsWatchOfLogs roster rules roster_file rules_file logs watched →
+    IsWatchOfLogs roster rules roster_file rules_file others other →
+    IsOfReport watched.status → IsOfReport other.status → EndAlike watched other
 
 -- no line says of a rule that it is broken, nor does the status
 pub record BreaksNoRule (watched : Answer) : Type 0 where

@@ -46,4 +46,6 @@ pub use office_laws::{
 };
 pub use program::{auditorium, auditorium_still};
 pub use status::Status;
-pub use watch_laws::{honest_watches_break_no_rule, watches_agree_with_audits};
+pub use watch_laws::{
+    honest_watches_break_no_rule, orders_of_logs_end_alike, watches_agree_with_audits,
+};

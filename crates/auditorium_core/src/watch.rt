@@ -1,7 +1,7 @@
 // The command `watch`: what an audit says after each entry that the logs keep.
 ghost use Rattle.std.specs.Prelude.{◌≡◌, ◌≢◌, ◌<◌, ◌≤◌, ◌||◌, ◌++◌, ◌↔◌, [], All, IsTrue, codes};
-ghost use Rattle.std.specs.Prelude.{List, ℕ, Err, IfErr, IfNone, IfOk, IfSome, Ok, OnOk, length, map};
-ghost use Rattle.std.specs.Prelude.{count_by, string_bytes};
+ghost use Rattle.std.specs.Prelude.{List, ℕ, Err, IfErr, IfNone, IfOk, IfSome, Ok, OnOk, length};
+ghost use Rattle.std.specs.Prelude.{count_by, map, string_bytes};
 ghost use Rattle.std.specs.List.{list_any};
 ghost use Rattle.std.specs.Str.{bytes_eq};
 ghost use Rattle.entry_format.specs.Nodes.{node_of_sealed};

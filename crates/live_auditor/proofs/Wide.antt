@@ -2,8 +2,8 @@
 use Rattle.std.proofs.Common.{◌≡◌}
 use Rattle.live_auditor.proofs.Imports.{◌∙◌, ℕ, zero, suc, ◌+◌, ◌<◌, ◌≤◌, List, [], ◌∷◌, length, get_or, map, ap, sym}
 use Rattle.live_auditor.proofs.Imports.{subst, arith, inl, inr, ◌⊎◌, true, false, true≢false, cases_lt, Some, Ok}
-use Rattle.live_auditor.proofs.Imports.{slice_get, length-map, slice_get_within, SealedEntry, EntryGraph, Post, Rule}
-use Rattle.live_auditor.proofs.Imports.{Row, rule_tree, RuleTree, IsSealedGraph, EntriesGiveOneGraph, SameGraph}
+use Rattle.live_auditor.proofs.Imports.{slice_get, length-map, slice_get_within, SealedEntry, Rule}
+use Rattle.live_auditor.proofs.Imports.{Row, rule_tree, RuleTree, EntriesGiveOneGraph, SameGraph}
 use Rattle.live_auditor.proofs.Imports.{IsFirstTooWide, row_of, IsTooWideOver, LiveState, SurvivorsKept, IsKept}
 use Rattle.rule_meaning.specs.Widths.{is_too_wide}
 use Rattle.std.proofs.Common.{Option}
@@ -61,7 +61,8 @@ module _ (state : LiveState) (kept : SurvivorsKept) (is : IsKept state kept) (tr
   pub wide_kept : (place : ℕ) → IsFirstTooWide kept.rows trees place →
       IsTooWideOver state.machines trees state.added place
   wide_kept place first =
-      (is.live.after.graph, is.live.after.graphed, subst (λ rows. IsFirstTooWide rows trees place) is.survivors.rows first)
+      let over = subst (λ rows. IsFirstTooWide rows trees place) is.survivors.rows first in
+      (is.live.after.graph, is.live.after.graphed, over)
 
   -- and nothing else is
   pub narrow_kept : EntriesGiveOneGraph → ((place : ℕ) → IsFirstTooWide kept.rows trees place → ⊥) → (place : ℕ) →

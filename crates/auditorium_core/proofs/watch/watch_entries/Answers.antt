@@ -38,8 +38,8 @@ returns-in-Err-clause-err c =
     (read_within (λ r. r.now) entries c.loop-k.k r c.loop-k-test.true c.index-entries-k.is)
     (read_at (λ r. r.now) entries c.loop-k.k r c.loop-k-test.true c.index-entries-k.is)
     c.loop-k.live.added c.loop-k.invariant.stand c.args.live.now.machines (map rule_tree c.args.live.now.rules)
-    (string_bytes c.loop-k.lines) c.loop-k.invariant.told c.entries_give_one_graph.ensures c.loop-k.live c.in-Err.why same.machines
-    (λ i. map rule_tree (same.rules i)) (λ i. c.loop-k.live.added) c.in-Err.ensures.err
+    (string_bytes c.loop-k.lines) c.loop-k.invariant.told c.entries_give_one_graph.ensures c.loop-k.live c.in-Err.why
+    same.machines (λ i. map rule_tree (same.rules i)) (λ i. c.loop-k.live.added) c.in-Err.ensures.err
 
 pub loop-k-preserved : goal.loop-k-preserved
 loop-k-preserved c =

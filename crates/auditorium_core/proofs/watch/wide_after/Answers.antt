@@ -51,8 +51,8 @@ loop-k-preserved c =
       stand = stand;
       same = same;
       kept = c.in-Ok-None.ensures.kept;
-      narrow = narrow_more c.entries_give_one_graph.ensures start.machines (map rule_tree start.rules) trees es next.added k
-          next.summary (after_same start next same c.in-Ok-None.ensures.kept) stand
+      narrow = narrow_more c.entries_give_one_graph.ensures start.machines (map rule_tree start.rules) trees es
+          next.added k next.summary (after_same start next same c.in-Ok-None.ensures.kept) stand
           (subst (λ (ms : List Post). (place : ℕ) → IsTooWideOver ms trees next.added place → ⊥) same.machines none)
           c.loop-k.invariant.narrow;
     }

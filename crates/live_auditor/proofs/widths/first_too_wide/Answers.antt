@@ -6,13 +6,15 @@ use Rattle.live_auditor.proofs.widths.first_too_wide.Goals as goal
 
 pub returns-then-is_too_wide-clause-some : goal.returns-then-is_too_wide-clause-some
 returns-then-is_too_wide-clause-some c =
-    let wide : is_too_wide c.args.rows.now (rule_tree c.index-rules-place.result).body 1 ≡ true = grind (rules, c.if-is_too_wide.true, c.is_too_wide.ensures) in
+    let wide : is_too_wide c.args.rows.now (rule_tree c.index-rules-place.result).body 1 ≡ true =
+    grind (rules, c.if-is_too_wide.true, c.is_too_wide.ensures) in
     first_wide c.args.rows.now c.args.rules.now c.loop-place.place c.index-rules-place.result c.loop-place-test.true
     c.index-rules-place.is c.loop-place.invariant wide
 
 pub loop-place-preserved : goal.loop-place-preserved
 loop-place-preserved c =
-    let narrow : is_too_wide c.args.rows.now (rule_tree c.index-rules-place.result).body 1 ≡ false = grind (rules, c.if-is_too_wide.false, c.is_too_wide.ensures) in
+    let narrow : is_too_wide c.args.rows.now (rule_tree c.index-rules-place.result).body 1 ≡ false =
+    grind (rules, c.if-is_too_wide.false, c.is_too_wide.ensures) in
     narrow_more c.args.rows.now c.args.rules.now c.loop-place.place c.index-rules-place.result c.loop-place-test.true
     c.index-rules-place.is c.loop-place.invariant narrow
 

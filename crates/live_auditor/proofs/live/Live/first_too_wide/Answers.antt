@@ -1,4 +1,4 @@
-use Rattle.live_auditor.proofs.Imports.{ℕ, List, ap, map, subst, sym, IfSome, Row, rule_tree, RuleTree, IsFirstTooWide}
+use Rattle.live_auditor.proofs.Imports.{ℕ, List, map, subst, sym, IfSome, Row, rule_tree, IsFirstTooWide}
 use Rattle.live_auditor.proofs.Imports.{IsTooWideOver, LiveState, kept_of}
 use Rattle.live_auditor.proofs.Wide.{narrow_kept, wide_kept}
 use Rattle.std.specs.Prelude.{IfNone}
