@@ -152,12 +152,13 @@ module _ (script : Script) (ms ns : List MachineState) (of : AreMachinesOf scrip
         there,
         stop_still m n stopped grows.stop (longer m n grows) (placed l.to n there).machine.stop,
       )
-  cause_still l way LogFull (m, is, full) =
+  cause_still l way LogFull (m, is, unstopped, full) =
       let (n, there, grows) = now_at ms ns grown l.to m is in
       let low = longer m n grows in
       let within = (placed l.to n there).machine.within in
       let log = log_is script l.to n (now_of.each l.to n there) in
-      (n, there, omega arith)
+      let same : length n.events ≡ length m.events = omega arith in
+      (n, there, (λ at. unstopped (sym grows.stop ∙ at ∙ ap (λ (k : ℕ). Some k) same)), omega arith)
   cause_still l way SameDigest (m, is, (entry, was_sent, numbered, borne)) =
       let (n, there, grows) = now_at ms ns grown l.to m is in
       (n, there, (entry, sent_still ms ns grown l.from entry was_sent, numbered, held_still m n _ grows borne))
@@ -167,8 +168,8 @@ module _ (script : Script) (ms ns : List MachineState) (of : AreMachinesOf scrip
   cause_new l Scripted cause = cause
   cause_new l LinkFull cause = absurd cause
   cause_new l ToStopped cause = cause
-  cause_new l LogFull (m, is, full) =
-      (m, is, full ∙ log_is script l.to m (now_of.each l.to m is))
+  cause_new l LogFull (m, is, unstopped, full) =
+      (m, is, unstopped, full ∙ log_is script l.to m (now_of.each l.to m is))
   cause_new l SameDigest cause = cause
 
   -- each loss that is reported has its cause

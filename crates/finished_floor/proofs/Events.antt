@@ -138,12 +138,12 @@ module _ (ms : List MachineState) (at : ℕ) (m : MachineState) (x : Event Seale
             absurd (going_on m going (subst (λ (u : MachineState). u.stop ≡ Some (length u.events)) one stops)))
         | inr n ↦ (to, there loss.to to stands n, stops)
       ]
-  cause_event loses loss LogFull (to, stands, fills) =
+  cause_event loses loss LogFull (to, stands, going_there, fills) =
       elim (cases_eq loss.to at) [
         | inl s ↦ (let one = one_at ms at to m (ap (slice_get ms) (sym s) ∙ stands) stood in
             let full = subst (λ (u : MachineState). length u.events ≡ u.config.log) one fills in
             absurd (omega arith))
-        | inr n ↦ (to, there loss.to to stands n, fills)
+        | inr n ↦ (to, there loss.to to stands n, going_there, fills)
       ]
   cause_event loses loss SameDigest (to, stands, holds) =
       elim (cases_eq loss.to at) [

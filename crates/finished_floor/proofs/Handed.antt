@@ -279,7 +279,8 @@ module _ (loses : List Lose) (old : List MachineState) (before : List Loss) (wai
           let at = is.placed to m hands.stood in
           stays ToStopped same (m, hands.stood, stopped_there m at.machine at.unmarked has)
           (not_named ToStopped isnt) l
-      by (Some LogFull) (isnt, full, same) l = stays LogFull same (m, hands.stood, full) (not_named LogFull isnt) l
+      by (Some LogFull) (isnt, going, full, same) l =
+          stays LogFull same (m, hands.stood, event.going_on m going, full) (not_named LogFull isnt) l
       by (Some SameDigest) (isnt, borne, same) l =
           stays SameDigest same (m, hands.stood, (e, sent_before.0, refl, borne)) (not_named SameDigest isnt) l
 
@@ -290,7 +291,7 @@ handed_config scripted m n e None (_, _, same) = ap (λ (u : MachineState). u.co
 handed_config scripted m n e (Some Scripted) (_, same) = ap (λ (u : MachineState). u.config) same
 handed_config scripted m n e (Some LinkFull) fate = absurd fate
 handed_config scripted m n e (Some ToStopped) (_, _, same) = ap (λ (u : MachineState). u.config) same
-handed_config scripted m n e (Some LogFull) (_, _, same) = ap (λ (u : MachineState). u.config) same
+handed_config scripted m n e (Some LogFull) (_, _, _, same) = ap (λ (u : MachineState). u.config) same
 handed_config scripted m n e (Some SameDigest) (_, _, same) = ap (λ (u : MachineState). u.config) same
 
 -- each number is still its place where the machine put there has the same configuration

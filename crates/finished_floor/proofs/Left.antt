@@ -33,7 +33,7 @@ fate_left scripted m n e None (_, _, same) =
 fate_left scripted m n e (Some Scripted) (_, same) = ap left_of same
 fate_left scripted m n e (Some LinkFull) fate = absurd fate
 fate_left scripted m n e (Some ToStopped) (_, _, same) = ap left_of same
-fate_left scripted m n e (Some LogFull) (_, _, same) = ap left_of same
+fate_left scripted m n e (Some LogFull) (_, _, _, same) = ap left_of same
 fate_left scripted m n e (Some SameDigest) (_, _, same) = ap left_of same
 
 -- none is done where an entry is handed to a machine

@@ -167,7 +167,7 @@ module _ (script : Script) (ms : List MachineState) (of : AreMachinesOf script m
           no_stop l.to m.stop (length m.events)
           (subst (λ (stops : List StopAt). IsStopOf stops l.to m.stop) no_stops
           (of.each l.to m there).stop) stopped
-      by LogFull is (m, there, full) = not_all logs l c m there full
+      by LogFull is (m, there, unstopped, full) = not_all logs l c m there full
       by SameDigest is cause =
           let (m, there, h) = All-contains (λ (loss : Loss). loss.why ≡ SameDigest → (m : MachineState)
           × (slice_get ms loss.to ≡ Some m) × HoldsAnother ms loss.from loss.number m) told l others c is in

@@ -49,7 +49,7 @@ pub record HoldsAnother (machines : List MachineState) (from number : ℕ) (m : 
 
 -- Why an entry is lost: a line of the script names it; or none does and at least as many entries
 -- with lower numbers were put on the link as it holds; or its receiver has as many events as its
--- stop line says, or as its log can have, or holds an entry with its digest.
+-- stop line says, or, where it hasn't, as its log can have, or holds an entry with its digest.
 abbrev pub IsCauseOf : Script → List MachineState → List Loss → Loss → LossWhy → Type 0
 IsCauseOf script machines losses loss Scripted = is_scripted script.loses loss.from loss.number loss.to ≡ true
 IsCauseOf script machines losses loss LinkFull =
@@ -58,7 +58,8 @@ IsCauseOf script machines losses loss LinkFull =
 IsCauseOf script machines losses loss ToStopped =
     (m : MachineState) × (slice_get machines loss.to ≡ Some m) × (m.stop ≡ Some (length m.events))
 IsCauseOf script machines losses loss LogFull =
-    (m : MachineState) × (slice_get machines loss.to ≡ Some m) × (length m.events ≡ script.log)
+    (m : MachineState) × (slice_get machines loss.to ≡ Some m) × (m.stop ≢ Some (length m.events))
+    × (length m.events ≡ script.log)
 IsCauseOf script machines losses loss SameDigest =
     (m : MachineState) × (slice_get machines loss.to ≡ Some m) × HoldsSame machines loss.from loss.number m
 

@@ -22,15 +22,16 @@ HoldsSame machines from number m =
     × IsBorneIn node_of_sealed (held m.events) (node_of_sealed e).digest
 
 -- Why an entry is lost in a sweep: a line of the script names it; or its receiver has as many
--- events as it stops at, or as its log can have, or holds another entry with its digest. No link is
--- full.
+-- events as it stops at, or, where it hasn't, as its log can have, or holds another entry with its
+-- digest. No link is full.
 abbrev pub IsLossCause : List Lose → List MachineState → Loss → LossWhy → Type 0
 IsLossCause loses machines loss Scripted = is_scripted loses loss.from loss.number loss.to ≡ true
 IsLossCause loses machines loss LinkFull = ⊥
 IsLossCause loses machines loss ToStopped =
     (m : MachineState) × (slice_get machines loss.to ≡ Some m) × (m.stop ≡ Some (length m.events))
 IsLossCause loses machines loss LogFull =
-    (m : MachineState) × (slice_get machines loss.to ≡ Some m) × (length m.events ≡ m.config.log)
+    (m : MachineState) × (slice_get machines loss.to ≡ Some m) × (m.stop ≢ Some (length m.events))
+    × (length m.events ≡ m.config.log)
 IsLossCause loses machines loss SameDigest =
     (m : MachineState) × (slice_get machines loss.to ≡ Some m) × HoldsSame machines loss.from loss.number m
 

@@ -81,7 +81,7 @@ pub in_stays : (m : MachineState) (x : Event SealedEntry) (y : SealedEntry) (why
 in_stays m x y Scripted going room cause = cause
 in_stays m x y LinkFull going room cause = cause
 in_stays m x y ToStopped going room cause = absurd (going_on m going cause)
-in_stays m x y LogFull going room cause = absurd (omega arith)
+in_stays m x y LogFull going room (unstopped, full) = absurd (omega (arith, room, full))
 in_stays m x y SameDigest going room (g, in_h, same) = (g, held_more m.events x g in_h, same)
 
 -- what isn't heard has its cause
@@ -93,5 +93,5 @@ in_new m x (heard.Stopped back) why is marked (has, _) some =
 in_new m x (heard.Own back) why is marked h some = cc
 in_new m x (heard.Already back) why is marked (_, (_, _, borne)) some =
     subst (λ (w : LossWhy). IsInCause m x w) (same_Some SameDigest why some) borne
-in_new m x (heard.Full back) why is marked (_, (_, _, _, full)) some =
-    subst (λ (w : LossWhy). IsInCause m x w) (same_Some LogFull why some) full
+in_new m x (heard.Full back) why is marked (going, (_, _, _, full)) some =
+    subst (λ (w : LossWhy). IsInCause m x w) (same_Some LogFull why some) (going_on m going, full)

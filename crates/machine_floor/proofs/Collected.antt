@@ -541,7 +541,7 @@ module _ (script : Script) (links : List (List LinkView)) (ss : List StationStat
     ear_cause b t q x ToStopped off cause =
         (t.machine, ap (slice_get machines) off.to ∙ machine_at b t q, cause)
     ear_cause b t q x LogFull off cause =
-        (t.machine, ap (slice_get machines) off.to ∙ machine_at b t q, cause ∙ log_is b t q)
+        (t.machine, ap (slice_get machines) off.to ∙ machine_at b t q, cause.0, cause.1 ∙ log_is b t q)
     ear_cause b t q x SameDigest off cause = (
       t.machine,
       ap (slice_get machines) off.to ∙ machine_at b t q,

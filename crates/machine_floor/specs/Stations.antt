@@ -88,13 +88,13 @@ IsOutCause loses link outs loss ToStopped = ⊥
 IsOutCause loses link outs loss LogFull = ⊥
 IsOutCause loses link outs loss SameDigest = ⊥
 
--- why the machine doesn't hear an entry that it took: it has stopped where it is to stop, it has as
--- many events as it can, or it holds another entry with the same digest
+-- why the machine doesn't hear an entry that it took: it has stopped where it is to stop; or it
+-- hasn't, and has as many events as it can; or it holds another entry with the same digest
 abbrev pub IsInCause : MachineState → SealedEntry → LossWhy → Type 0
 IsInCause m x Scripted = ⊥
 IsInCause m x LinkFull = ⊥
 IsInCause m x ToStopped = m.stop ≡ Some (length m.events)
-IsInCause m x LogFull = length m.events ≡ m.config.log
+IsInCause m x LogFull = (m.stop ≢ Some (length m.events)) × (length m.events ≡ m.config.log)
 IsInCause m x SameDigest = IsBorneIn node_of_sealed (held m.events) (node_of_sealed x).digest
 
 -- the loss is of an entry that the machine sent, and has a cause

@@ -14,6 +14,7 @@ use Rattle.finished_floor.specs.declared.loss.LossWhy.TheVariants.{Scripted, Lin
 use Rattle.polling_world.specs.declared.heard.MachineHeard.TheVariants as heard
 use Rattle.polling_world.specs.Hearing.{IsHeard}
 use Rattle.polling_world.specs.Machines.{MachineState, has_stopped, with_event}
+use Rattle.polling_world.specs.Waiting.{IsGoing}
 use Rattle.finished_floor.specs.Scripted.{is_scripted}
 
 -- each machine has its place as its number
@@ -28,7 +29,7 @@ IsFate scripted old e (Some Scripted) new = (scripted ≡ true) × (new ≡ old)
 IsFate scripted old e (Some LinkFull) new = ⊥
 IsFate scripted old e (Some ToStopped) new = (scripted ≡ false) × IsTrue (has_stopped old) × (new ≡ old)
 IsFate scripted old e (Some LogFull) new =
-    (scripted ≡ false) × (length old.events ≡ old.config.log) × (new ≡ old)
+    (scripted ≡ false) × IsGoing old × (length old.events ≡ old.config.log) × (new ≡ old)
 IsFate scripted old e (Some SameDigest) new =
     (scripted ≡ false) × IsBorneIn node_of_sealed (held old.events) (node_of_sealed e).digest × (new ≡ old)
 
