@@ -1,10 +1,10 @@
 -- Losses of the same entries on the same ways, in order, are the same but for their causes.
-use Rattle.std.proofs.Common.{length, cond, Bool, true}
+use Rattle.std.proofs.Common.{length, cond, Bool, true, Some}
 use Rattle.std.specs.Prelude.{AllPairs, ◌↔◌}
 use Rattle.std.specs.List.{Contains}
 use Rattle.auditorium_core.proofs.Imports.{◌≡◌, ◌∙◌, ℕ, zero, suc, ◌+◌, ◌<◌, inl, inr, List, [], ◌∷◌, refl, sym}
 use Rattle.auditorium_core.proofs.Imports.{ap, subst, arith, All-contains, Contains-none, Contains-head, Contains-later}
-use Rattle.auditorium_core.proofs.Imports.{element_at, member_at, SealedEntry, Loss}
+use Rattle.auditorium_core.proofs.Imports.{element_at, member_at, one_at, slice_get, SealedEntry, Loss}
 use Rattle.auditorium_core.proofs.Imports.{node_of_sealed, history, MachineState, Script, world_of}
 use Rattle.entry_order.specs.declared.event.Event.TheVariants.{Sent}
 use Rattle.entry_order.specs.History.{sent}
@@ -12,14 +12,14 @@ use Rattle.entry_order.specs.Receipt.{IsOrderly}
 use Rattle.entry_order.proofs.Histories.{nth_split}
 use Rattle.entry_order.proofs.Lists.{Contains-cons_cases}
 use Rattle.finished_floor.specs.declared.loss.LossWhy.{LossWhy}
-use Rattle.finished_floor.specs.declared.loss.LossWhy.TheVariants.{Scripted}
+use Rattle.finished_floor.specs.declared.loss.LossWhy.TheVariants.{Scripted, ToStopped, LogFull}
 use Rattle.finished_floor.specs.Arrivals.{is_of}
 use Rattle.finished_floor.specs.Laws.{times_lost}
 use Rattle.finished_floor.specs.Losses.{AreLosses, IsCauseOf, IsOnWay, IsToldBefore}
 use Rattle.finished_floor.specs.Scripted.{is_scripted}
 use Rattle.finished_floor.proofs.Arriving.{is_of_parts, itself}
 use Rattle.std.proofs.lemmas.Bool.{cases_Bool}
-use Rattle.auditorium_core.specs.OneRun.{DifferInCauses}
+use Rattle.auditorium_core.specs.OneRun.{DiffersInCause, DifferInCauses}
 
 -- both are of one entry, on one way
 abbrev SameWay : Loss → Loss → Type 0
@@ -98,15 +98,14 @@ cause_alone x y (f, n, t) =
 turned : (x y : Loss) → SameWay x y → SameWay y x
 turned x y (f, n, t) = (sym f, sym n, sym t)
 
--- a line of the script names both or neither, where they are of one entry on one way
-abbrev AgreeOnLines : List Loss → List Loss → Type 0
-AgreeOnLines xs ys =
-    (x y : Loss) → Contains xs x → Contains ys y → SameWay x y → (x.why ≡ Scripted) ↔ (y.why ≡ Scripted)
+-- losses of one entry on one way differ so
+abbrev AgreeSo : List Loss → List Loss → Type 0
+AgreeSo xs ys = (x y : Loss) → Contains xs x → Contains ys y → SameWay x y → DiffersInCause x y
 
 -- losses in order, of which each has one of the same entry and way among the others, differ in
 -- their causes alone
 alike : (xs ys : List Loss) → AllPairs IsToldBefore xs → AllPairs IsToldBefore ys → AreAmong xs ys → AreAmong ys xs →
-    AgreeOnLines xs ys → DifferInCauses xs ys
+    AgreeSo xs ys → DifferInCauses xs ys
 alike [] [] told others among back agree = tt
 alike [] (y ∷ ys) told others among back agree =
     let (x, none, same) = back y (Contains-head y ys) in absurd (Contains-none x none)
@@ -114,7 +113,7 @@ alike (x ∷ xs) [] told others among back agree =
     let (y, none, same) = among x (Contains-head x xs) in absurd (Contains-none y none)
 alike (x ∷ xs) (y ∷ ys) told others among back agree =
     let same = first_same x y xs ys told others among back in (
-      (cause_alone x y same, agree x y (Contains-head x xs) (Contains-head y ys) same),
+      agree x y (Contains-head x xs) (Contains-head y ys) same,
       alike xs ys (later_told x xs told) (later_told y ys others) (later_among x y xs ys told same among)
           (later_among y x ys xs others (turned x y same) back)
           (λ z w inside there. agree z w (Contains-later x xs z inside) (Contains-later y ys w there)),
@@ -223,12 +222,29 @@ module _ (script : Script) (machines : List MachineState) (orderly : IsOrderly n
       (also.scripted y.from y.number y.to way.from way.to way.other way.number line) there (refl, refl, refl) in
       ap (λ (l : Loss). l.why) (sym same)
 
+  -- of one entry on one way no loss is of a stopped receiver where another is of a full log
+  not_full : (losses others : List Loss) → AreLosses script machines losses → AreLosses script machines others →
+      (x y : Loss) → Contains losses x → Contains others y → SameWay x y → x.why ≡ ToStopped → y.why ≡ LogFull → ⊥
+  not_full losses others is also x y inside there (f, n, t) why other_why =
+      let cause = All-contains (λ (l : Loss). IsCauseOf script machines losses l l.why) losses x is.causes inside in
+      let other = All-contains (λ (l : Loss). IsCauseOf script machines others l l.why) others y also.causes there in
+      let (m, at, stopped) = subst (λ (c : LossWhy). IsCauseOf script machines losses x c) why cause in
+      let (k, at', going, full) = subst (λ (c : LossWhy). IsCauseOf script machines others y c) other_why other in
+      let same : m ≡ k =
+      one_at machines y.to m k (subst (λ (to : ℕ). slice_get machines to ≡ Some m) t at) at' in
+      going (subst (λ (u : MachineState). u.stop ≡ Some (length u.events)) same stopped)
+
   -- two right lists of what machines lost differ in their causes alone
   pub same_losses : (losses others : List Loss) → AreLosses script machines losses →
       AreLosses script machines others → DifferInCauses losses others
   same_losses losses others is also =
       alike losses others is.sorted also.sorted (among losses others is also) (among others losses also is)
-      (λ x y inside there same. (
-        scripted_too losses others is also x y inside there same,
-        scripted_too others losses also is y x there inside (turned x y same),
-      ))
+      (λ x y inside there same. record {
+        entry = cause_alone x y same;
+        scripted = (
+          scripted_too losses others is also x y inside there same,
+          scripted_too others losses also is y x there inside (turned x y same),
+        );
+        stopped = not_full losses others is also x y inside there same;
+        full = λ full stopped. not_full others losses also is y x there inside (turned x y same) stopped full;
+      })

@@ -1,11 +1,11 @@
 -- What determines the answers of `run`.
-use Rattle.std.specs.Prelude.{◌≡◌, ◌↔◌, ℕ, List, ◌++◌, map, Option, Some}
+use Rattle.std.specs.Prelude.{◌≡◌, ◌≢◌, ◌↔◌, ℕ, List, ◌++◌, map, Option, Some}
 use Rattle.std.specs.List.{AllZip}
 use Rattle.entry_format.specs.SealedEntry.{SealedEntry}
 use Rattle.entry_order.specs.declared.event.Event.{Event}
 use Rattle.roster.specs.declared.post.Post.{Post}
 use Rattle.finished_floor.specs.declared.loss.Loss.{Loss}
-use Rattle.finished_floor.specs.declared.loss.LossWhy.TheVariants.{Scripted}
+use Rattle.finished_floor.specs.declared.loss.LossWhy.TheVariants.{Scripted, ToStopped, LogFull}
 use Rattle.hall_outside.specs.Files.{Files}
 use Rattle.evidence.specs.NamedFiles.{OnExposed}
 use Rattle.auditorium_core.specs.Lines.{Answer, OrRefused}
@@ -14,10 +14,14 @@ use Rattle.auditorium_core.specs.Run.{IsRunOf, loss_lines}
 use Rattle.auditorium_core.specs.Words.{IsAny}
 use Rattle.auditorium_core.specs.Answer.{AnswersWords}
 
--- both losses are of one entry on its way to one machine, and a line of the script names both or
--- neither; else their causes may differ
-abbrev pub DiffersInCause : Loss → Loss → Type 0
-DiffersInCause loss other = (other ≡ record loss { why = other.why }) × ((loss.why ≡ Scripted) ↔ (other.why ≡ Scripted))
+-- Both losses are of one entry on its way to one machine. A line of the script names both or
+-- neither, and it isn't that one is of a stopped receiver and the other of a full log. Else their
+-- causes may differ.
+pub record DiffersInCause (loss other : Loss) : Type 0 where
+  pub entry : other ≡ record loss { why = other.why }
+  pub scripted : (loss.why ≡ Scripted) ↔ (other.why ≡ Scripted)
+  pub stopped : loss.why ≡ ToStopped → other.why ≢ LogFull
+  pub full : loss.why ≡ LogFull → other.why ≢ ToStopped
 
 -- each of the losses and the other at its place differ in this alone
 abbrev pub DifferInCauses : List Loss → List Loss → Type 0
