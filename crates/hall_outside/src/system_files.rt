@@ -108,7 +108,8 @@ fn opened_at<R: Files<File = File>, L: LookBack>(
     name: &str,
     at: u64,
 ) -> io::Result<Option<Reading<File>>>
-    ensures { IfOk result (λ reading. IfSome reading (λ _. AreAllAsRead (L.still names.now) read.new)) }
+    ensures { IfOk result (λ reading. IfSome reading (λ _.
+        AreAllAsRead (L.still names.now) read.new)) }
 {
     let mut file = match open_to_read(rt, name) {
         Ok(file) => file,
