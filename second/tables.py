@@ -702,7 +702,7 @@ def table_office_files():
              "dangling.office": Special("symlink", "nowhere"), "b.office": text,
              "b2.office": Special("link", "b.office"),
              "pipe.office": Special("pipe"), "folder.office/": b"",
-             "open.office": Special("file", text, 0o644),
+             "open.office": Special("file", text, 0o644), "h": b"file", "h.sig": Special("link", "h"),
              "x.office": Special("file", text, 0o500), "w.office": Special("file", text, 0o700)}
     commands = [["endorse", name, "f"] for name in ("link", "dangling", "b", "b2", "pipe", "folder",
                                                     "open", "x", "w")]
@@ -710,7 +710,7 @@ def table_office_files():
                                                           "folder", "no/o")]
     commands += [["gaps", "link.office"], ["gaps", "b.office"], ["endorsed", "f", "b2.office", "f"],
                  ["endorse", "a", "link.office"],
-                 ["endorse", "a", "a.office"], ["endorse", "a", "folder"],
+                 ["endorse", "a", "a.office"], ["endorse", "a", "folder"], ["endorse", "a", "h"],
                  ["prove", "r", "made.office", "l"], ["prove", "r", "a.office", "l"]]
     for place, old in enumerate(olds()):
         files.update({"f%d" % place: b"file", "f%d.sig" % place: old, "n%d.key" % place: old})
