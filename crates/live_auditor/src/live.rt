@@ -69,7 +69,7 @@ impl Model for Live {
 }
 
 impl Live {
-    /// The audit of no entry, under the roster, by at most 256 rules.
+    /// The audit of no entry, under the roster, by these rules.
     pub fn make(alloc: Global, roster: &Roster, rules: Vec<Rule>) -> Result<Live, Memory>
         ensures machines { IfOk result (λ live. live.machines ≡ roster.now.machines) }
         ensures rules { IfOk result (λ live. live.rules ≡ rules.items) }
