@@ -72,7 +72,7 @@ pub(crate) const STANDARD_RULES: &str = "The rules are the 22 standard ones.";
 pub(crate) const OWN_RULES: &str = "The rules are NOT the standard ones, whatever their names are: \
 the sentences that explain the standard rules are left out below.";
 
-pub(crate) const PROGRAM: &str = "Made by auditorium_view (unreleased).";
+pub(crate) const PROGRAM: &str = "Made by auditorium_view 1.0.0.";
 
 /// The machines.
 pub(crate) const MACHINES: &str = "Machines";
