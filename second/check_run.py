@@ -27,8 +27,8 @@ def loss_causes(script, sender, receiver, number, put):
     if (sender.owner, number, receiver.owner) in script.lost:
         return ["Scripted"]
     events = len(receiver.events)
-    causes = {"LinkFull": put >= script.link, "LogFull": events >= script.log,
-              "ToStopped": events == script.stops.get(receiver.owner)}
+    stopped = events == script.stops.get(receiver.owner)
+    causes = {"LinkFull": put >= script.link, "ToStopped": stopped, "LogFull": not stopped and events >= script.log}
     return [cause for cause, applies in causes.items() if applies]
 
 def loss_faults(play, lines):
