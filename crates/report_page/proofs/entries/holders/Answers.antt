@@ -1,4 +1,5 @@
-use Rattle.report_page.proofs.Imports.{◌≡◌, ◌∙◌, ◌++◌, ℕ, [], Bool, ap, sym, length, string_bytes, flat_map, range_with_len}
+use Rattle.report_page.proofs.Imports.{◌≡◌, ◌∙◌, ◌++◌, ℕ, [], Bool}
+use Rattle.report_page.proofs.Imports.{ap, sym, length, string_bytes, flat_map, range_with_len}
 use Rattle.report_page.proofs.Imports.{slice_get, slice_get_read, length-map, refl, arith}
 use Rattle.report_page.specs.Entries.{holder, is_in_log, number_if}
 use Rattle.report_page.specs.inside.Held.{has}
