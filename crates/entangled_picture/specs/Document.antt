@@ -127,16 +127,16 @@ unsettled_words report = words_at (codes "rules") (codes "translate(8 64)") (uns
 unfoldable pub count_words : EntryGraph SealedEntry → ℕ → List ℕ
 count_words graph drawn = words_at (codes "rules") (codes "translate(8 82)") (graph_words graph drawn)
 
--- how many arrows between entries there are
+-- how many of the arrows are drawn
 abbrev pub arrows_line : ℕ → List ℕ
 arrows_line arrows =
-    concat (codes "arrows between entries " ∷ decimal arrows ∷ codes ", of which the first 5000 are drawn" ∷ [])
+    if nat_le arrows most_arrows then codes "of arrows to a gap the first 16 are drawn"
+    else concat (codes "of arrows to a gap the first 16 are drawn, of " ∷ decimal arrows
+    ∷ codes " between entries the first 5000" ∷ [])
 
--- how many of the arrows are drawn, where some aren't
+-- the line on arrows
 unfoldable pub arrows_words : ℕ → List ℕ
-arrows_words arrows =
-    if nat_le arrows most_arrows then []
-    else words_at (codes "rules") (codes "translate(8 98)") (arrows_line arrows)
+arrows_words arrows = words_at (codes "rules") (codes "translate(8 98)") (arrows_line arrows)
 
 -- what the report comes to, the rules that aren't kept, and how many entries and arrows are drawn
 unfoldable pub picture_words : AuditReport → List ℕ → ℕ → ℕ → List ℕ

@@ -316,21 +316,23 @@ fn add_count_words(
     add_words(alloc, out, b"rules", b"translate(8 82)", line.as_bytes())
 }
 
-/// How many arrows between entries there are.
+/// How many of the arrows are drawn.
 fn arrows_line(alloc: Global, arrows: usize) -> Result<String, AllocError>
     ensures { IfOk result (λ text. string_bytes text ≡ arrows_line arrows) }
 {
-    format!(in alloc; "arrows between entries {arrows}, of which the first 5000 are drawn")
+    if arrows <= MOST_ARROWS {
+        return String::from_str(alloc, "of arrows to a gap the first 16 are drawn");
+    }
+    format!(in alloc;
+        "of arrows to a gap the first 16 are drawn, of {arrows} between entries the first 5000"
+    )
 }
 
-/// Adds how many of the arrows are drawn, if some aren't.
+/// Adds how many of the arrows are drawn.
 #[tactic(auto, unfolding(crate::specs::Document::arrows_words))]
 fn add_arrows_words(alloc: Global, out: &mut Markup, arrows: usize) -> Result<(), AllocError>
     ensures { OnOk result (out.new ≡ out.old ++ arrows_words arrows) }
 {
-    if arrows <= MOST_ARROWS {
-        return Ok(());
-    }
     let line = arrows_line(alloc, arrows)?;
     add_words(alloc, out, b"rules", b"translate(8 98)", line.as_bytes())
 }
