@@ -8,7 +8,8 @@ pub use Rattle.canonical_sexp.specs.Forest.{Forest, atom_then, count_of, joined,
 pub use Rattle.canonical_sexp.specs.Forms.{Finds, list_of, number_atom}
 pub use Rattle.canonical_sexp.specs.Reading.{IsCanonical}
 pub use Rattle.canonical_sexp.specs.Sexp.{forest_of, in_front, members_of}
-pub use Rattle.canonical_sexp.specs.Text.{AreWithin, Fits, IsWithin, max_members, max_octets, text_of}
+pub use Rattle.canonical_sexp.specs.Text.{AreWithin, Fits, IsWithin, atom_text, max_members, max_octets, text_of}
+pub use Rattle.canonical_sexp.specs.Text.{texts_of}
 pub use Rattle.canonical_sexp.specs.declared.sexp.Sexp.{Sexp}
 pub use Rattle.canonical_sexp.specs.declared.sexp.Sexp.TheVariants.{Atom}
 pub use Rattle.entry_format.specs.EntryText.{IsDeed, IsDeedIn, IsDigest, IsEntry, IsSignedText, IsVersion, body_tree}
@@ -17,7 +18,7 @@ pub use Rattle.entry_format.specs.Nodes.{node_of}
 pub use Rattle.entry_format.specs.Plains.{plain_of}
 pub use Rattle.entry_format.specs.Reading.{HasForm, HasRisingNames, IsFormFault, Reads}
 pub use Rattle.entry_format.specs.SealedEntry.{SealedEntry}
-pub use Rattle.entry_format.specs.Sealing.{HasIndex}
+pub use Rattle.entry_format.specs.Sealing.{HasIndex, IsSealed, sealed_from, sealed_of, signature_in}
 pub use Rattle.entry_format.specs.Unsealing.{IsEntryFault, IsFault, IsValid, Unseals, key_at}
 pub use Rattle.entry_format.specs.declared.deed.Deed.{Deed}
 pub use Rattle.entry_format.specs.declared.deed.Deed.TheVariants.{Activate, Authorise, Cancel, Cast, Challenge}
@@ -45,9 +46,11 @@ pub use Rattle.lms_sign.specs.declared.public.KeyFault.TheVariants.{Length, Unkn
 pub use Rattle.roster.proofs.Forms.{one_text}
 pub use Rattle.roster.specs.declared.post.Post.{Post}
 pub use Rattle.sha2.specs.Sha256.{sha256}
-pub use Rattle.std.proofs.Common.{All, Err, List, None, Ok, Option, Result, Some, [], ap, arith, get_or, inl, inr}
+pub use Rattle.std.proofs.Common.{All, Err, List, None, Ok, Option, Result, Some, [], ap, append-nil, append_assoc}
+pub use Rattle.std.proofs.Common.{arith, get_or, inl, inr, length-append}
 pub use Rattle.std.proofs.Common.{map, refl, rules, subst, suc, sym, take, true≢false, zero, ℕ, ◌*◌, ◌++◌, ◌+◌, ◌-◌}
 pub use Rattle.std.proofs.Common.{◌↔◌, ◌∙◌, ◌∷◌, ◌≡◌, ◌≤◌, ◌⊎◌}
+pub use Rattle.std.proofs.Math.Seq.{drop-append_seam, take-append_seam}
 pub use Rattle.std.proofs.lemmas.Cmp.{nat_list_cmp_total}
 pub use Rattle.std.proofs.lemmas.Fmt.{decimal_injective}
 pub use Rattle.std.proofs.lemmas.List.{get_or-map, take_all}

@@ -1,5 +1,5 @@
 -- What a sealed entry keeps: its parts belong together.
-use Rattle.std.specs.Prelude.{◌≡◌, ℕ, ◌≤◌, List, length}
+use Rattle.std.specs.Prelude.{◌≡◌, ℕ, ◌-◌, ◌≤◌, List, length, drop, take}
 use Rattle.sha2.specs.Sha256.{sha256}
 use Rattle.canonical_sexp.specs.Text.{text_of}
 use Rattle.entry_order.specs.Ascending.{IsAscending}
@@ -26,3 +26,17 @@ pub record IsSealed (sealed : SealedEntry) : Type 0 where
 abbrev pub sealed_from : Entry → List ℕ → List ℕ → List ℕ → SealedEntry
 sealed_from entry signature text key =
     record { entry = entry; signature = signature; text = text; digest = sha256 text; key = key }
+
+-- the signature of so many octets in a signed text, before the parenthesis at its end
+abbrev pub signature_in : List ℕ → ℕ → List ℕ
+signature_in text count = take count (drop (length text - 1 - count) text)
+
+-- the value of these parts, the signature being so many octets of the text
+abbrev pub sealed_of : Entry → List ℕ → ℕ → List ℕ → List ℕ → SealedEntry
+sealed_of entry text count digest key = record {
+  entry = entry;
+  signature = signature_in text count;
+  text = text;
+  digest = digest;
+  key = key;
+}

@@ -2,79 +2,76 @@
 ghost use Rattle.std.specs.Prelude.{◌≡◌, IfOk};
 ghost use Rattle.entry_format.specs.Sealing.{IsSealed, sealed_from};
 
-use crate::entry::{Entry, Names};
+use crate::entry::Entry;
 use entry_order::Knot;
 use sha2::{Digest, Sha256};
 use std::alloc::{AllocError, Global};
 use std::marker::Model;
+use std::sync::Arc;
 
 /// An allocation failed.
 pub type Memory = AllocError;
 
-/// An entry with its signature, its signed text, the text's digest and its maker's key, which
-/// belong together: each value was signed with a secret key, or its signature was verified.
+/// The parts of a sealed entry. Its signature stands at the end of its text.
 #[derive(Debug, Drop)]
-pub struct Sealed {
+struct Parts {
     entry: Entry,
-    signature: Vec<u8>,
     text: Vec<u8>,
+    /// How many bytes of the text are its signature.
+    signature_len: usize,
     digest: [u8; 32],
     key: [u8; 56],
 }
 
+/// An entry with its signature, its signed text, the text's digest and its maker's key, which
+/// belong together: each value was signed with a secret key, or its signature was verified. A copy
+/// shares them.
+#[derive(Debug, Drop)]
+pub struct Sealed {
+    parts: Arc<Parts>,
+}
+
 impl Model for Sealed {
+    ghost use Rattle.std.specs.Arc.{arc_value};
     ghost use Rattle.entry_format.specs.SealedEntry.{SealedEntry};
-    ghost use Rattle.entry_format.specs.Sealing.{IsSealed};
+    ghost use Rattle.entry_format.specs.Sealing.{IsSealed, sealed_of};
 
     ghost Value = { SealedEntry };
 
-    ghost view = { λ s. record {
-      entry = s.entry;
-      signature = s.signature.items;
-      text = s.text.items;
-      digest = s.digest;
-      key = s.key;
-    } };
+    ghost view = { λ s. sealed_of (arc_value s.parts).entry (arc_value s.parts).text.items
+        (arc_value s.parts).signature_len (arc_value s.parts).digest (arc_value s.parts).key };
 
-    ghost invariant = { λ s. IsSealed (record {
-      entry = s.entry;
-      signature = s.signature.items;
-      text = s.text.items;
-      digest = s.digest;
-      key = s.key;
-    }) };
+    ghost invariant = { λ s. IsSealed (sealed_of (arc_value s.parts).entry
+        (arc_value s.parts).text.items (arc_value s.parts).signature_len
+        (arc_value s.parts).digest (arc_value s.parts).key) };
 }
 
 impl Sealed {
     /// The sealed entry of these parts, which belong together.
-    pub(crate) fn new(entry: Entry, signature: Vec<u8>, text: Vec<u8>, key: [u8; 56]) -> Sealed
-        requires { IsSealed (sealed_from entry signature.items text.items key) }
-        ensures { result ≡ sealed_from entry signature.items text.items key }
-    {
-        let digest = Sha256::digest(&text);
-        Sealed {
-            entry,
-            signature,
-            text,
-            digest,
-            key,
-        }
-    }
-
-    /// The sealed entry of these parts, which are copied.
-    pub(crate) fn from_slices(
+    pub(crate) fn new(
         alloc: Global,
         entry: Entry,
         signature: &[u8],
-        text: &[u8],
+        text: Vec<u8>,
         key: [u8; 56],
     ) -> Result<Sealed, Memory>
-        requires { IsSealed (sealed_from entry signature.now text.now key) }
-        ensures { IfOk result (λ sealed. sealed ≡ sealed_from entry signature.now text.now key) }
+        requires { IsSealed (sealed_from entry signature.now text.items key) }
+        ensures value { IfOk result (λ sealed.
+            sealed ≡ sealed_from entry signature.now text.items key) }
+        ensures kept { IfOk result (λ sealed. IsSealed sealed) }
     {
-        let signature = Vec::from_slice(alloc, signature)?;
-        let text = Vec::from_slice(alloc, text)?;
-        Ok(Sealed::new(entry, signature, text, key))
+        let digest = Sha256::digest(&text);
+        let parts = Arc::new(
+            alloc,
+            Parts {
+                entry,
+                text,
+                signature_len: signature.len(),
+                digest,
+                key,
+            },
+        )?;
+        Ok(Sealed { parts })
     }
 
     /// What the maker says.
@@ -82,7 +79,7 @@ impl Sealed {
         ensures value { result.now ≡ self.now.entry }
         ensures kept { IsSealed self.now }
     {
-        &self.entry
+        &self.parts.entry
     }
 
     /// The signed text.
@@ -90,7 +87,7 @@ impl Sealed {
         ensures value { result.now ≡ self.now.text }
         ensures kept { IsSealed self.now }
     {
-        self.text.as_slice()
+        self.parts.text.as_slice()
     }
 
     /// SHA-256 of the signed text.
@@ -98,7 +95,7 @@ impl Sealed {
         ensures value { result.now ≡ self.now.digest }
         ensures kept { IsSealed self.now }
     {
-        &self.digest
+        &self.parts.digest
     }
 
     /// The maker's public key, 56 bytes (RFC 8554, 5.3).
@@ -106,30 +103,15 @@ impl Sealed {
         ensures value { result.now ≡ self.now.key }
         ensures kept { IsSealed self.now }
     {
-        &self.key
+        &self.parts.key
     }
 
-    /// An equal sealed entry.
-    pub fn copy(&self, alloc: Global) -> Result<Sealed, Memory>
+    /// An equal sealed entry, which shares what this one has. It takes no memory.
+    pub fn copy(&self, _alloc: Global) -> Result<Sealed, Memory>
         ensures { IfOk result (λ sealed. sealed ≡ self.now) }
     {
-        let names = Vec::from_slice(alloc, self.entry.names.as_slice())?;
-        let signature = Vec::from_slice(alloc, self.signature.as_slice())?;
-        let text = Vec::from_slice(alloc, self.text.as_slice())?;
         Ok(Sealed {
-            entry: Entry {
-                version: self.entry.version,
-                election: self.entry.election,
-                maker: self.entry.maker,
-                number: self.entry.number,
-                stamp: self.entry.stamp,
-                names: Names::from_vec(names),
-                deed: self.entry.deed,
-            },
-            signature,
-            text,
-            digest: self.digest,
-            key: self.key,
+            parts: Arc::try_clone(&self.parts)?,
         })
     }
 }
@@ -140,22 +122,22 @@ impl Knot for Sealed {
     ghost node = { node_of_sealed };
 
     fn digest(&self) -> &[u8; 32] {
-        &self.digest
+        &self.parts.digest
     }
 
     fn names(&self) -> &[[u8; 32]] {
-        self.entry.names.as_slice()
+        self.parts.entry.names.as_slice()
     }
 
     fn maker(&self) -> u32 {
-        self.entry.maker
+        self.parts.entry.maker
     }
 
     fn number(&self) -> u32 {
-        self.entry.number
+        self.parts.entry.number
     }
 
     fn stamp(&self) -> u32 {
-        self.entry.stamp
+        self.parts.entry.stamp
     }
 }

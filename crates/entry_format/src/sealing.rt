@@ -117,5 +117,5 @@ pub fn seal(
     let text = signed_text(alloc, body, &signature)?;
     let machines = roster.machines.as_slice();
     let key = machines[entry.maker as usize].key;
-    Ok(Sealed::new(entry, signature, text, key))
+    Ok(Sealed::new(alloc, entry, &signature, text, key)?)
 }

@@ -114,7 +114,10 @@ pub fn unseal_text(
         form.body.bytes(),
         form.signature,
     ) {
-        Ok(key) => Ok(Sealed::from_slices(alloc, form.entry, form.signature, bytes, key)?),
+        Ok(key) => {
+            let text = Vec::from_slice(alloc, bytes)?;
+            Ok(Sealed::new(alloc, form.entry, form.signature, text, key)?)
+        }
         Err(fault) => Err(fault),
     }
 }

@@ -1,6 +1,7 @@
 use Rattle.std.proofs.Common.{◌<◌, length}
 use Rattle.entry_format.proofs.Imports.{◌≡◌, ◌∙◌, ℕ, List, [], refl, ap, sym, subst, arith, Sexp, text_of, Fits}
-use Rattle.entry_format.proofs.Imports.{public_of, Post, body_tree, signed_tree, key_at, signed_list}
+use Rattle.entry_format.proofs.Imports.{public_of, Post, body_tree, signed_tree, key_at, signed_list, sealed_from, get_or}
+use Rattle.entry_format.proofs.Imports.{SealedEntry, IsSealed}
 use Rattle.entry_format.proofs.Keys.{key_is, signs_same, signature_small, signature_some}
 use Rattle.entry_format.proofs.Limits.{body_fits, signed_fits}
 use Rattle.entry_format.proofs.sealing.seal.Goals as goal
@@ -45,7 +46,8 @@ new-requires c =
     let within : entry.maker < length machines = omega (arith, ap length c.as_slice-machines.ensures) in
     let key = c.requires.key ∙ ap (λ (ms : List Post). key_at ms entry.maker) (sym c.as_slice-machines.ensures)
     ∙ sym (key_is machines entry.maker post within) in
-    record {
+    let makers_key : List ℕ = (get_or machines entry.maker post).key in
+    let together : IsSealed (sealed_from entry signature c.in_ok-text.text.items makers_key) = record {
       spelt = record {
         lawful = c.in_ok-body.ensures.lawful;
         within = signed_fits entry signature c.in_ok-body.ensures.lawful c.requires.few
@@ -60,4 +62,25 @@ new-requires c =
       );
       signs = signs_same public _ message (text_of (body_tree entry)) signature key
           (ap text_of c.in_ok-body.ensures.tree) signs;
+    } in
+    let P : List ℕ → Type 0 = λ s. IsSealed (sealed_from entry s c.in_ok-text.text.items makers_key) in
+    subst P (sym c.deref-2.ensures.value) together
+
+-- the entry is valid as its text's
+pub returns-clause-valid : goal.returns-clause-valid
+returns-clause-valid c =
+    let entry = c.args.entry in
+    let sealed : SealedEntry = c.in_ok-new.field-0 in
+    let is : sealed ≡ sealed_from entry _ _ _ = c.in_ok-new.ensures.value in
+    let machines : List Post = c.as_slice-machines.result.now in
+    let within : entry.maker < length machines = omega (arith, ap length c.as_slice-machines.ensures) in
+    let of_maker = key_is machines entry.maker c.index-machines-entry.result within
+    ∙ ap (λ (ms : List Post). key_at ms entry.maker) c.as_slice-machines.ensures in
+    record {
+      kept = c.in_ok-new.ensures.kept;
+      of_text = refl;
+      of_election = ap (λ (s : SealedEntry). s.entry.election) is;
+      maker = subst (λ (s : SealedEntry). s.entry.maker < length c.args.roster.now.machines) (sym is) c.requires.maker;
+      key = ap (λ (s : SealedEntry). s.key) is ∙ of_maker
+          ∙ ap (λ (s : SealedEntry). key_at c.args.roster.now.machines s.entry.maker) (sym is);
     }
