@@ -24,8 +24,10 @@ ends_signed : (entry : Entry) (signature : List ℕ) →
 ends_signed entry signature =
     let body : List ℕ = texts_of (members_in (body_tree entry)) in
     let length_text : List ℕ = decimal (length signature) ++ 58 ∷ [] in
-    let last : EndsIn (atom_text signature ++ []) signature =
-    (length_text, append-nil (atom_text signature) ∙ sym (append_assoc (decimal (length signature)) (58 ∷ []) signature)) in
+    let last : EndsIn (atom_text signature ++ []) signature = (
+      length_text,
+      append-nil (atom_text signature) ∙ sym (append_assoc (decimal (length signature)) (58 ∷ []) signature),
+    ) in
     let after_body : EndsIn (body ++ 41 ∷ (atom_text signature ++ [])) signature =
     ends_after body (41 ∷ (atom_text signature ++ [])) signature
     (ends_after (41 ∷ []) (atom_text signature ++ []) signature last) in

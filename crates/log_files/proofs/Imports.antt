@@ -73,8 +73,8 @@ pub use Rattle.log_files.specs.declared.sealed_log.Kept.{Kept}
 pub use Rattle.log_files.specs.declared.sealed_log.LogRead.{LogRead}
 pub use Rattle.log_files.specs.inside.Fed.{IsReadOf, IsWithBreak}
 pub use Rattle.log_files.specs.inside.FileFaults.{log_fault_of}
-pub use Rattle.log_files.specs.inside.Found.{AddsReading, AreKnownBy, AreReadBy, AreSplit, IsFound, IsKnownBy}
-pub use Rattle.log_files.specs.inside.Found.{IsNotFirst, IsReadBy, IsWoven}
+pub use Rattle.log_files.specs.inside.Found.{AddsReading, AreReadBy, AreSplit, IsFound, IsKnownBy}
+pub use Rattle.log_files.specs.inside.Found.{IsNotFirst, IsReadBy, IsWoven, RecordText, StayReadBy}
 pub use Rattle.log_files.specs.inside.Kept.{AreSeen}
 pub use Rattle.log_files.specs.inside.Parts.{Adds, IsHeaderOf}
 pub use Rattle.log_files.specs.inside.Readers.{Verifies}

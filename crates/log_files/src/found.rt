@@ -1,19 +1,22 @@
 //! Reading a log whose records are found first, and whose entries are unsealed then, in threads.
-ghost use Rattle.std.specs.Prelude.{◌≡◌, ◌≢◌, ◌<◌, List, Result, IfOk, IfErr, OnOk, Err};
+ghost use Rattle.std.specs.Prelude.{◌≡◌, ◌≢◌, ◌<◌, ℕ, List, Result, IfOk, IfErr, OnOk, Err};
 ghost use Rattle.std.specs.Prelude.{IsTrue, length, slice_index_or};
 ghost use Rattle.canonical_sexp.specs.Text.{text_of};
 ghost use Rattle.entry_format.specs.declared.plain.EntryFault.{EntryFault};
 ghost use Rattle.log_files.specs.declared.sealed_log.Kept.{Kept};
 ghost use Rattle.log_files.specs.inside.Found.{
   AddsReading,
-  AreKnownBy,
   AreReadBy,
   AreSplit,
   IsKnownBy,
   IsReadBy,
   IsWoven,
+  RecordText,
+  StayReadBy,
 };
 ghost use Rattle.log_files.specs.SealedLog.{IsReadSealed};
+ghost use Rattle.entry_format.specs.Unsealing.{IsValid};
+ghost use Rattle.roster.specs.declared.post.Post.{Post};
 
 use crate::places::{Places, digest_of};
 use crate::records::ReadEntry;
@@ -40,14 +43,14 @@ pub(crate) struct Found {
     pub(crate) sent: bool,
     /// The maker and the number in the entry, if they are there.
     pub(crate) key: Option<(u32, u32)>,
-    /// The text of the entry, until the entry is read.
+    /// The text of the entry, until it is read. That of a known entry isn't copied.
     pub(crate) text: Vec<u8>,
     /// What the text is read as; running out of memory stands for not yet.
     pub(crate) reading: Result<Kept, EntryFault>,
 }
 
-/// Finds the records of entries. A text that is shorter than any signature is read at once, so that
-/// many short ones, which are all refused, take no room.
+/// Finds the records of entries. A known entry is read at once, and so is a text that is shorter
+/// than any signature, so that many short ones, which are all refused, take no room.
 #[derive(Clone, Copy)]
 pub(crate) struct Finder<'a, 'b> {
     pub(crate) reader: &'b SealedReader<'a>,
@@ -67,6 +70,9 @@ impl ReadEntry for Finder<'_, '_> {
         sent: bool,
         entry: &Text<'_>,
     ) -> Result<Found, EntryFault> {
+        if let Some(known) = self.reader.known(entry) {
+            return found_known(alloc, place, sent, known);
+        }
         if entry.bytes().len() < SHORTEST {
             match self.reader.read(alloc, place, sent, entry) {
                 Ok(_) => {}
@@ -77,10 +83,29 @@ impl ReadEntry for Finder<'_, '_> {
     }
 }
 
+/// The record of a known entry.
+fn found_known(alloc: Global, place: u32, sent: bool, known: &Sealed) -> Result<Found, EntryFault>
+    ensures value { IfOk result (λ found. (machines : List Post) (election text : List ℕ) →
+        IsValid machines election text known.now → IsReadBy machines election
+        (record { place = place; sent = sent; text = text }) found) }
+    ensures memory { IfErr result (λ fault. fault ≡ EntryFault.Memory) }
+{
+    match kept_again(alloc, place, sent, known) {
+        Ok(kept) => Ok(Found {
+            place,
+            sent,
+            key: None,
+            text: Vec::new(alloc),
+            reading: Ok(kept),
+        }),
+        Err(fault) => Err(fault),
+    }
+}
+
 /// The record with a copy of the entry's text, which isn't read.
 fn found_of(alloc: Global, place: u32, sent: bool, entry: &Text<'_>) -> Result<Found, EntryFault>
     ensures value { IfOk result (λ found. (found.place ≡ place) × (found.sent ≡ sent)
-        × (found.text.items ≡ text_of entry.now)) }
+        × (found.text.items ≡ text_of entry.now) × (found.reading ≡ Err EntryFault.Memory)) }
     ensures memory { IfErr result (λ fault. fault ≡ EntryFault.Memory) }
 {
     let mut text = Vec::new(alloc);
@@ -96,7 +121,17 @@ fn found_of(alloc: Global, place: u32, sent: bool, entry: &Text<'_>) -> Result<F
     }
 }
 
-/// Reads the entry of a record, unless another stands before it with its text.
+/// Whether the entry of the record isn't read yet.
+fn is_unread(found: &Found) -> bool
+    ensures { IsTrue result → found.now.reading ≡ Err EntryFault.Memory }
+{
+    match &found.reading {
+        Ok(_) => false,
+        Err(fault) => matches!(fault, EntryFault::Memory),
+    }
+}
+
+/// Reads the entry of a record, unless it is read or another stands before it with its text.
 fn read_first(
     alloc: Global,
     reader: &SealedReader<'_>,
@@ -104,10 +139,15 @@ fn read_first(
     at: usize,
     found: &mut Found,
 )
-    ensures { IsReadBy reader.now.machines reader.now.election found.old found.new }
+    ensures { (said : RecordText) →
+        IsReadBy reader.now.machines reader.now.election said found.old →
+        IsReadBy reader.now.machines reader.now.election said found.new }
 {
+    if !is_unread(found) {
+        return;
+    }
     match firsts.get(at) {
-        Some(first) if *first != at => found.reading = Err(EntryFault::Memory),
+        Some(first) if *first != at => {}
         _ => {
             let reading = reading_of(alloc, reader, found);
             put_reading(alloc, found, reading);
@@ -145,9 +185,8 @@ fn reading_after(
     first: &Found,
     found: &Found,
 ) -> Result<Kept, EntryFault>
-    requires { IsKnownBy reader.now.machines reader.now.election first.now.text.items
-        first.now.reading }
-    ensures { result ≢ Err EntryFault.Memory → IsReadSealed reader.now.machines
+    ensures { IsKnownBy reader.now.machines reader.now.election first.now.text.items
+        first.now.reading → result ≢ Err EntryFault.Memory → IsReadSealed reader.now.machines
         reader.now.election found.now.place found.now.sent found.now.text.items result }
 {
     match &first.reading {
@@ -179,9 +218,10 @@ fn reading_at(
     firsts: &[usize],
     at: usize,
 ) -> Result<Kept, EntryFault>
-    requires within { at < length found.now }
-    requires known { AreKnownBy reader.now.machines reader.now.election found.now }
-    ensures { (d : Found) → result ≢ Err EntryFault.Memory → IsReadSealed reader.now.machines
+    requires { at < length found.now }
+    ensures { (said : List RecordText) →
+        AreReadBy reader.now.machines reader.now.election said found.now →
+        (d : Found) → result ≢ Err EntryFault.Memory → IsReadSealed reader.now.machines
         reader.now.election (slice_index_or found.now at d).place
         (slice_index_or found.now at d).sent (slice_index_or found.now at d).text.items result }
 {
@@ -195,15 +235,12 @@ fn reading_at(
 }
 
 /// Whether the entry of the record at this place isn't read yet.
-fn is_unread(found: &[Found], at: usize) -> bool
+fn is_unread_at(found: &[Found], at: usize) -> bool
     requires { at < length found.now }
     ensures { (d : Found) → IsTrue result →
         (slice_index_or found.now at d).reading ≡ Err EntryFault.Memory }
 {
-    match &found[at].reading {
-        Ok(_) => false,
-        Err(fault) => matches!(fault, EntryFault::Memory),
-    }
+    is_unread(&found[at])
 }
 
 /// Puts down what the text of the record at this place, which wasn't read yet, is read as.
@@ -215,29 +252,26 @@ fn put_again(
     reading: Result<Kept, EntryFault>,
 )
     requires within { at < length found.old }
-    requires known { AreKnownBy reader.now.machines reader.now.election found.old }
     requires unread { (d : Found) →
         (slice_index_or found.old at d).reading ≡ Err EntryFault.Memory }
-    requires reading { (d : Found) → reading ≢ Err EntryFault.Memory → IsReadSealed
+    ensures { (said : List RecordText) →
+        AreReadBy reader.now.machines reader.now.election said found.old →
+        ((d : Found) → reading ≢ Err EntryFault.Memory → IsReadSealed
         reader.now.machines reader.now.election (slice_index_or found.old at d).place
-        (slice_index_or found.old at d).sent (slice_index_or found.old at d).text.items reading }
-    ensures known { AreKnownBy reader.now.machines reader.now.election found.new }
-    ensures read { (before : List Found) →
-        AreReadBy reader.now.machines reader.now.election before found.old →
-        AreReadBy reader.now.machines reader.now.election before found.new }
+        (slice_index_or found.old at d).sent (slice_index_or found.old at d).text.items reading) →
+        AreReadBy reader.now.machines reader.now.election said found.new }
 {
     put_reading(alloc, &mut found[at], reading);
 }
 
 /// Reads the entries that aren't read yet, each after the first one with its text.
 fn read_rest(alloc: Global, reader: &SealedReader<'_>, firsts: &[usize], found: &mut [Found])
-    requires { AreKnownBy reader.now.machines reader.now.election found.old }
-    ensures { (before : List Found) →
-        AreReadBy reader.now.machines reader.now.election before found.old →
-        AreReadBy reader.now.machines reader.now.election before found.new }
+    ensures { (said : List RecordText) →
+        AreReadBy reader.now.machines reader.now.election said found.old →
+        AreReadBy reader.now.machines reader.now.election said found.new }
 {
     for at in 0..found.len() {
-        if is_unread(found, at) {
+        if is_unread_at(found, at) {
             let reading = reading_at(alloc, reader, found, firsts, at);
             put_again(alloc, reader, found, at, reading);
         }
@@ -252,15 +286,18 @@ fn read_firsts_in<R: Threads + Sync>(
     firsts: &[usize],
     found: &mut [Found],
 )
-    ensures { AreReadBy reader.now.machines reader.now.election found.old found.new }
+    ensures { StayReadBy reader.now.machines reader.now.election found.old found.new }
 {
     thread::for_each_mut(
         rt,
         found,
         MOST_THREADS,
         &|at, part: &mut Found|
-            ensures { IsReadBy reader.entry.now.machines reader.entry.now.election
-                part.entry.now part.exit.now }
+            ensures { (said : RecordText) →
+                IsReadBy reader.entry.now.machines reader.entry.now.election
+                said part.entry.now →
+                IsReadBy reader.entry.now.machines reader.entry.now.election
+                said part.exit.now }
         { read_first(alloc, reader, firsts, at, part) },
     );
 }
@@ -273,7 +310,9 @@ pub(crate) fn read_each_in<R: Threads + Sync>(
     firsts: &[usize],
     found: &mut [Found],
 )
-    ensures { AreReadBy reader.now.machines reader.now.election found.old found.new }
+    ensures { (said : List RecordText) →
+        AreReadBy reader.now.machines reader.now.election said found.old →
+        AreReadBy reader.now.machines reader.now.election said found.new }
 {
     read_firsts_in(rt, alloc, reader, firsts, found);
     read_rest(alloc, reader, firsts, found);

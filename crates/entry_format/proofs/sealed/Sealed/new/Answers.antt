@@ -10,7 +10,8 @@ value_of p = sealed_of p.entry p.text.items p.signature_len p.digest p.key
 pub returns-clause-value : goal.returns-clause-value
 returns-clause-value c =
     ap value_of c.in_ok-parts.ensures.ok
-    ∙ same_value c.args.entry c.args.text.items c.args.signature.now _ c.args.key c.requires.spelt c.digest-digest.ensures
+    ∙ same_value c.args.entry c.args.text.items c.args.signature.now _ c.args.key c.requires.spelt
+    c.digest-digest.ensures
 
 pub returns-clause-kept : goal.returns-clause-kept
 returns-clause-kept c = subst IsSealed (sym (returns-clause-value c)) c.requires
