@@ -1,7 +1,7 @@
 //! What a step does to the machines.
 ghost use Rattle.std.specs.Prelude.{◌≡◌, ◌<◌, IfOk, OnErr, vec_len};
 ghost use Rattle.polling_world.specs.Steps.{ActsAt, HearsAt, IsGiven, IsStepOf, StepsBy};
-ghost use Rattle.polling_world.specs.Steps.{StopsMachine};
+ghost use Rattle.polling_world.specs.Steps.{StopsMachine, stepped_in};
 
 use crate::acted::Acted;
 use crate::heard::MachineHeard;
@@ -77,7 +77,15 @@ fn give(machines: &mut Vec<Machine>, at: usize, entry: Sealed) -> Stepped
     requires { at < vec_len machines.old }
     ensures { IsGiven at entry machines.old.items result machines.new.items }
 {
-    match machines[at].hear(entry) {
+    let heard = machines[at].hear(entry);
+    stepped_in(heard)
+}
+
+/// Whether an entry that was answered so was taken.
+fn stepped_in(heard: MachineHeard) -> Stepped
+    ensures { result ≡ stepped_in heard }
+{
+    match heard {
         MachineHeard::Taken => Stepped::Did,
         _ => Stepped::Nothing,
     }

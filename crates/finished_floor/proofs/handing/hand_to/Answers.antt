@@ -20,6 +20,11 @@ loss_is losses after to from number e why f k is =
     is ∙ ap (λ a. losses ++ record { from = a; number = number; to = to; why = why } ∷ []) f
     ∙ ap (λ a. losses ++ record { from = e.entry.maker; number = a; to = to; why = why } ∷ []) k
 
+-- it is another's
+pub fate-requires : goal.fate-requires
+fate-requires c = λ own. c.requires.other (own ∙ c.requires.numbers c.args.to c.index_mut.result.now
+    (stands_at c.args.machines.now.items c.args.to c.index_mut.result.now c.requires.to c.index_mut.ensures.value))
+
 -- it was heard
 pub returns-in-None : goal.returns-in-None
 returns-in-None c = record {
