@@ -31,7 +31,8 @@ pub use Rattle.entry_format.specs.declared.plain.EntryFault.TheVariants.{NotCano
 pub use Rattle.entry_format.specs.declared.plain.EntryFault.TheVariants.{WrongIndex, WrongShape}
 pub use Rattle.entry_format.specs.declared.plain.Plain.{Plain}
 pub use Rattle.entry_format.specs.declared.reading.Head.{Head}
-pub use Rattle.entry_format.specs.inside.Parts.{IsHead, IsSigned, IsVersionDeed, head_then, signed_list}
+pub use Rattle.entry_format.specs.inside.Parts.{IsHead, IsSigned, IsUnder, IsVerified, IsVersionDeed}
+pub use Rattle.entry_format.specs.inside.Parts.{head_then, signed_list}
 pub use Rattle.entry_order.proofs.Filled.{completions_exist, order_is_exact}
 pub use Rattle.entry_order.proofs.Images.{same_graph}
 pub use Rattle.entry_order.proofs.Lists.{Contains-none}

@@ -2,9 +2,10 @@
 use Rattle.std.proofs.Common.{length, drop}
 use Rattle.entry_format.proofs.Imports.{◌≡◌, ◌∙◌, ℕ, ◌-◌, List, [], ◌∷◌, ◌++◌, ap, sym, arith, take, codes, text_of}
 use Rattle.entry_format.proofs.Imports.{append-nil, append_assoc, length-append, drop-append_seam, take-append_seam}
-use Rattle.entry_format.proofs.Imports.{decimal, sha256, Entry, IsSignedText, body_tree, signed_tree, SealedEntry}
-use Rattle.entry_format.proofs.Imports.{sealed_from, sealed_of, signature_in, atom_text, texts_of}
-use Rattle.entry_format.proofs.Limits.{members_in}
+use Rattle.entry_format.proofs.Imports.{decimal, refl, subst, Entry, IsAscending, IsSignedText, body_tree, signed_tree, HasIndex}
+use Rattle.entry_format.proofs.Imports.{IsSealed, Signs, sealed_from, signature_in, atom_text, texts_of}
+use Rattle.entry_format.proofs.Imports.{◌≤◌, IsEntry, Sexp, max_members, max_octets, signed_list}
+use Rattle.entry_format.proofs.Limits.{members_in, signed_fits}
 
 -- the list ends in these elements
 abbrev EndsIn : List ℕ → List ℕ → Type 0
@@ -47,12 +48,36 @@ signature_at_end text signature (front, is) =
     ∙ ap (take (length signature)) (drop-append_seam front (signature ++ 41 ∷ []))
     ∙ take-append_seam signature (41 ∷ [])
 
--- the value of an entry and its text is that with the signature beside them
-pub same_value : (entry : Entry) (text signature digest key : List ℕ) → IsSignedText text entry signature →
-    digest ≡ sha256 text → sealed_of entry text (length signature) digest key ≡ sealed_from entry signature text key
-same_value entry text signature digest key is hashed =
-    let ends : EndsIn text (signature ++ 41 ∷ []) =
-    ((ends_signed entry signature).0, is.spelt ∙ (ends_signed entry signature).1) in
-    let with_parts : List ℕ → List ℕ → SealedEntry =
-    λ s d. record { entry = entry; signature = s; text = text; digest = d; key = key } in
-    ap (λ s. with_parts s digest) (signature_at_end text signature ends) ∙ ap (with_parts signature) hashed
+-- the signature of a signed text stands in it
+pub signature_there : (text : List ℕ) (entry : Entry) (signature : List ℕ) → IsSignedText text entry signature →
+    signature_in text (length signature) ≡ signature
+signature_there text entry signature is =
+    signature_at_end text signature ((ends_signed entry signature).0, is.spelt ∙ (ends_signed entry signature).1)
+
+-- the parts of a signed text belong together
+pub parts_together : (text : List ℕ) (entry : Entry) (signature key : List ℕ) (count : ℕ) → count ≡ length signature →
+    IsSignedText text entry signature → IsAscending entry.names → HasIndex signature entry.number →
+    Signs key (text_of (body_tree entry)) signature → IsSealed (sealed_from entry text count key)
+parts_together text entry signature key count counted spelt rising index signs =
+    let same : signature ≡ signature_in text count =
+    sym (ap (signature_in text) counted ∙ signature_there text entry signature spelt) in
+    record {
+      spelt = subst (IsSignedText text entry) same spelt;
+      rising = rising;
+      hashed = refl;
+      index = subst (λ s. HasIndex s entry.number) same index;
+      signs = subst (Signs key (text_of (body_tree entry))) same signs;
+    }
+
+-- the text that is made of a lawful entry's body and a signature
+pub signed_spelt : (entry : Entry) (body : Sexp) (signature given text : List ℕ) → IsEntry entry →
+    length entry.names ≤ max_members → length signature ≤ max_octets → body ≡ body_tree entry → given ≡ signature →
+    text ≡ text_of (signed_list body given) → IsSignedText text entry signature
+signed_spelt entry body signature given text lawful few small is same spelt =
+    let tree : signed_list body given ≡ signed_tree entry signature =
+    ap (λ b. signed_list b given) is ∙ ap (signed_tree entry) same in
+    record {
+      lawful = lawful;
+      within = signed_fits entry signature lawful few small;
+      spelt = spelt ∙ ap text_of tree;
+    }

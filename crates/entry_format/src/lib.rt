@@ -26,4 +26,4 @@ pub use plain::{EntryFault, Plain, read_unsigned, read_unsigned_text};
 pub use reading::is_rising;
 pub use sealed::{Memory, Sealed};
 pub use sealing::{SealFault, seal};
-pub use unsealing::{unseal, unseal_text};
+pub use unsealing::{NotUnsealed, unseal, unseal_text, unseal_vec};

@@ -1,5 +1,5 @@
 //! Sealed entries: signed by their maker, with the signature verified.
-ghost use Rattle.std.specs.Prelude.{◌≡◌, IfOk};
+ghost use Rattle.std.specs.Prelude.{◌≡◌, IfErr, IfOk};
 ghost use Rattle.entry_format.specs.Sealing.{IsSealed, sealed_from};
 
 use crate::entry::Entry;
@@ -47,31 +47,36 @@ impl Model for Sealed {
 }
 
 impl Sealed {
-    /// The sealed entry of these parts, which belong together.
+    /// The sealed entry of these parts, which belong together. Where there is no memory, the text
+    /// comes back.
     pub(crate) fn new(
         alloc: Global,
         entry: Entry,
-        signature: &[u8],
         text: Vec<u8>,
+        signature_len: usize,
         key: [u8; 56],
-    ) -> Result<Sealed, Memory>
-        requires { IsSealed (sealed_from entry signature.now text.items key) }
+    ) -> Result<Sealed, Vec<u8>>
+        requires { IsSealed (sealed_from entry text.items signature_len key) }
         ensures value { IfOk result (λ sealed.
-            sealed ≡ sealed_from entry signature.now text.items key) }
+            sealed ≡ sealed_from entry text.items signature_len key) }
         ensures kept { IfOk result (λ sealed. IsSealed sealed) }
+        ensures text { IfErr result (λ back. back.items ≡ text.items) }
     {
         let digest = Sha256::digest(&text);
-        let parts = Arc::new(
-            alloc,
-            Parts {
-                entry,
-                text,
-                signature_len: signature.len(),
-                digest,
-                key,
-            },
-        )?;
-        Ok(Sealed { parts })
+        let parts = Parts {
+            entry,
+            text,
+            signature_len,
+            digest,
+            key,
+        };
+        match Arc::new(alloc, parts) {
+            Ok(parts) => Ok(Sealed { parts }),
+            Err(refused) => {
+                let Parts { text, .. } = refused.value;
+                Err(text)
+            }
+        }
     }
 
     /// What the maker says.

@@ -117,5 +117,8 @@ pub fn seal(
     let text = signed_text(alloc, body, &signature)?;
     let machines = roster.machines.as_slice();
     let key = machines[entry.maker as usize].key;
-    Ok(Sealed::new(alloc, entry, &signature, text, key)?)
+    match Sealed::new(alloc, entry, text, signature.len(), key) {
+        Ok(sealed) => Ok(sealed),
+        Err(_text) => Err(SealFault::Memory),
+    }
 }

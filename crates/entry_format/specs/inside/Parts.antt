@@ -9,12 +9,13 @@ use Rattle.canonical_sexp.specs.Text.{text_of}
 use Rattle.lms_sign.specs.Signs.{Signs}
 use Rattle.roster.specs.declared.post.Post.{Post}
 use Rattle.entry_format.specs.declared.entry.Entry.{Entry}
-use Rattle.entry_format.specs.Sealing.{HasIndex}
-use Rattle.entry_format.specs.Unsealing.{key_at}
+use Rattle.entry_format.specs.Sealing.{HasIndex, sealed_from}
+use Rattle.entry_format.specs.Unsealing.{IsValid, key_at}
 use Rattle.entry_order.specs.Ascending.{IsAscending}
 use Rattle.entry_format.specs.declared.reading.Head.{Head}
 use Rattle.entry_format.specs.declared.reading.Fields.{Fields}
 use Rattle.entry_format.specs.declared.form.Form.{Form}
+use Rattle.entry_format.specs.declared.unsealing.Verified.{Verified}
 use Rattle.entry_format.specs.declared.deed.Deed.{Deed}
 use Rattle.entry_format.specs.EntryText.{IsVersion, IsDigest, IsDeed, IsDeedIn, deed_tree, body_tree, IsSignedText}
 
@@ -77,3 +78,8 @@ pub record IsUnder (machines : List Post) (election : List ℕ) (entry : Entry) 
   pub of_maker : key ≡ key_at machines entry.maker
   pub index : HasIndex signature entry.number
   pub signs : Signs key (text_of (body_tree entry)) signature
+
+-- with the text it is a valid sealed entry
+abbrev pub IsVerified : List Post → List ℕ → List ℕ → Verified → Type 0
+IsVerified machines election text verified =
+    IsValid machines election text (sealed_from verified.entry text verified.signature_len verified.key)
