@@ -25,6 +25,7 @@ use crate::sealed_reader::{SealedReader, key_of};
 use canonical_sexp::{Memory, Text, whole_text};
 use entry_format::{EntryFault, Sealed};
 use std::alloc::{AllocError, Global};
+use std::mem;
 use std::thread::{self, Threads};
 
 // The most threads that unseal entries. They are more than processors mostly are, so that one that
@@ -148,9 +149,23 @@ fn read_first(
     }
     match firsts.get(at) {
         Some(first) if *first != at => {}
-        _ => {
-            let reading = reading_of(alloc, reader, found);
-            put_reading(alloc, found, reading);
+        _ => read_now(alloc, reader, found),
+    }
+}
+
+/// Reads the entry of a record that isn't read yet. A valid one takes the record's text.
+fn read_now(alloc: Global, reader: &SealedReader<'_>, found: &mut Found)
+    requires { found.old.reading ≡ Err EntryFault.Memory }
+    ensures { (said : RecordText) →
+        IsReadBy reader.now.machines reader.now.election said found.old →
+        IsReadBy reader.now.machines reader.now.election said found.new }
+{
+    let text = mem::replace(&mut found.text, Vec::new(alloc));
+    match reader.read_vec(alloc, found.place, found.sent, text) {
+        Ok(kept) => found.reading = Ok(kept),
+        Err(refused) => {
+            found.text = refused.text;
+            found.reading = Err(refused.fault);
         }
     }
 }
