@@ -6,4 +6,5 @@ pub mod StrayFacts
 pub mod NumberFacts
 pub mod LinkFacts
 pub mod ForkFacts
+pub mod GapFacts
 pub mod GraphFacts

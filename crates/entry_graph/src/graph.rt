@@ -6,12 +6,13 @@ ghost use Rattle.entry_graph.specs.EntryGraph.{IsEntryGraph};
 use crate::distinct::distinct_of;
 use crate::fault::GraphFault;
 use crate::forks::forks_of;
-use crate::links::{Links, links_of};
+use crate::gaps::gaps_by;
+use crate::links::{Links, links_of, places_of};
 use crate::numbering::number;
 use crate::signed_text::SignedText;
 use crate::strays::sift;
 use entry_format::Sealed;
-use entry_gaps::{Digests, gaps};
+use entry_gaps::Digests;
 use precedence::Arrows;
 use std::alloc::Global;
 use std::marker::Model;
@@ -70,8 +71,9 @@ impl<T: SignedText + Drop> Graph<T> {
         let strays = sifted.strays;
         let mut survivors = sifted.survivors;
         number(&mut survivors);
-        let links = links_of(alloc, &survivors)?;
-        let gaps = gaps(alloc, &survivors)?;
+        let places = places_of(alloc, &survivors)?;
+        let links = links_of(alloc, &survivors, &places)?;
+        let gaps = gaps_by(alloc, &survivors, &places)?;
         let forks = forks_of(alloc, &survivors)?;
         Ok(Graph {
             survivors,

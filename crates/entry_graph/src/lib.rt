@@ -8,6 +8,7 @@ mod digest_table;
 mod distinct;
 mod fault;
 mod forks;
+mod gaps;
 mod graph;
 mod links;
 mod numbering;

@@ -41,24 +41,28 @@ impl Links {
     }
 }
 
-/// What each of these survivors names.
-pub fn links_of<T: Knot>(alloc: Global, survivors: &[T]) -> Result<Vec<Links>, AllocError>
+/// What each of these survivors names, which are at these places.
+pub fn links_of<T: Knot>(
+    alloc: Global,
+    survivors: &[T],
+    places: &DigestTable,
+) -> Result<Vec<Links>, AllocError>
+    requires places { ArePlaces T.node survivors.now places.now }
     requires distinct { HasNoDigestTwice T.node survivors.now }
     requires few { length survivors.now ≤ 16384 }
     requires numbered { AllPairs (IsLower T.node) survivors.now }
     requires falling { NamesLower T.node survivors.now }
     ensures { IfOk result (λ links. AreLinks T.node survivors.now links.items) }
 {
-    let places = places_of(alloc, survivors)?;
     let mut links = Vec::with_capacity(alloc, survivors.len())?;
     for survivor in survivors {
-        links.push(links_at(alloc, survivor.names(), &places)?)?;
+        links.push(links_at(alloc, survivor.names(), places)?)?;
     }
     Ok(links)
 }
 
 /// The place of each survivor at its digest.
-fn places_of<T: Knot>(alloc: Global, survivors: &[T]) -> Result<DigestTable, AllocError>
+pub fn places_of<T: Knot>(alloc: Global, survivors: &[T]) -> Result<DigestTable, AllocError>
     ensures { IfOk result (ArePlaces T.node survivors.now) }
 {
     let mut places = DigestTable::new(alloc);

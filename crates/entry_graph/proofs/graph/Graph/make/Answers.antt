@@ -16,7 +16,7 @@ pub links_of-requires-clause-distinct : goal.links_of-requires-clause-distinct
 links_of-requires-clause-distinct g c =
     let node = g.T.Knot.node in
     let found = c.in_ok-sifted.sifted.survivors.items in
-    subst (λ es. HasNoDigestTwice node es) (sym c.deref.ensures.value)
+    subst (λ es. HasNoDigestTwice node es) (sym c.deref-2.ensures.value)
     (single_moved node found c.number.new.entries.items c.number.ensures.same
     (survivors_single node c.in_ok-distinct.distinct.items found c.in_ok-distinct.ensures.single
     (sym c.in_ok-sifted.ensures.survivors)))
@@ -25,7 +25,7 @@ pub links_of-requires-clause-few : goal.links_of-requires-clause-few
 links_of-requires-clause-few g c =
     let given = c.in_ok-distinct.distinct.items in
     let few : length given ≤ 16384 = search rules in
-    subst (λ es. length es ≤ 16384) (sym c.deref.ensures.value)
+    subst (λ es. length es ≤ 16384) (sym c.deref-2.ensures.value)
     (survivors_few g.T.Knot.node given c.in_ok-sifted.sifted.survivors.items c.number.new.entries.items
     c.in_ok-sifted.ensures.survivors c.number.ensures.same few)
 
@@ -33,7 +33,7 @@ pub links_of-requires-clause-falling : goal.links_of-requires-clause-falling
 links_of-requires-clause-falling g c =
     let node = g.T.Knot.node in
     let S = c.number.new.entries.items in
-    subst (λ es. NamesLower node es) (sym c.deref.ensures.value)
+    subst (λ es. NamesLower node es) (sym c.deref-2.ensures.value)
     (survivors_name_lower node c.in_ok-distinct.distinct.items S
     (subst (λ es. IsPermutation es S) c.in_ok-sifted.ensures.survivors c.number.ensures.same))
 
@@ -41,7 +41,7 @@ pub forks_of-requires : goal.forks_of-requires
 forks_of-requires g c =
     let node = g.T.Knot.node in
     let found = c.in_ok-sifted.sifted.survivors.items in
-    subst (λ es. HasNoDigestTwice node es) (sym c.deref-3.ensures.value)
+    subst (λ es. HasNoDigestTwice node es) (sym c.deref-4.ensures.value)
     (single_moved node found c.number.new.entries.items c.number.ensures.same
     (survivors_single node c.in_ok-distinct.distinct.items found c.in_ok-distinct.ensures.single
     (sym c.in_ok-sifted.ensures.survivors)))
@@ -62,9 +62,9 @@ invariant_of-result g c =
     })
     c.in_ok-distinct.ensures.single few c.in_ok-sifted.ensures.survivors c.number.ensures.same
     c.number.ensures.rises
-    (subst (λ es. AreLinks node es c.in_ok-links.links.items) c.deref.ensures.value c.in_ok-links.ensures)
-    (c.in_ok-gaps.ensures ∙ ap (gaps node) c.deref-2.ensures.value)
-    (subst (λ es. AreForks node es c.in_ok-forks.forks.items) c.deref-3.ensures.value c.in_ok-forks.ensures)
+    (subst (λ es. AreLinks node es c.in_ok-links.links.items) c.deref-2.ensures.value c.in_ok-links.ensures)
+    (c.in_ok-gaps.ensures ∙ ap (gaps node) c.deref-3.ensures.value)
+    (subst (λ es. AreForks node es c.in_ok-forks.forks.items) c.deref-4.ensures.value c.in_ok-forks.ensures)
 
 pub returns : goal.returns
 returns g c =
@@ -82,9 +82,9 @@ returns g c =
     let kept : IsEntryGraph node graph =
     parts_are_right node given found graph c.in_ok-distinct.ensures.single few c.in_ok-sifted.ensures.survivors
     c.number.ensures.same c.number.ensures.rises
-    (subst (λ es. AreLinks node es c.in_ok-links.links.items) c.deref.ensures.value c.in_ok-links.ensures)
-    (c.in_ok-gaps.ensures ∙ ap (gaps node) c.deref-2.ensures.value)
-    (subst (λ es. AreForks node es c.in_ok-forks.forks.items) c.deref-3.ensures.value c.in_ok-forks.ensures) in (
+    (subst (λ es. AreLinks node es c.in_ok-links.links.items) c.deref-2.ensures.value c.in_ok-links.ensures)
+    (c.in_ok-gaps.ensures ∙ ap (gaps node) c.deref-3.ensures.value)
+    (subst (λ es. AreForks node es c.in_ok-forks.forks.items) c.deref-4.ensures.value c.in_ok-forks.ensures) in (
       c.in_ok-distinct.ensures.no_collision,
       subst (λ es. length es ≤ 16384) c.in_ok-distinct.ensures.found few,
       subst (λ es. IsGraphOfGiven node es graph) c.in_ok-distinct.ensures.found

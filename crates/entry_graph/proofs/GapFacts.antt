@@ -1,0 +1,45 @@
+-- The gaps of entries, by a table of their places.
+use Rattle.entry_graph.proofs.Imports.{◌≡◌, ◌∙◌, ◌++◌, ◌∷◌, [], ◌+◌, ◌<◌, ℕ, Bool, true, false, List, Option, None, Some}
+use Rattle.entry_graph.proofs.Imports.{ap, refl, sym, subst, length, take, get_or, not, filter, is_none, Contains}
+use Rattle.entry_graph.proofs.Imports.{cases_Bool, none-some, Node, filter-append, append-nil, gaps, number_at, ArePlaces}
+use Rattle.entry_graph.proofs.Imports.{has_digest, has_digest_of, has_digest_from, member_at, place_of}
+use Rattle.std.specs.List.{flat_map}
+use Rattle.std.proofs.lemmas.List.{take_more}
+use Rattle.std.proofs.lemmas.Grind.{flat_map-append}
+use mathlib.Core.Path.{fun_ext}
+use Rattle.entry_order.specs.Ascending.{ascending}
+
+-- of one element more in front, what passes a test is added
+pub filter_after : {X Y : Type 0} (p : Y → Bool) (f : X → List Y) (xs : List X) (i : ℕ) (x : X) → i < length xs →
+    x ≡ get_or xs i x →
+    filter p (flat_map f (take (i + 1) xs)) ≡ filter p (flat_map f (take i xs)) ++ filter p (f x)
+filter_after {X} {Y} p f xs i x within is =
+    ap (λ (ys : List X). filter p (flat_map f ys)) (take_more xs i x within)
+    ∙ ap (λ (y : X). filter p (flat_map f (take i xs ++ y ∷ []))) (sym is)
+    ∙ ap (filter p) (flat_map-append f (take i xs) (x ∷ []) ∙ ap (λ (ys : List Y). flat_map f (take i xs) ++ ys)
+    (append-nil (f x)))
+    ∙ filter-append p (flat_map f (take i xs)) (f x)
+
+module _ {T : Type 0} (node : T → Node) (S : List T) (table : List (List ℕ × ℕ)) (places : ArePlaces node S table) where
+  -- a digest is at no place exactly if no entry has it
+  at_none : (d : List ℕ) → is_none (number_at table d) ≡ not (has_digest node S d)
+  at_none d = by (number_at table d) refl (has_digest node S d) refl
+    where
+      -- by whether it is at a place, and whether an entry has it
+      by : (o : Option ℕ) → number_at table d ≡ o → (b : Bool) → has_digest node S d ≡ b → is_none o ≡ not b
+      by None at true has =
+          let (e, there, same) = has_digest_from node S d has in
+          let (n, stands) = place_of S e there in
+          absurd (places.lacks d n at (e, stands, same))
+      by None at false has = refl
+      by (Some n) at true has = refl
+      by (Some n) at false has =
+          let (e, stands, same) = places.found d n at in
+          let found : has_digest node S d ≡ true = has_digest_of node S d (e, member_at S n e stands, same) in
+          let no : true ≡ false = sym found ∙ has in cc
+
+  -- so what is at no place of what they name, ascending, are their gaps
+  pub gaps_at_none : ascending (filter (λ d. is_none (number_at table d)) (flat_map (λ e. (node e).names) S)) ≡ gaps node S
+  gaps_at_none =
+      ap (λ (p : List ℕ → Bool). ascending (filter p (flat_map (λ e. (node e).names) S)))
+      (fun_ext (λ (d : List ℕ). at_none d))
