@@ -71,20 +71,30 @@ class Folder:
         return self.bytes[self.at[name]][:4]
 
     def create(self, name):
-        def made():
-            number = len(self.bytes)
-            self.stand(name, number)
-            self.bytes[number], self.flushed[number] = b"", False
-
-        fails = self.fails()
-        if (not fails or self.done) and self.at.get(name) is not None:
-            self.stand(name, None)
-            self.note()
-        if fails:
+        """One that fails has made nothing."""
+        if self.fails():
             raise Stopped
-        made()
+        if self.at.get(name) is not None:
+            return None
+        number = len(self.bytes)
+        self.stand(name, number)
+        self.bytes[number], self.flushed[number] = b"", False
         self.note()
-        return self.at[name]
+        return number
+
+    def open_left(self, name):
+        self.call()
+        return self.at.get(name)
+
+    def lock(self):
+        self.call()
+
+    def is_under(self, number, name):
+        self.call()
+        return self.at.get(name) == number
+
+    def is_as_read(self):
+        self.call()
 
     def append(self, number, text):
         done, self.done = self.done, False  # one that fails has appended nothing
@@ -126,6 +136,40 @@ def try_to(do):
         pass
 
 
+def remove_left(folder, name):
+    """What an ended program left under the name is removed."""
+    if folder.look(name):
+        number = folder.open_left(name)
+        folder.lock()
+        if folder.is_under(number, name):
+            folder.remove(name)
+
+
+def give_back(folder, number, name):
+    """What was made is removed where it has the name still."""
+    def step():
+        if folder.is_under(number, name):
+            folder.remove(name)
+
+    try_to(step)
+
+
+def created(folder, name):
+    """A new file of this name, which is locked."""
+    number = folder.create(name)
+    while number is None:
+        remove_left(folder, name)
+        number = folder.create(name)
+    try:
+        folder.lock()
+        folder.is_under(number, name)
+        folder.is_as_read()
+    except Stopped:
+        give_back(folder, number, name)
+        raise
+    return number
+
+
 def other(name):
     return ".auditorium-" + name
 
@@ -138,7 +182,7 @@ class Store:
 
     def put(self, name, text):
         replaces = self.folder.look(name)
-        number = self.folder.create(other(name))
+        number = created(self.folder, other(name))
         is_mark = name.endswith(".roster") or (name.endswith(".office") and not replaces)
         self.begun.append((name, number, replaces, is_mark))
         self.folder.append(number, text)

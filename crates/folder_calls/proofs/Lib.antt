@@ -4,3 +4,4 @@ pub mod Marks
 pub mod Moves
 pub mod Wholes
 pub mod Renames
+pub mod Creations

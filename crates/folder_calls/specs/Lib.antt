@@ -5,3 +5,4 @@ pub mod Ready
 pub mod Sets
 pub mod Asides
 pub mod Leftovers
+pub mod Creating

@@ -118,14 +118,22 @@ abbrev pub Goes : (FolderMoment → FolderMoment → Type 0) → Moments → Mom
 Goes R [] new = new ≡ []
 Goes R (first ∷ earlier) new = Since (R first) (first ∷ earlier) new
 
--- nothing is changed but what stands under this name
+-- Nothing is changed but what stands under this name: each other one stands for the same file, which has
+-- the same bytes.
 pub record IsClear (other : List ℕ) (first w : FolderMoment) : Type 0 where
   pub at : (name : List ℕ) → (name ≡ other → ⊥) → w.at name ≡ first.at name
   pub before : (name : List ℕ) → (name ≡ other → ⊥) → w.before name ≡ first.before name
-  pub node : (i : ℕ) → w.node i ≡ first.node i
+  pub node : (name : List ℕ) (i : ℕ) → (name ≡ other → ⊥) → Among (first.at name ∷ first.before name) (Some i)
+      → w.node i ≡ first.node i
 
--- A file that is created gets a number of its own, once what an ended program left under the name is
--- removed.
+-- What a call made that found no file of this name: one with a number of its own. `None` says that it
+-- found one, and made none.
+abbrev pub Makes : List ℕ → Moments → Moments → Option ℕ → Type 0
+Makes name old new None = new ≡ old
+Makes name old new (Some i) = (new ≡ does (created name i) old) × Now old (IsUnused i)
+
+-- A file that is created gets a number of its own, once the name is free: until then nothing is changed
+-- but what stands under the name.
 pub record Creates (name : List ℕ) (old new : Moments) (i : ℕ) : Type 0 where
   pub mid : Moments
   pub clears : Goes (IsClear name) old mid

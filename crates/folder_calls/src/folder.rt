@@ -3,25 +3,28 @@ ghost use Rattle.std.specs.Prelude.{
   ◌≡◌,
   ◌<◌,
   ◌≤◌,
+  ◌⊎◌,
   ℕ,
+  true,
+  false,
   List,
   length,
   take,
   is_ok,
+  Some,
   IfOk,
+  IfSome,
   OnOk,
   OnErr,
 };
 ghost use Rattle.folder_calls.specs.World.{
   Moments,
   Now,
-  Goes,
   Does,
   does,
   IsLookedUp,
   GivesPart,
-  IsClear,
-  Creates,
+  Makes,
   longer_by,
   emptied,
   renamed,
@@ -51,7 +54,8 @@ pub struct Found {
 }
 
 /// The calls of a system for the files of a folder. Nobody else changes the files that these calls
-/// name, and different names are different places.
+/// name, but that another program may remove one that this program hasn't locked yet. Different
+/// names are different places.
 ///
 /// Source: POSIX.1-2017, the page that is named with each call. A folder either always or never
 /// exposes its moments.
@@ -62,10 +66,23 @@ pub trait Folder {
     /// A removal of this name has failed.
     ghost removal_failed: { Self → List ℕ → Type 0 };
 
+    /// This program has made the file of this number.
+    ghost is_made: { Self → ℕ → Type 0 };
+
+    /// This program has locked the file of this number.
+    ghost is_locked: { Self → ℕ → Type 0 };
+
+    /// This program has removed only names of files that it had made or locked.
+    ghost spares: { Self → Type 0 };
+
+    /// The system has said that the name stands for what was read under it, if it was read.
+    ghost unchanged: { Self → List ℕ → Type 0 };
+
     /// What stands under the name itself: no link is followed (`lstat`).
     fn look(&mut self, name: &str) -> io::Result<Option<Found>>
         ensures found { IfOk result (λ found. Now (moments self.old) (IsLookedUp name.now found)) }
-        ensures same { moments self.new ≡ moments self.old };
+        ensures same { moments self.new ≡ moments self.old }
+        ensures spared { spares self.old → spares self.new };
 
     /// Reads into the front of `into` from the byte `at` on, or finds no such file (`open`, `pread`).
     fn read_at(&mut self, name: &str, at: u64, into: &mut [u8]) -> io::Result<Option<usize>>
@@ -80,14 +97,48 @@ pub trait Folder {
         ensures count { IfOk result (λ n. n ≤ length into.new) }
         ensures same { moments self.new ≡ moments self.old };
 
-    /// Makes an empty file under `other_name`, for one that is to have `name`, and gives its number.
-    /// It is locked for this program, and what an ended one left there is removed (`open` with
-    /// `O_CREAT` and `O_EXCL`, `unlink`; `flock`).
-    fn create(&mut self, name: &str, other_name: &str, bits: Option<u32>) -> io::Result<u64>
-        ensures created { IfOk result
-            (Creates other_name.now (moments self.old) (moments self.new)) }
-        ensures err { OnErr result
-            (Goes (IsClear other_name.now) (moments self.old) (moments self.new)) };
+    /// Makes an empty file under the name and gives its number, or finds that the name is taken
+    /// (`open` with `O_CREAT` and `O_EXCL`).
+    fn create(&mut self, name: &str, bits: u32) -> io::Result<Option<u64>>
+        ensures made { IfOk result (Makes name.now (moments self.old) (moments self.new)) }
+        ensures own { IfOk result (λ number. IfSome number (is_made self.new)) }
+        ensures err { OnErr result (moments self.new ≡ moments self.old) }
+        ensures spared { spares self.old → spares self.new };
+
+    /// Opens what has the name, to lock it, or finds nothing there (`open` with `O_APPEND`).
+    fn open_left(&mut self, name: &str) -> io::Result<Option<u64>>
+        ensures same { moments self.new ≡ moments self.old }
+        ensures spared { spares self.old → spares self.new };
+
+    /// Locks a file that was created or opened under the name, unless another program has (`flock`
+    /// with `LOCK_EX` and `LOCK_NB`). Before that another program may have removed the name.
+    fn lock(&mut self, number: u64, name: &str) -> io::Result<bool>
+        ensures locked { IfOk result (λ is. is ≡ true → is_locked self.new number) }
+        ensures meanwhile { Does (removed name.now) false (moments self.old) (moments self.new) }
+        ensures own { (i : ℕ) → is_made self.old i → is_made self.new i }
+        ensures spared { spares self.old → spares self.new };
+
+    /// Whether the name itself stands for the open file (`fstat`, `lstat`).
+    fn is_under(&mut self, number: u64, name: &str) -> io::Result<bool>
+        ensures there { IfOk result (λ is. is ≡ true
+            → Now (moments self.old) (λ w. w.at name.now ≡ Some number)) }
+        ensures same { moments self.new ≡ moments self.old }
+        ensures own { (i : ℕ) → is_made self.old i → is_made self.new i }
+        ensures locked { (i : ℕ) → is_locked self.old i → is_locked self.new i }
+        ensures spared { spares self.old → spares self.new };
+
+    /// Whether the name stands for what it stood for when it was read, if it was (`stat`).
+    fn is_as_read(&mut self, name: &str) -> io::Result<bool>
+        ensures seen { IfOk result (λ is. is ≡ true → unchanged self.new name.now) }
+        ensures same { moments self.new ≡ moments self.old }
+        ensures own { (i : ℕ) → is_made self.old i → is_made self.new i }
+        ensures locked { (i : ℕ) → is_locked self.old i → is_locked self.new i }
+        ensures spared { spares self.old → spares self.new };
+
+    /// Closes one file, and with that unlocks it (`close`).
+    fn release(&mut self, number: u64)
+        ensures same { moments self.new ≡ moments self.old }
+        ensures spared { spares self.old → spares self.new };
 
     /// Appends a prefix of `piece` to a file that was created (`write` with `O_APPEND`).
     fn append(&mut self, number: u64, piece: &[u8]) -> io::Result<usize>
@@ -122,6 +173,9 @@ pub trait Folder {
     fn remove(&mut self, name: &str) -> io::Result<()>
         ensures did { Does (removed name.now) (is_ok result) (moments self.old) (moments self.new) }
         ensures failed { OnErr result (removal_failed self.new name.now) }
+        ensures spared { (i : ℕ) → is_made self.old i ⊎ is_locked self.old i
+            → Now (moments self.old) (λ w. w.at name.now ≡ Some i)
+            → spares self.old → spares self.new }
         ensures kept { (other : List ℕ) → removal_failed self.old other
             → removal_failed self.new other };
 

@@ -7,6 +7,7 @@
 #![tactic(auto)]
 
 mod begun;
+mod creating;
 mod finishing;
 mod folder;
 mod kinds;
@@ -15,6 +16,7 @@ mod placing;
 mod sets;
 
 pub use begun::Begun;
+pub use creating::{OWNER_WRITES, create_locked, in_use};
 pub use finishing::finish;
 pub use folder::{Folder, Found};
 pub use names::is_other;

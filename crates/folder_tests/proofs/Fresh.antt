@@ -3,11 +3,11 @@ use Rattle.std.proofs.Common.{◌≡◌, ◌∙◌, ℕ, true, false, cond, List
 use Rattle.std.specs.Prelude.{◌⊎◌, string_bytes, unwrap_or, nat_eq}
 use Rattle.std.specs.Str.{bytes_eq}
 use Rattle.std.proofs.lemmas.Bool.{false≢true}
-use Rattle.folder_calls.specs.World.{FolderMoment, Among, IsUnused, IsClear, Since, none_since, one_more, Goes, Does, does, Creates, stands, removed, created, name_flushed}
+use Rattle.folder_calls.specs.World.{FolderMoment, Among, IsUnused, Does, does, Makes, stands, removed, created, name_flushed}
 use Rattle.folder_calls.proofs.Steps.{same_name}
 use Rattle.folder_tests.specs.declared.disk.Call.{Call}
 use Rattle.folder_tests.specs.declared.disk.Call.TheVariants.{Put, Create, Append, Empty, FlushFile, Rename, Remove, FlushName}
-use Rattle.folder_tests.specs.Memory.{effect_of, now_of, moments_of, numbers, is_numbered}
+use Rattle.folder_tests.specs.Memory.{effect_of, now_of, moments_of, numbers, is_numbered, has_number}
 
 abbrev IsThere : Option ℕ → Type 0
 IsThere None = ⊥
@@ -77,43 +77,31 @@ is_fresh (Remove gone ∷ calls) i new name among =
 is_fresh (FlushName flushed ∷ calls) i new name among =
     is_fresh calls i new name (among_flushed (now_of calls) (string_bytes flushed) name i among)
 
--- what removes one name leaves the others
-pub clears : (name : List ℕ) (w : FolderMoment) → IsClear name w (removed name w)
-clears name w = record {
-  at = λ other differ. ap (λ t. cond t None (w.at other)) (differs other differ);
-  before = λ other differ. ap (λ t. cond t (w.at name ∷ w.before name) (w.before other)) (differs other differ);
-  node = λ i. refl;
-}
-  where
-    differs : (other : List ℕ) → (other ≡ name → ⊥) → bytes_eq other name ≡ false
-    differs other differ = elim (bytes_eq other name) as (λ t. bytes_eq other name ≡ t → t ≡ false) [
-      | true ↦ λ is. absurd (differ (same_name other name is))
-      | false ↦ λ is. refl
-    ] refl
+-- a file that is made under a free name
+pub makes : (name : List ℕ) (old new : List Call) (i : ℕ) (call : Call) → IsUnused i (now_of old)
+    → effect_of call ≡ created name i → new ≡ call ∷ old → Makes name (moments_of old) (moments_of new) (Some i)
+makes name old new i call fresh is did =
+    (ap moments_of did ∙ ap (λ step. step (now_of old) ∷ moments_of old) is, fresh)
 
--- a call that removes the name changes nothing else
-pub cleared : (name : List ℕ) (old new : List Call) (call : Call) → effect_of call ≡ removed name → new ≡ call ∷ old
-    → Goes (IsClear name) (moments_of old) (moments_of new)
-cleared name old new call is did =
-    subst (λ calls. Goes (IsClear name) (moments_of old) (moments_of calls)) (sym did)
-    (subst (λ step. Since (IsClear name (now_of old)) (moments_of old) (step (now_of old) ∷ moments_of old)) (sym is)
-    (one_more _ _ (clears name (now_of old)) none_since))
+-- another program removed the name, or nothing was done
+pub removed_meanwhile : (name : List ℕ) (old new : List Call) (call : Call) → effect_of call ≡ removed name
+    → new ≡ call ∷ old → Does (removed name) false (moments_of old) (moments_of new)
+removed_meanwhile name old new call is did =
+    inr (ap moments_of did ∙ ap (λ step. step (now_of old) ∷ moments_of old) is)
 
-pub nothing_cleared : (name : List ℕ) (old new : List Call) → new ≡ old
-    → Goes (IsClear name) (moments_of old) (moments_of new)
-nothing_cleared name old new same =
-    subst (λ calls. Goes (IsClear name) (moments_of old) (moments_of calls)) (sym same) none_since
+pub not_removed : (name : List ℕ) (old new : List Call) → new ≡ old
+    → Does (removed name) false (moments_of old) (moments_of new)
+not_removed name old new same = inl (ap moments_of same)
 
--- a file that is created once its name is free
-pub creates : (name : List ℕ) (old mid new : List Call) (i : ℕ) (call : Call)
-    → Goes (IsClear name) (moments_of old) (moments_of mid) → IsUnused i (now_of mid)
-    → effect_of call ≡ created name i → new ≡ call ∷ mid → Creates name (moments_of old) (moments_of new) i
-creates name old mid new i call clear fresh is did = record {
-  mid = moments_of mid;
-  clears = clear;
-  did = ap moments_of did ∙ ap (λ step. step (now_of mid) ∷ moments_of mid) is;
-  fresh = fresh;
-}
+-- a number that is put in front
+pub first_has : (i : ℕ) (xs : List ℕ) → has_number (i ∷ xs) i ≡ true
+first_has i xs = ap (λ t. cond t true (has_number xs i)) (eq-eqb i i refl)
+
+pub later_has : (x i : ℕ) (xs : List ℕ) → has_number xs i ≡ true → has_number (x ∷ xs) i ≡ true
+later_has x i xs has = elim (nat_eq x i) as (λ t. cond t true (has_number xs i) ≡ true) [
+  | true ↦ refl
+  | false ↦ has
+]
 
 -- a call that was made did its step
 pub did : (old new : List Call) (call : Call) (step : FolderMoment → FolderMoment) → effect_of call ≡ step

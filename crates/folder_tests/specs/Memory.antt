@@ -1,5 +1,5 @@
 -- A disk in memory: the calls that were made, the last one first, and what each did.
-use Rattle.std.specs.Prelude.{ℕ, Bool, true, false, if◌then◌else◌, List, [], ◌∷◌, None, Some, string_bytes, nat_eq}
+use Rattle.std.specs.Prelude.{◌≡◌, ◌⊎◌, ℕ, Bool, true, false, if◌then◌else◌, List, [], ◌∷◌, None, Some, string_bytes, nat_eq}
 use Rattle.folder_calls.specs.World.{FolderMoment, Moments, set_node, stands, created, longer_by, emptied, renamed, removed, name_flushed, file_flushed}
 use Rattle.folder_tests.specs.declared.disk.Call.{Call}
 use Rattle.folder_tests.specs.declared.disk.Call.TheVariants.{Put, Create, Append, Empty, FlushFile, Rename, Remove, FlushName}
@@ -56,3 +56,12 @@ numbers (FlushName name) i = false
 abbrev pub is_numbered : List Call → ℕ → Bool
 is_numbered [] i = false
 is_numbered (call ∷ calls) i = if numbers call i then true else is_numbered calls i
+
+-- the number is among these
+abbrev pub has_number : List ℕ → ℕ → Bool
+has_number [] i = false
+has_number (x ∷ xs) i = if nat_eq x i then true else has_number xs i
+
+-- one of the two lists has the number
+abbrev pub HaveNumber : List ℕ → List ℕ → ℕ → Type 0
+HaveNumber made locked i = (has_number made i ≡ true) ⊎ (has_number locked i ≡ true)

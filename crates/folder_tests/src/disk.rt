@@ -12,6 +12,7 @@ ghost use Rattle.folder_calls.specs.World.{
 ghost use Rattle.folder_tests.specs.Memory.{
   numbers,
   is_numbered,
+  has_number,
   effect_of,
   moments_of,
   now_of,
@@ -44,6 +45,12 @@ pub struct Disk {
     pub asked: u64,
     /// How many of the calls were made before the first one of a folder that failed.
     pub before_fault: usize,
+    /// The files that another program has locked, by their numbers.
+    pub held: Vec<u64>,
+    /// The files that another program removes before this one locks them, by their numbers.
+    pub fleeting: Vec<u64>,
+    /// Another program has written what this one read.
+    pub has_changed: bool,
 }
 
 /// How a call of a folder ends.
@@ -70,6 +77,9 @@ impl Disk {
             calls: Vec::new(alloc),
             asked: 0,
             before_fault: 0,
+            held: Vec::new(alloc),
+            fleeting: Vec::new(alloc),
+            has_changed: false,
         }
     }
 
@@ -222,6 +232,18 @@ fn is_numbered(calls: &[Call], number: u64) -> bool
 {
     for call in calls {
         if numbers(call, number) {
+            return true;
+        }
+    }
+    false
+}
+
+/// Whether the number is among these.
+pub(crate) fn has(all: &[u64], number: u64) -> bool
+    ensures { result ≡ has_number all.now number }
+{
+    for one in all {
+        if *one == number {
             return true;
         }
     }

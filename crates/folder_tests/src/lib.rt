@@ -3,6 +3,8 @@
 #![tactic(auto)]
 
 mod crashes;
+#[cfg(test)]
+mod creating_tests;
 mod disk;
 mod memory_folder;
 #[cfg(test)]

@@ -3,18 +3,20 @@ ghost use Rattle.std.specs.Prelude.{
   ◌≡◌,
   ◌<◌,
   ◌≤◌,
+  ℕ,
+  Some,
   true,
+  false,
   is_ok,
   OnErr,
   IfOk,
+  IfSome,
   length,
   take,
   drop,
 };
 ghost use Rattle.folder_calls.specs.World.{
-  Creates,
-  Goes,
-  IsClear,
+  Makes,
   GivesPart,
   IsPieceFrom,
   Does,
@@ -22,13 +24,13 @@ ghost use Rattle.folder_calls.specs.World.{
   longer_by,
   removed,
 };
-ghost use Rattle.folder_tests.specs.Memory.{moments_of};
+ghost use Rattle.folder_tests.specs.Memory.{moments_of, now_of, has_number, HaveNumber};
 
 use crate::disk::{
-    Call, Disk, Ending, Fault, appending, creating, failed, flushing, fresh_number, next, perform,
-    perform_as, removing, renaming, succeeds,
+    Call, Disk, Ending, Fault, appending, creating, failed, flushing, fresh_number, has, next,
+    perform, perform_as, removing, renaming, succeeds,
 };
-use crate::reading::{bytes_of, entry, found_of};
+use crate::reading::{bytes_of, entry, found_of, is_entry};
 use folder_calls::{Folder, Found};
 use std::alloc::Global;
 use std::io::{self, ErrorKind};
@@ -40,6 +42,11 @@ pub struct MemoryFolder<'a> {
     disk: &'a mut Disk,
     fault: Option<Fault>,
     removal_failed: bool,
+    /// The files that this program has made, and those that it has locked, by their numbers.
+    made: Vec<u64>,
+    locked: Vec<u64>,
+    /// It has removed no others.
+    is_sparing: bool,
 }
 
 impl<'a> MemoryFolder<'a> {
@@ -51,6 +58,9 @@ impl<'a> MemoryFolder<'a> {
             disk,
             fault,
             removal_failed: false,
+            made: Vec::new(alloc),
+            locked: Vec::new(alloc),
+            is_sparing: true,
         }
     }
 }
@@ -89,36 +99,64 @@ fn read_from(bytes: &[u8], at: u64, into: &mut [u8]) -> usize
     count
 }
 
-/// Removes what has the name, if something has.
-#[tactic(auto, using(crate::proofs::Fresh::cleared, crate::proofs::Fresh::nothing_cleared))]
-fn clear(alloc: Global, disk: &mut Disk, name: &str) -> io::Result<()>
-    ensures { Goes (IsClear name.now)
-        (moments_of (disk.old).calls.items) (moments_of (disk.new).calls.items) }
-{
-    if entry(disk.calls.as_slice(), name).is_none() {
-        return Ok(());
-    }
-    let call = removing(alloc, name)?;
-    match perform(disk, call) {
-        Ok(()) => Ok(()),
-        Err(reason) => Err(reason),
-    }
-}
-
-#[tactic(auto, using(crate::proofs::Fresh::creates))]
-fn create(alloc: Global, disk: &mut Disk, name: &str) -> io::Result<u64>
-    ensures created { IfOk result (Creates name.now
+/// Makes an empty file where the name is free.
+#[tactic(auto, using(crate::proofs::Fresh::makes))]
+fn create(
+    alloc: Global,
+    disk: &mut Disk,
+    made: &mut Vec<u64>,
+    name: &str,
+) -> io::Result<Option<u64>>
+    ensures made { IfOk result (Makes name.now
         (moments_of (disk.old).calls.items) (moments_of (disk.new).calls.items)) }
-    ensures err { OnErr result (Goes (IsClear name.now)
-        (moments_of (disk.old).calls.items) (moments_of (disk.new).calls.items)) }
+    ensures own { IfOk result (λ number. IfSome number (λ i. has_number made.new.items i ≡ true)) }
+    ensures err { OnErr result ((disk.new).calls.items ≡ (disk.old).calls.items) }
 {
-    clear(alloc, disk, name)?;
+    if entry(disk.calls.as_slice(), name).is_some() {
+        return Ok(None);
+    }
     let Some(number) = fresh_number(disk.calls.as_slice()) else {
         return Err(io::Error::from(ErrorKind::Other));
     };
     let call = creating(alloc, name, number)?;
+    made.insert(0, number)?;
     perform(disk, call)?;
-    Ok(number)
+    Ok(Some(number))
+}
+
+/// Removes the file where another program does so, and locks it unless another one has.
+#[tactic(auto, using(crate::proofs::Fresh::removed_meanwhile, crate::proofs::Fresh::not_removed))]
+fn lock(
+    alloc: Global,
+    disk: &mut Disk,
+    locked: &mut Vec<u64>,
+    number: u64,
+    name: &str,
+) -> io::Result<bool>
+    ensures locked { IfOk result (λ is. is ≡ true → has_number locked.new.items number ≡ true) }
+    ensures meanwhile { Does (removed name.now) false
+        (moments_of (disk.old).calls.items) (moments_of (disk.new).calls.items) }
+{
+    if has(disk.held.as_slice(), number) {
+        return Ok(false);
+    }
+    locked.insert(0, number)?;
+    if has(disk.fleeting.as_slice(), number) {
+        let call = removing(alloc, name)?;
+        perform(disk, call)?;
+    }
+    Ok(true)
+}
+
+/// Whether what has the name was made or locked by this program.
+fn is_own(calls: &[Call], made: &[u64], locked: &[u64], name: &str) -> bool
+    ensures { (i : ℕ) → HaveNumber made.now locked.now i → (now_of calls.now).at name.now ≡ Some i
+        → result ≡ true }
+{
+    match entry(calls, name) {
+        Some(number) => has(made, number) || has(locked, number),
+        None => false,
+    }
 }
 
 fn append(alloc: Global, disk: &mut Disk, number: u64, piece: &[u8]) -> io::Result<usize>
@@ -142,12 +180,20 @@ fn remove(alloc: Global, disk: &mut Disk, name: &str, ending: Ending) -> io::Res
 }
 
 impl<'a> Folder for MemoryFolder<'a> {
-    ghost use Rattle.std.specs.Prelude.{◌≡◌, true};
-    ghost use Rattle.folder_tests.specs.Memory.{moments_of};
+    ghost use Rattle.std.specs.Prelude.{◌≡◌, true, false};
+    ghost use Rattle.folder_tests.specs.Memory.{moments_of, has_number};
 
     ghost moments = { λ m. moments_of (m.disk.now).calls.items };
 
     ghost removal_failed = { λ m _. m.removal_failed ≡ true };
+
+    ghost is_made = { λ m i. has_number m.made.items i ≡ true };
+
+    ghost is_locked = { λ m i. has_number m.locked.items i ≡ true };
+
+    ghost spares = { λ m. m.is_sparing ≡ true };
+
+    ghost unchanged = { λ m _. m.disk.now.has_changed ≡ false };
 
     fn look(&mut self, name: &str) -> io::Result<Option<Found>> {
         if !succeeds(self.disk, self.fault) {
@@ -173,16 +219,42 @@ impl<'a> Folder for MemoryFolder<'a> {
         }
     }
 
-    fn create(&mut self, _name: &str, other_name: &str, _bits: Option<u32>) -> io::Result<u64> {
-        match next(self.disk, self.fault) {
-            Ending::Succeeds => create(self.alloc, self.disk, other_name),
-            Ending::FailsUndone => Err(failed()),
-            Ending::FailsDone => {
-                clear(self.alloc, self.disk, other_name)?;
-                Err(failed())
-            }
+    fn create(&mut self, name: &str, _bits: u32) -> io::Result<Option<u64>> {
+        if !succeeds(self.disk, self.fault) {
+            return Err(failed());
         }
+        create(self.alloc, self.disk, &mut self.made, name)
     }
+
+    fn open_left(&mut self, name: &str) -> io::Result<Option<u64>> {
+        if !succeeds(self.disk, self.fault) {
+            return Err(failed());
+        }
+        Ok(entry(self.disk.calls.as_slice(), name))
+    }
+
+    fn lock(&mut self, number: u64, name: &str) -> io::Result<bool> {
+        if !succeeds(self.disk, self.fault) {
+            return Err(failed());
+        }
+        lock(self.alloc, self.disk, &mut self.locked, number, name)
+    }
+
+    fn is_under(&mut self, number: u64, name: &str) -> io::Result<bool> {
+        if !succeeds(self.disk, self.fault) {
+            return Err(failed());
+        }
+        Ok(is_entry(self.disk.calls.as_slice(), name, number))
+    }
+
+    fn is_as_read(&mut self, _name: &str) -> io::Result<bool> {
+        if !succeeds(self.disk, self.fault) {
+            return Err(failed());
+        }
+        Ok(!self.disk.has_changed)
+    }
+
+    fn release(&mut self, _number: u64) {}
 
     fn append(&mut self, number: u64, piece: &[u8]) -> io::Result<usize> {
         if !succeeds(self.disk, self.fault) {
@@ -218,6 +290,9 @@ impl<'a> Folder for MemoryFolder<'a> {
 
     fn remove(&mut self, name: &str) -> io::Result<()> {
         let ending = next(self.disk, self.fault);
+        let calls = self.disk.calls.as_slice();
+        let is_own = is_own(calls, self.made.as_slice(), self.locked.as_slice(), name);
+        self.is_sparing = self.is_sparing && is_own;
         match remove(self.alloc, self.disk, name, ending) {
             Ok(()) => Ok(()),
             Err(reason) => {

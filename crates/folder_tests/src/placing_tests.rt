@@ -298,15 +298,15 @@ fn counts_of(alloc: Global, table: &str, is_set: bool) -> Result<[u64; 6], Fail>
 const SETS: &[Case] = &[
     (
         "all.roster (6:r1 (6:r22\na.log (3:l1 (3:l22\nb.log (3:l3 (3:l44\nfinish",
-        [31, 6_391, 55, 20, 0, 0],
+        [40, 6_643, 85, 20, 0, 0],
     ),
     (
         "all.roster - (6:r22\na.log - (3:l22\nb.log (3:l3 (3:l44\nfinish",
-        [26, 3_471, 43, 94, 0, 0],
+        [35, 3_723, 73, 130, 0, 0],
     ),
     (
         "n.office - (6:o1\nn.key - k22\nfinish",
-        [17, 579, 25, 58, 0, 0],
+        [23, 639, 43, 82, 0, 0],
     ),
 ];
 
@@ -321,11 +321,11 @@ fn a_set_is_old_or_new_or_has_no_mark(rt: HostRuntime) -> Result<(), Fail> {
 const SIGNED: &[Case] = &[
     (
         "e.office (6:o1 (6:o22\nfinish\ne.sig s1 s22\nfinish",
-        [17, 229, 17, 0, 0, 0],
+        [23, 265, 29, 0, 0, 0],
     ),
     (
         "e.office (6:o1 (6:o22\nfinish\ne.sig - s22\nfinish",
-        [16, 205, 16, 0, 0, 0],
+        [22, 241, 28, 0, 0, 0],
     ),
 ];
 
@@ -338,8 +338,8 @@ fn a_signature_comes_after_the_number_that_it_uses(rt: HostRuntime) -> Result<()
 }
 
 const SINGLE: &[Case] = &[
-    ("p.svg p1 p22\nfinish", [8, 73, 8, 0, 0, 0]),
-    ("p.svg - p22\nfinish", [7, 61, 7, 22, 0, 0]),
+    ("p.svg p1 p22\nfinish", [11, 85, 14, 0, 0, 0]),
+    ("p.svg - p22\nfinish", [10, 73, 13, 34, 0, 0]),
 ];
 
 #[test]

@@ -1,5 +1,5 @@
 // What a disk has now.
-ghost use Rattle.std.specs.Prelude.{◌≡◌, IfOk, option_map};
+ghost use Rattle.std.specs.Prelude.{◌≡◌, Some, true, IfOk, option_map};
 ghost use Rattle.folder_tests.specs.Memory.{now_of};
 
 use crate::disk::Call;
@@ -57,6 +57,16 @@ pub(crate) fn entry(calls: &[Call], name: &str) -> Option<u64>
         Call::Empty(_) => entry(earlier, name),
         Call::FlushFile(_) => entry(earlier, name),
         Call::FlushName(_) => entry(earlier, name),
+    }
+}
+
+/// Whether the name stands for the file of this number.
+pub(crate) fn is_entry(calls: &[Call], name: &str, number: u64) -> bool
+    ensures { result ≡ true → (now_of calls.now).at name.now ≡ Some number }
+{
+    match entry(calls, name) {
+        Some(found) => found == number,
+        None => false,
     }
 }
 

@@ -63,25 +63,32 @@ clear_own other (b ∷ bs) first w is_so clear own = (
   clear_own other bs first w is_so clear own.2,
 )
 
-clear_mapped : (other : List ℕ) (first w : FolderMoment) (entry : Option ℕ) → IsClear other first w
+clear_mapped : (other : List ℕ) (first w : FolderMoment) (name : List ℕ) (entry : Option ℕ) → (name ≡ other → ⊥)
+    → first.at name ≡ entry → IsClear other first w
     → option_map (λ i. (w.node i).bytes) entry ≡ option_map (λ i. (first.node i).bytes) entry
-clear_mapped other first w None clear = refl
-clear_mapped other first w (Some i) clear = ap (λ n. Some n.bytes) (clear.node i)
+clear_mapped other first w name None differs at clear = refl
+clear_mapped other first w name (Some i) differs at clear = ap (λ n. Some n.bytes) (clear.node name i differs (inl (sym at)))
 
-clear_view : (other : List ℕ) (bs : List Begun) (first w : FolderMoment) → is_other other ≡ true → IsClear other first w
-    → (name : List ℕ) → view bs w name ≡ view bs first name
-clear_view other [] first w is_so clear name = elim (is_other name) as (λ o. is_other name ≡ o
+clear_view : (other : List ℕ) (bs : List Begun) (first w : FolderMoment) → is_other other ≡ true → AreElsewhere other bs
+    → AreBegun bs first → IsClear other first w → (name : List ℕ) → view bs w name ≡ view bs first name
+clear_view other [] first w is_so elsewhere begun clear name = elim (is_other name) as (λ o. is_other name ≡ o
     → cond o None (option_map (λ i. (w.node i).bytes) (w.at name)) ≡ cond o None (option_map (λ i. (first.node i).bytes) (first.at name))) [
       | true ↦ λ o. refl
       | false ↦ λ o. ap (option_map (λ i. (w.node i).bytes)) (clear.at name (kind_differs name other o is_so))
-          ∙ clear_mapped other first w (first.at name) clear
+          ∙ clear_mapped other first w name (first.at name) (kind_differs name other o is_so) refl clear
     ] refl
-clear_view other (b ∷ bs) first w is_so clear name =
-    ap (λ n. cond (bytes_eq name (string_bytes b.name)) (Some n.bytes) (view bs w name)) (clear.node b.number)
-    ∙ ap (λ v. cond (bytes_eq name (string_bytes b.name)) (Some (first.node b.number).bytes) v) (clear_view other bs first w is_so clear name)
+clear_view other (b ∷ bs) first w is_so elsewhere begun clear name =
+    ap (λ n. cond (bytes_eq name (string_bytes b.name)) (Some n.bytes) (view bs w name))
+    (clear.node (string_bytes b.other_name) b.number (apart_names (string_bytes b.other_name) other elsewhere.0) (inl (sym begun.0.stands)))
+    ∙ ap (λ v. cond (bytes_eq name (string_bytes b.name)) (Some (first.node b.number).bytes) v)
+    (clear_view other bs first w is_so elsewhere.1 begun.2 clear name)
 
 clear_same : (other : List ℕ) (w : FolderMoment) → IsClear other w w
-clear_same other w = record { at = λ name differs. refl; before = λ name differs. refl; node = λ i. refl }
+clear_same other w = record {
+  at = λ name differs. refl;
+  before = λ name differs. refl;
+  node = λ name i differs among. refl;
+}
 
 -- a file that is created
 abbrev new_node : Inode
@@ -343,12 +350,12 @@ never_hidden s ss n (none_since) = tt
 never_hidden s ss n (one_more w ws here rest) = tt
 
 -- what was left under another name shows nothing
-pub clear_shown : (other : List ℕ) (bs : List Begun) (a b : Moments) → is_other other ≡ true → Goes (IsClear other) a b
-    → shown_files bs b ≡ shown_files bs a
-clear_shown other bs [] b is_so goes = ap (shown_files bs) goes
-clear_shown other bs (s ∷ ss) [] is_so goes = absurd (never_hidden s ss [] goes)
-clear_shown other bs (s ∷ ss) (w ∷ ws) is_so goes =
-    ap Some (fun_ext (clear_view other bs s w is_so (since_now (w ∷ ws) goes (clear_same other s))))
+pub clear_shown : (other : List ℕ) (bs : List Begun) (a b : Moments) → is_other other ≡ true → AreElsewhere other bs
+    → Now a (StandsInOrder bs) → Goes (IsClear other) a b → shown_files bs b ≡ shown_files bs a
+clear_shown other bs [] b is_so elsewhere ready goes = ap (shown_files bs) goes
+clear_shown other bs (s ∷ ss) [] is_so elsewhere ready goes = absurd (never_hidden s ss [] goes)
+clear_shown other bs (s ∷ ss) (w ∷ ws) is_so elsewhere ready goes =
+    ap Some (fun_ext (clear_view other bs s w is_so elsewhere ready.stand (since_now (w ∷ ws) goes (clear_same other s))))
 
 clear_ready : (other : List ℕ) (bs : List Begun) (a b : Moments) → is_other other ≡ true → AreElsewhere other bs
     → Goes (IsClear other) a b → Now a (StandsInOrder bs) → Now b (StandsInOrder bs)
@@ -369,7 +376,7 @@ module _ (b : Begun) (bs : List Begun) (ws new : Moments) (is_so : is_other (str
 
   pub begin_unseen : shown_files bs new ≡ shown_files bs ws
   begin_unseen = ap (shown_files bs) creates.did ∙ each creates.mid mid_ready creates.fresh
-      ∙ clear_shown (string_bytes b.other_name) bs ws creates.mid is_so creates.clears
+      ∙ clear_shown (string_bytes b.other_name) bs ws creates.mid is_so elsewhere ready creates.clears
     where
       each : (m : Moments) → Now m (StandsInOrder bs) → Now m (IsUnused b.number)
           → shown_files bs (does (created (string_bytes b.other_name) b.number) m) ≡ shown_files bs m
@@ -378,7 +385,7 @@ module _ (b : Begun) (bs : List Begun) (ws new : Moments) (is_so : is_other (str
 
   pub begin_shown : number_of bs (string_bytes b.name) ≡ None → shown_files (bs ++ b ∷ []) new ≡ with_file (shown_files bs ws) (string_bytes b.name) []
   begin_shown none = ap (shown_files (bs ++ b ∷ [])) creates.did ∙ each creates.mid mid_ready creates.fresh
-      ∙ ap (λ v. with_file v (string_bytes b.name) []) (clear_shown (string_bytes b.other_name) bs ws creates.mid is_so creates.clears)
+      ∙ ap (λ v. with_file v (string_bytes b.name) []) (clear_shown (string_bytes b.other_name) bs ws creates.mid is_so elsewhere ready creates.clears)
     where
       each : (m : Moments) → Now m (StandsInOrder bs) → Now m (IsUnused b.number)
           → shown_files (bs ++ b ∷ []) (does (created (string_bytes b.other_name) b.number) m) ≡ with_file (shown_files bs m) (string_bytes b.name) []

@@ -27,11 +27,11 @@ ghost use Rattle.folder_calls.specs.Placing.{
   shown_files,
 };
 
-use crate::new_files::{in_use, write_name_aside, write_other_name};
+use crate::new_files::{write_name_aside, write_other_name};
 use crate::read_files::ROOM;
 use crate::replacing::{is_mark, kept_bits, replaced};
 use crate::system_folder::FILES;
-use folder_calls::{Begun, Folder, Found, is_other};
+use folder_calls::{Begun, Folder, Found, create_locked, in_use, is_other};
 use std::alloc::{AllocError, Global};
 use std::io::{self, ErrorKind};
 
@@ -236,7 +236,7 @@ fn create_free<F: Folder>(
         ≡ shown_files begun.old.items (F.moments folder.old)) }
 {
     begun.reserve(1)?;
-    match folder.create(name, file.other_name.as_str(), file.bits) {
+    match create_locked(folder, name, file.other_name.as_str(), file.bits) {
         Ok(number) => add(begun, file, number),
         Err(reason) => Err(reason),
     }

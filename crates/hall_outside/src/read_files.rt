@@ -146,15 +146,14 @@ impl ReadFiles {
         false
     }
 
-    /// Fails with `ResourceBusy` where the name was read, and what it names now isn't what it named
-    /// then.
-    pub fn require_unchanged<R: Files>(&self, rt: &R, name: &str) -> io::Result<()> {
+    /// Whether the name stands for what it stood for when it was read, if it was.
+    pub fn is_unchanged<R: Files>(&self, rt: &R, name: &str) -> io::Result<bool> {
         for file in self.places.iter().take(self.count) {
             if file.name.as_str() == name && file.found != identity_at(rt, name)? {
-                return Err(busy("another program has written it since it was read"));
+                return Ok(false);
             }
         }
-        Ok(())
+        Ok(true)
     }
 
     /// Fails with `ResourceBusy` where a regular file that was read isn't what its name stands for
@@ -165,7 +164,10 @@ impl ReadFiles {
         if are_as_read(names, &self.places[..self.count.min(self.places.len())])? {
             return Ok(());
         }
-        Err(busy("a file that was read before it has changed since: try again"))
+        Err(io::Error::new(
+            ErrorKind::ResourceBusy,
+            "a file that was read before it has changed since: try again",
+        ))
     }
 }
 
@@ -189,10 +191,6 @@ fn is_as_read<L: LookBack>(names: &L, file: &ReadFile) -> io::Result<bool>
         Some(found) if found.is_regular => names.is_still(file.name.as_str(), found),
         _ => Ok(true),
     }
-}
-
-fn busy(why: &str) -> io::Error {
-    io::Error::new(ErrorKind::ResourceBusy, why)
 }
 
 /// The file of this name, if there is one.

@@ -5,7 +5,7 @@ ghost use Rattle.hall_outside.specs.Beginning.{MayBegin};
 
 use crate::calls::{again, look};
 use crate::refusals::{Refusal, Standing, reading_refusal, replacing_refusal};
-use folder_calls::{Folder, Found};
+use folder_calls::{Folder, Found, OWNER_WRITES, in_use};
 use std::fs::{self, File, Metadata, Permissions};
 use std::io::{self, ErrorKind};
 use std::os::unix::fs::{MetadataExt, PermissionsExt, fchown};
@@ -13,9 +13,6 @@ use std::rt::Files;
 
 /// The permission bits of a file, without those that change who runs it.
 const BITS: u32 = 0o777;
-
-/// The permission to write of the owner.
-pub(crate) const OWNER_WRITES: u32 = 0o200;
 
 /// The bits of a file that holds a secret, of which a replaced one keeps its owner's.
 const SECRET_BITS: u32 = 0o600;
@@ -111,7 +108,7 @@ pub(crate) fn open_to_read<R: Files<File = File>>(rt: &R, name: &str) -> io::Res
     let found = look(rt, name)?;
     require_readable(name, &found_of(&found, false))?;
     if !is_one(&open, &found) {
-        return Err(io::Error::new(ErrorKind::ResourceBusy, "another program is writing it"));
+        return Err(in_use());
     }
     Ok(file)
 }

@@ -2,23 +2,24 @@
 ghost use Rattle.std.specs.Prelude.{◌<◌, [], length, IfOk};
 ghost use Rattle.folder_calls.specs.Writes.{IsCount};
 
-use crate::calls::{look_for, remove, rename};
-use crate::new_files::{folder_of, new_file};
+use crate::calls::{again, look_for, remove, rename};
+use crate::new_files::folder_of;
 use crate::read_files::ReadFiles;
-use crate::replacing::{found_of, keep_owner, set_bits};
+use crate::replacing::{found_of, is_one, keep_owner, set_bits};
 use crate::system_files::{LastRead, read_part, read_through_signals};
 use folder_calls::{Folder, Found};
 use std::alloc::AllocError;
-use std::fs::{self, File};
+use std::fs::{self, File, TryLockError};
 use std::io::{self, ErrorKind, Write};
+use std::os::unix::fs::OpenOptionsExt;
 use std::rt::Files;
 
 /// How many files there is room for from the beginning: a roster and 16 logs.
 pub(crate) const FILES: usize = 17;
 
-/// A file that was created, and its number.
+/// An open file, and its number.
 #[derive(Drop)]
-struct Created {
+struct Opened {
     number: u64,
     file: File,
 }
@@ -29,7 +30,7 @@ pub(crate) struct SystemFolder<'a, R> {
     rt: &'a R,
     last_read: LastRead,
     read: ReadFiles,
-    created: Vec<Created>,
+    opened: Vec<Opened>,
     next: u64,
 }
 
@@ -40,9 +41,19 @@ impl<'a, R: AllocGlobal> SystemFolder<'a, R> {
             rt,
             last_read: LastRead::make(rt.alloc())?,
             read: ReadFiles::make(rt.alloc())?,
-            created: Vec::with_capacity(rt.alloc(), FILES)?,
+            opened: Vec::with_capacity(rt.alloc(), FILES)?,
             next: 0,
         })
+    }
+}
+
+impl<'a, R> SystemFolder<'a, R> {
+    /// Gives the file a number.
+    fn keep(&mut self, file: File) -> Result<u64, AllocError> {
+        let number = self.next;
+        self.next = number.saturating_add(1);
+        self.opened.push(Opened { number, file })?;
+        Ok(number)
     }
 }
 
@@ -52,6 +63,14 @@ impl<'a, R: Files<File = File>> Folder for SystemFolder<'a, R> {
     ghost moments = { λ _. [] };
 
     ghost removal_failed = { λ _ _. ⊤ };
+
+    ghost is_made = { λ _ _. ⊤ };
+
+    ghost is_locked = { λ _ _. ⊤ };
+
+    ghost spares = { λ _. ⊤ };
+
+    ghost unchanged = { λ _ _. ⊤ };
 
     fn look(&mut self, name: &str) -> io::Result<Option<Found>> {
         match look_for(self.rt, name)? {
@@ -69,36 +88,69 @@ impl<'a, R: Files<File = File>> Folder for SystemFolder<'a, R> {
         read_through_signals(&mut file, into)
     }
 
-    fn create(&mut self, name: &str, other_name: &str, bits: Option<u32>) -> io::Result<u64> {
-        self.created.reserve(1)?;
-        let file = new_file(self.rt, other_name, bits)?;
-        // Once it is locked no other program of this kind puts one in place, so what was read before
-        // can be compared.
-        if let Err(reason) = self.read.require_unchanged(self.rt, name) {
-            let _ = remove(self.rt, other_name);
-            return Err(reason);
+    fn create(&mut self, name: &str, bits: u32) -> io::Result<Option<u64>> {
+        self.opened.reserve(1)?;
+        let made = File::options()
+            .append(true)
+            .create_new(true)
+            .mode(bits)
+            .open(self.rt, name);
+        match made {
+            Ok(file) => Ok(Some(self.keep(file)?)),
+            Err(error) if error.kind() == ErrorKind::AlreadyExists => Ok(None),
+            Err(error) => Err(error),
         }
-        let number = self.next;
-        self.next = number.saturating_add(1);
-        self.created.push(Created { number, file })?;
-        Ok(number)
+    }
+
+    fn open_left(&mut self, name: &str) -> io::Result<Option<u64>> {
+        self.opened.reserve(1)?;
+        match File::options().append(true).open(self.rt, name) {
+            Ok(file) => Ok(Some(self.keep(file)?)),
+            Err(error) if error.kind() == ErrorKind::NotFound => Ok(None),
+            Err(error) => Err(error),
+        }
+    }
+
+    fn lock(&mut self, number: u64, _name: &str) -> io::Result<bool> {
+        match file_of(self.opened.as_slice(), number)?.try_lock() {
+            Ok(()) => Ok(true),
+            Err(TryLockError::WouldBlock) => Ok(false),
+            Err(TryLockError::Error(error)) => Err(error),
+        }
+    }
+
+    fn is_under(&mut self, number: u64, name: &str) -> io::Result<bool> {
+        let file = file_of(self.opened.as_slice(), number)?;
+        let open = again(|| file.metadata())?;
+        match look_for(self.rt, name)? {
+            Some(found) => Ok(is_one(&open, &found)),
+            None => Ok(false),
+        }
+    }
+
+    fn is_as_read(&mut self, name: &str) -> io::Result<bool> {
+        self.read.is_unchanged(self.rt, name)
+    }
+
+    fn release(&mut self, number: u64) {
+        self.opened.retain(|file| file.number != number);
     }
 
     fn append(&mut self, number: u64, piece: &[u8]) -> io::Result<usize> {
-        for created in self.created.iter_mut() {
-            if created.number == number {
-                return write_some(&mut created.file, piece);
+        for opened in self.opened.iter_mut() {
+            if opened.number == number {
+                return write_some(&mut opened.file, piece);
             }
         }
         Err(io::Error::from(ErrorKind::NotFound))
     }
 
     fn empty(&mut self, number: u64) -> io::Result<()> {
-        file_of(self.created.as_slice(), number)?.set_len(0)
+        file_of(self.opened.as_slice(), number)?.set_len(0)
     }
 
     fn settle(&mut self, number: u64, old: &Option<Found>, bits: Option<u32>) -> io::Result<()> {
-        let file = file_of(self.created.as_slice(), number)?;
+        let file = file_of(self.opened.as_slice(), number)?;
         if let Some(old) = old {
             keep_owner(file, old)?;
         }
@@ -109,7 +161,7 @@ impl<'a, R: Files<File = File>> Folder for SystemFolder<'a, R> {
     }
 
     fn flush_file(&mut self, number: u64) -> io::Result<()> {
-        file_of(self.created.as_slice(), number)?.sync_all()
+        file_of(self.opened.as_slice(), number)?.sync_all()
     }
 
     fn rename(&mut self, from: &str, to: &str) -> io::Result<()> {
@@ -128,12 +180,12 @@ impl<'a, R: Files<File = File>> Folder for SystemFolder<'a, R> {
     }
 
     fn close(&mut self) {
-        self.created.clear();
+        self.opened.clear();
     }
 }
 
-fn file_of(created: &[Created], number: u64) -> io::Result<&File> {
-    for file in created {
+fn file_of(opened: &[Opened], number: u64) -> io::Result<&File> {
+    for file in opened {
         if file.number == number {
             return Ok(&file.file);
         }
