@@ -126,6 +126,7 @@ class Folder:
         self.call(lambda: self.stand(name, None))
 
     def flush_name(self, name):
+        self.call()  # that opens the folder
         self.call(lambda: self.before.__setitem__(name, []))
 
 

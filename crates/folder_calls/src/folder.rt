@@ -10,6 +10,7 @@ ghost use Rattle.std.specs.Prelude.{
   List,
   length,
   take,
+  if◌then◌else◌,
   is_ok,
   Some,
   IfOk,
@@ -179,8 +180,21 @@ pub trait Folder {
         ensures kept { (other : List ℕ) → removal_failed self.old other
             → removal_failed self.new other };
 
-    /// Flushes the folder that the name is in to the disk (`fsync`).
-    fn flush_name(&mut self, name: &str) -> io::Result<()>
+    /// Opens the folder that the name is in (`open`).
+    fn open_folder(&mut self, name: &str) -> io::Result<()>
+        ensures same { moments self.new ≡ moments self.old };
+
+    /// Flushes the open folder, which the name is in, to the disk, and closes it; or finds that the
+    /// file system can't (`fsync`, `close`).
+    fn flush_folder(&mut self, name: &str) -> io::Result<bool>
+        ensures ok { IfOk result (λ is. moments self.new
+            ≡ (if is then does (name_flushed name.now) (moments self.old) else moments self.old)) }
+        ensures err { OnErr result (Does (name_flushed name.now) false
+            (moments self.old) (moments self.new)) };
+
+    /// Takes the name to be on the disk, since the system can't be asked to flush it. No call is
+    /// made.
+    fn take_as_flushed(&mut self, name: &str) -> io::Result<()>
         ensures did { Does (name_flushed name.now) (is_ok result)
             (moments self.old) (moments self.new) };
 

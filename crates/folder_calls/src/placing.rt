@@ -43,6 +43,7 @@ ghost use Rattle.folder_calls.specs.Leftovers.{AreGone, AreRenamed, IsRenaming};
 ghost use Rattle.folder_calls.specs.declared.begun.Begun.{Begun};
 
 use crate::begun::Begun;
+use crate::flushing::flush_name;
 use crate::folder::Folder;
 use crate::kinds::require_same_kind;
 use std::io;
@@ -103,7 +104,7 @@ pub(crate) fn place<F: Folder>(folder: &mut F, file: &Begun) -> Result<(), Stopp
             });
         }
     }
-    match folder.flush_name(file.name.as_str()) {
+    match flush_name(folder, file.name.as_str()) {
         Ok(()) => Ok(()),
         Err(reason) => Err(Stopped {
             at: 0,

@@ -31,6 +31,7 @@ ghost use Rattle.folder_calls.specs.Leftovers.{AreGone, AreRenamed, IsRenaming};
 ghost use Rattle.folder_calls.specs.declared.begun.Begun.{Begun};
 
 use crate::begun::Begun;
+use crate::flushing::flush_name;
 use crate::folder::Folder;
 use crate::names::is_other;
 use crate::placing::{
@@ -124,7 +125,7 @@ fn place_new<F: Folder>(folder: &mut F, mark: &Begun, rest: &[Begun]) -> Result<
     ensures renamed { Now (F.moments folder.new)
         (IsRenaming result (rest.now ++ mark.now ∷ [])) }
 {
-    match folder.flush_name(mark.name.as_str()) {
+    match flush_name(folder, mark.name.as_str()) {
         Ok(()) => {}
         Err(reason) => return Err(at_mark(rest.len(), reason)),
     }
@@ -162,7 +163,7 @@ fn replace<F: Folder>(
         Ok(()) => {}
         Err(reason) => return Err(at_mark(rest.len(), reason)),
     }
-    match folder.flush_name(mark.name.as_str()) {
+    match flush_name(folder, mark.name.as_str()) {
         Ok(()) => {}
         Err(reason) => {
             restore(folder, mark, aside);

@@ -149,3 +149,19 @@ fn what_is_locked_is_left_alone(rt: HostRuntime) -> Result<(), Fail> {
     }
     Ok(())
 }
+
+/// Whether the new file is put in place where this user may not open the folder, or the file system
+/// flushes none.
+fn is_put_unflushed(alloc: Global, is_unreadable: bool, has_no_flush: bool) -> Result<bool, Fail> {
+    let mut disk = disk_of(alloc, &FREE)?;
+    disk.is_unreadable = is_unreadable;
+    disk.has_no_flush = has_no_flush;
+    Ok(is_put(alloc, &mut disk)? && has(alloc, &disk, "a", Some("new"))?)
+}
+
+#[test]
+fn a_folder_that_cannot_be_flushed_is_taken_to_be(rt: HostRuntime) -> Result<(), Fail> {
+    assert!(rt; is_put_unflushed(rt.alloc(), true, false)?);
+    assert!(rt; is_put_unflushed(rt.alloc(), false, true)?);
+    Ok(())
+}

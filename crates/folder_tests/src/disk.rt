@@ -51,6 +51,10 @@ pub struct Disk {
     pub fleeting: Vec<u64>,
     /// Another program has written what this one read.
     pub has_changed: bool,
+    /// This user may not open its folders.
+    pub is_unreadable: bool,
+    /// It can't flush folders.
+    pub has_no_flush: bool,
 }
 
 /// How a call of a folder ends.
@@ -80,6 +84,8 @@ impl Disk {
             held: Vec::new(alloc),
             fleeting: Vec::new(alloc),
             has_changed: false,
+            is_unreadable: false,
+            has_no_flush: false,
         }
     }
 

@@ -22,6 +22,7 @@ ghost use Rattle.folder_calls.specs.World.{
   Does,
   does,
   longer_by,
+  name_flushed,
   removed,
 };
 ghost use Rattle.folder_tests.specs.Memory.{moments_of, now_of, has_number, HaveNumber};
@@ -179,6 +180,15 @@ fn remove(alloc: Global, disk: &mut Disk, name: &str, ending: Ending) -> io::Res
     perform_as(disk, call, ending)
 }
 
+/// Flushes the name, or fails having done it or not, as it is to end.
+fn flush(alloc: Global, disk: &mut Disk, name: &str, ending: Ending) -> io::Result<()>
+    ensures { Does (name_flushed name.now) (is_ok result)
+        (moments_of (disk.old).calls.items) (moments_of (disk.new).calls.items) }
+{
+    let call = flushing(alloc, name)?;
+    perform_as(disk, call, ending)
+}
+
 impl<'a> Folder for MemoryFolder<'a> {
     ghost use Rattle.std.specs.Prelude.{◌≡◌, true, false};
     ghost use Rattle.folder_tests.specs.Memory.{moments_of, has_number};
@@ -302,10 +312,29 @@ impl<'a> Folder for MemoryFolder<'a> {
         }
     }
 
-    fn flush_name(&mut self, name: &str) -> io::Result<()> {
+    fn open_folder(&mut self, _name: &str) -> io::Result<()> {
+        if !succeeds(self.disk, self.fault) {
+            return Err(failed());
+        }
+        if self.disk.is_unreadable {
+            return Err(io::Error::from(ErrorKind::PermissionDenied));
+        }
+        Ok(())
+    }
+
+    fn flush_folder(&mut self, name: &str) -> io::Result<bool> {
         let ending = next(self.disk, self.fault);
-        let call = flushing(self.alloc, name)?;
-        perform_as(self.disk, call, ending)
+        if self.disk.has_no_flush && matches!(ending, Ending::Succeeds) {
+            return Ok(false);
+        }
+        match flush(self.alloc, self.disk, name, ending) {
+            Ok(()) => Ok(true),
+            Err(reason) => Err(reason),
+        }
+    }
+
+    fn take_as_flushed(&mut self, name: &str) -> io::Result<()> {
+        flush(self.alloc, self.disk, name, Ending::Succeeds)
     }
 
     fn close(&mut self) {}

@@ -32,6 +32,8 @@ pub(crate) struct SystemFolder<'a, R> {
     read: ReadFiles,
     opened: Vec<Opened>,
     next: u64,
+    /// The folder that is to be flushed.
+    folder: Option<File>,
 }
 
 impl<'a, R: AllocGlobal> SystemFolder<'a, R> {
@@ -43,6 +45,7 @@ impl<'a, R: AllocGlobal> SystemFolder<'a, R> {
             read: ReadFiles::make(rt.alloc())?,
             opened: Vec::with_capacity(rt.alloc(), FILES)?,
             next: 0,
+            folder: None,
         })
     }
 }
@@ -175,8 +178,26 @@ impl<'a, R: Files<File = File>> Folder for SystemFolder<'a, R> {
         remove(self.rt, name)
     }
 
-    fn flush_name(&mut self, name: &str) -> io::Result<()> {
-        flush_folder(self.rt, folder_of(name))
+    fn open_folder(&mut self, name: &str) -> io::Result<()> {
+        let path = folder_of(name);
+        let path = if path.is_empty() { "." } else { path };
+        self.folder = Some(fs::open(self.rt, path)?);
+        Ok(())
+    }
+
+    fn flush_folder(&mut self, _name: &str) -> io::Result<bool> {
+        let Some(folder) = self.folder.take() else {
+            return Err(io::Error::from(ErrorKind::NotFound));
+        };
+        match folder.sync_all() {
+            Ok(()) => Ok(true),
+            Err(error) if error.kind() == ErrorKind::InvalidInput => Ok(false),
+            Err(error) => Err(error),
+        }
+    }
+
+    fn take_as_flushed(&mut self, _name: &str) -> io::Result<()> {
+        Ok(())
     }
 
     fn close(&mut self) {
@@ -191,19 +212,6 @@ fn file_of(opened: &[Opened], number: u64) -> io::Result<&File> {
         }
     }
     Err(io::Error::from(ErrorKind::NotFound))
-}
-
-/// Flushes the folder to the disk, where it may be read and the file system can.
-fn flush_folder<R: Files<File = File>>(rt: &R, path: &str) -> io::Result<()> {
-    let folder = match fs::open(rt, if path.is_empty() { "." } else { path }) {
-        Ok(folder) => folder,
-        Err(error) if error.kind() == ErrorKind::PermissionDenied => return Ok(()),
-        Err(error) => return Err(error),
-    };
-    match folder.sync_all() {
-        Err(error) if error.kind() == ErrorKind::InvalidInput => Ok(()),
-        result => result,
-    }
 }
 
 /// As `write`, again wherever a signal came first. A write that took nothing is a fault: it would

@@ -29,7 +29,7 @@ pub returns-in-Err-flush_name-clause-any_moment : goal.returns-in-Err-flush_name
 returns-in-Err-flush_name-clause-any_moment g c =
     let moments = g.F.Folder.moments in
     one_placed c.args.file.now _ (moments c.args.folder.now) (moments c.rename.new.self)
-    (moments c.flush_name.new.self) c.requires.begun c.requires.flushed
+    (moments c.flush_name.new.folder) c.requires.begun c.requires.flushed
     (rw (c.as_str.ensures.value, c.as_str-2.ensures.value) at c.in-Ok.ensures.did)
     (rw c.as_str-3.ensures.value at c.flush_name.ensures.did)
 
@@ -37,7 +37,7 @@ pub returns-in-Ok-flush_name-clause-any_moment : goal.returns-in-Ok-flush_name-c
 returns-in-Ok-flush_name-clause-any_moment g c =
     let moments = g.F.Folder.moments in
     one_placed c.args.file.now _ (moments c.args.folder.now) (moments c.rename.new.self)
-    (moments c.flush_name.new.self) c.requires.begun c.requires.flushed
+    (moments c.flush_name.new.folder) c.requires.begun c.requires.flushed
     (rw (c.as_str.ensures.value, c.as_str-2.ensures.value) at c.in-Ok.ensures.did)
     (rw c.as_str-3.ensures.value at c.flush_name.ensures.did)
 
@@ -54,9 +54,9 @@ returns-in-Err-clause-stay g c = λ others are.
 pub returns-in-Err-flush_name-clause-renamed : goal.returns-in-Err-flush_name-clause-renamed
 returns-in-Err-flush_name-clause-renamed g c =
     let moments = g.F.Folder.moments in
-    one_first c.args.file.now (moments c.flush_name.new.self)
+    one_first c.args.file.now (moments c.flush_name.new.folder)
     (one_moved c.args.file.now _ (moments c.args.folder.now) (moments c.rename.new.self)
-    (moments c.flush_name.new.self) c.requires.begun
+    (moments c.flush_name.new.folder) c.requires.begun
     (rw (c.as_str.ensures.value, c.as_str-2.ensures.value) at c.in-Ok.ensures.did)
     (rw c.as_str-3.ensures.value at c.flush_name.ensures.did))
 
@@ -64,7 +64,7 @@ pub returns-in-Ok-flush_name-clause-renamed : goal.returns-in-Ok-flush_name-clau
 returns-in-Ok-flush_name-clause-renamed g c =
     let moments = g.F.Folder.moments in
     one_moved c.args.file.now _ (moments c.args.folder.now) (moments c.rename.new.self)
-    (moments c.flush_name.new.self) c.requires.begun
+    (moments c.flush_name.new.folder) c.requires.begun
     (rw (c.as_str.ensures.value, c.as_str-2.ensures.value) at c.in-Ok.ensures.did)
     (rw c.as_str-3.ensures.value at c.flush_name.ensures.did)
 
@@ -72,7 +72,7 @@ pub returns-in-Err-flush_name-clause-stay : goal.returns-in-Err-flush_name-claus
 returns-in-Err-flush_name-clause-stay g c = λ others are.
     let moments = g.F.Folder.moments in
     stay_renamed _ _ (flush_adds_none (string_bytes c.args.file.now.name)) others (moments c.rename.new.self)
-    (moments c.flush_name.new.self) (rw c.as_str-3.ensures.value at c.flush_name.ensures.did)
+    (moments c.flush_name.new.folder) (rw c.as_str-3.ensures.value at c.flush_name.ensures.did)
     (stay_named c.args.file.now _ (moments c.args.folder.now) (moments c.rename.new.self) c.requires.begun
     (rw (c.as_str.ensures.value, c.as_str-2.ensures.value) at c.rename.ensures.did) others are)
 
@@ -80,6 +80,6 @@ pub returns-in-Ok-flush_name-clause-stay : goal.returns-in-Ok-flush_name-clause-
 returns-in-Ok-flush_name-clause-stay g c = λ others are.
     let moments = g.F.Folder.moments in
     stay_renamed _ _ (flush_adds_none (string_bytes c.args.file.now.name)) others (moments c.rename.new.self)
-    (moments c.flush_name.new.self) (rw c.as_str-3.ensures.value at c.flush_name.ensures.did)
+    (moments c.flush_name.new.folder) (rw c.as_str-3.ensures.value at c.flush_name.ensures.did)
     (stay_named c.args.file.now _ (moments c.args.folder.now) (moments c.rename.new.self) c.requires.begun
     (rw (c.as_str.ensures.value, c.as_str-2.ensures.value) at c.rename.ensures.did) others are)

@@ -19,7 +19,7 @@ returns-in-Err-flush_name-clause-any_moment g c =
     let moments = g.F.Folder.moments in
     let a = moments c.args.folder.now in
     goes_aside c.args.mark.now c.args.rest.now a (moments c.restore.new.folder) c.requires.begun
-    (goes_restored c.args.mark.now c.args.aside.now _ false a (moments c.rename.new.self) (moments c.flush_name.new.self)
+    (goes_restored c.args.mark.now c.args.aside.now _ false a (moments c.rename.new.self) (moments c.flush_name.new.folder)
     (moments c.restore.new.folder) c.requires.other (rw c.as_str.ensures.value at c.in-Ok.ensures.did)
     (rw c.as_str-2.ensures.value at c.flush_name.ensures.did) c.restore.ensures)
 
@@ -27,21 +27,21 @@ pub place_set-requires-clause-begun : goal.place_set-requires-clause-begun
 place_set-requires-clause-begun g c =
     let moments = g.F.Folder.moments in
     begun_in c.args.mark.now c.args.rest.now c.args.aside.now (moments c.args.folder.now) (moments c.rename.new.self)
-    (moments c.flush_name.new.self) (rw c.as_str.ensures.value at c.in-Ok.ensures.did)
+    (moments c.flush_name.new.folder) (rw c.as_str.ensures.value at c.in-Ok.ensures.did)
     (rw c.as_str-2.ensures.value at c.in-Ok-flush_name.ensures.did) c.requires.begun c.requires.elsewhere
 
 pub place_set-requires-clause-flushed : goal.place_set-requires-clause-flushed
 place_set-requires-clause-flushed g c =
     let moments = g.F.Folder.moments in
     flushed_in c.args.mark.now c.args.rest.now c.args.aside.now (moments c.args.folder.now) (moments c.rename.new.self)
-    (moments c.flush_name.new.self) (rw c.as_str.ensures.value at c.in-Ok.ensures.did)
+    (moments c.flush_name.new.folder) (rw c.as_str.ensures.value at c.in-Ok.ensures.did)
     (rw c.as_str-2.ensures.value at c.in-Ok-flush_name.ensures.did) c.requires.flushed
 
 pub place_set-requires-clause-gone : goal.place_set-requires-clause-gone
 place_set-requires-clause-gone g c =
     let moments = g.F.Folder.moments in
     gone_in c.args.mark.now c.args.rest.now c.args.aside.now (moments c.args.folder.now) (moments c.rename.new.self)
-    (moments c.flush_name.new.self) (rw c.as_str.ensures.value at c.in-Ok.ensures.did)
+    (moments c.flush_name.new.folder) (rw c.as_str.ensures.value at c.in-Ok.ensures.did)
     (rw c.as_str-2.ensures.value at c.in-Ok-flush_name.ensures.did) c.requires.begun c.requires.other
 
 pub returns-in-Ok-place_set-clause-any_moment : goal.returns-in-Ok-place_set-clause-any_moment
@@ -49,7 +49,7 @@ returns-in-Ok-place_set-clause-any_moment g c =
     let moments = g.F.Folder.moments in
     let a = moments c.args.folder.now in
     let m = moments c.rename.new.self in
-    let n = moments c.flush_name.new.self in
+    let n = moments c.flush_name.new.folder in
     after_aside c.args.mark.now c.args.rest.now a n (moments c.place_set.new.folder) c.requires.begun
     (goes_flushed c.args.mark.now _ a m n
     (goes_moved c.args.mark.now c.args.aside.now _ a m c.requires.other (rw c.as_str.ensures.value at c.rename.ensures.did))
@@ -61,7 +61,7 @@ returns-in-Ok-place_set-clause-placed g c =
     let moments = g.F.Folder.moments in
     let a = moments c.args.folder.now in
     let m = moments c.rename.new.self in
-    let n = moments c.flush_name.new.self in
+    let n = moments c.flush_name.new.folder in
     done_after_aside c.args.mark.now c.args.rest.now a n (moments c.place_set.new.folder)
     (goes_flushed c.args.mark.now _ a m n
     (goes_moved c.args.mark.now c.args.aside.now _ a m c.requires.other (rw c.as_str.ensures.value at c.rename.ensures.did))
@@ -77,7 +77,7 @@ returns-then-stopped-clause-any_moment g c =
     let name = string_bytes c.args.mark.now.name in
     let untouched = c.in-Err-place_set.ensures.untouched c.if-stopped.true in
     goes_aside c.args.mark.now c.args.rest.now a (moments c.restore-then-stopped.new.folder) c.requires.begun
-    (goes_restored c.args.mark.now aside _ false a (moments c.rename.new.self) (moments c.flush_name.new.self)
+    (goes_restored c.args.mark.now aside _ false a (moments c.rename.new.self) (moments c.flush_name.new.folder)
     (moments c.restore-then-stopped.new.folder) c.requires.other (rw c.as_str.ensures.value at c.in-Ok.ensures.did)
     (rw c.as_str-2.ensures.value at c.flush_name.ensures.did)
     (subst (λ x. Does (renamed aside name) false x (moments c.restore-then-stopped.new.folder)) untouched c.restore-then-stopped.ensures))
@@ -87,7 +87,7 @@ returns-else-stopped-clause-any_moment g c =
     let moments = g.F.Folder.moments in
     let a = moments c.args.folder.now in
     let m = moments c.rename.new.self in
-    let n = moments c.flush_name.new.self in
+    let n = moments c.flush_name.new.folder in
     after_aside c.args.mark.now c.args.rest.now a n (moments c.place_set.new.folder) c.requires.begun
     (goes_flushed c.args.mark.now _ a m n
     (goes_moved c.args.mark.now c.args.aside.now _ a m c.requires.other (rw c.as_str.ensures.value at c.rename.ensures.did))
@@ -99,7 +99,7 @@ returns-then-stopped-clause-renamed g c =
     let moments = g.F.Folder.moments in
     let a = moments c.args.folder.now in
     let m = moments c.rename.new.self in
-    let n = moments c.flush_name.new.self in
+    let n = moments c.flush_name.new.folder in
     let q = moments c.place_set.new.folder in
     let whole = after_aside c.args.mark.now c.args.rest.now a n q c.requires.begun
     (goes_flushed c.args.mark.now _ a m n
