@@ -42,6 +42,8 @@ pub(crate) enum Saying<'a> {
     },
     /// The log is empty, and others are given.
     EmptyLog,
+    /// The proof gives this number of survivors; the logs have that one, if it is known.
+    Survivors(&'a str, Option<u32>),
 }
 
 /// Writes which name is the nearest, if one is near.
@@ -73,6 +75,7 @@ impl<'a> Saying<'a> {
                 )
             }
             Saying::Count(count, form) => write_count(f, count, form),
+            Saying::Survivors(stated, count) => write_survivors(f, stated, count),
             _ => self.write_of_rules(f, sentence),
         }
     }
@@ -104,6 +107,19 @@ impl<'a> Saying<'a> {
             }
             _ => f.write_str(sentence),
         }
+    }
+}
+
+/// Writes how many entries survive, by the proof and by the logs.
+fn write_survivors<W: fmt::Write>(
+    f: &mut Formatter<W>,
+    stated: &str,
+    count: Option<u32>,
+) -> fmt::Result {
+    write!(f, "surviving entries: {stated} by the proof, ")?;
+    match count {
+        Some(count) => write!(f, "{count} by the logs"),
+        None => f.write_str("another number by the logs"),
     }
 }
 

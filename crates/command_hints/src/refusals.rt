@@ -6,6 +6,8 @@ use crate::excerpts::{Excerpt, line_of};
 use crate::findings::{Finding, Saying};
 use crate::rule_words::find_at;
 use crate::script_words::find_in_line;
+use audit_proof::ProofWhy;
+use hall_text::decimal;
 use roster::RosterFault;
 use std::alloc::Global;
 use std::fmt::{self, Display, Formatter, Write};
@@ -26,6 +28,8 @@ pub struct Refusal<'a> {
     role: Option<&'static str>,
     /// Whether the words name several logs.
     has_logs: bool,
+    /// How many entries survive in the logs, if they were counted once more.
+    survivors: Option<u32>,
 }
 
 /// An input that was refused, and what its text shows.
@@ -139,6 +143,7 @@ pub(crate) fn refusal_in<'a>(
         rest,
         role: role_of_file(words, name),
         has_logs: has_logs(words),
+        survivors: None,
     })
 }
 
@@ -151,6 +156,20 @@ fn has_logs(words: &[String]) -> bool {
         },
         [] => false,
     }
+}
+
+/// What is found in the line of a proof that gives another number of survivors: that number. It
+/// isn't the other one, unless a file has changed since.
+fn find_count<'a>(line: &'a [u8], survivors: Option<u32>) -> Option<Finding<'a>> {
+    let line = str::from_utf8(line).ok()?;
+    let (first, rest) = line.split_once(' ')?;
+    let stated = rest.split(' ').next()?;
+    let others = survivors.filter(|count| decimal(stated.as_bytes()) != Some(*count));
+    Some(Finding {
+        saying: Saying::Survivors(stated, others),
+        at: first.len().saturating_add(1),
+        count: stated.len(),
+    })
 }
 
 /// The limit of a file that the help calls so.
@@ -183,11 +202,26 @@ pub(crate) fn absence_of<'a>(
 }
 
 impl<'a> Refusal<'a> {
-    /// The file whose text shows more: a script, a text of rules, or a file that is no log.
+    /// The file whose text shows more: a script, a text of rules, a file that is no log, or a proof
+    /// for another number of survivors.
     pub fn text_file(&self) -> Option<&'a str> {
         match self.cause {
             Cause::Script(_) | Cause::Rules(_) | Cause::Header => Some(self.name),
+            Cause::Proof(ProofWhy::WrongCount) => Some(self.name),
             _ => None,
+        }
+    }
+
+    /// Whether a proof is refused because it is for another number of survivors.
+    pub fn is_of_count(&self) -> bool {
+        matches!(self.cause, Cause::Proof(ProofWhy::WrongCount))
+    }
+
+    /// The refusal, where so many entries survive in the logs.
+    pub fn with_survivors(self, survivors: u32) -> Refusal<'a> {
+        Refusal {
+            survivors: Some(survivors),
+            ..self
         }
     }
 
@@ -216,6 +250,11 @@ impl<'a> Refusal<'a> {
             Cause::Rules(why) => {
                 let Finding { saying, at, count } = find_at(alloc, why, text, place)?;
                 Some((saying, Excerpt::of_byte(text, at, count)))
+            }
+            Cause::Proof(ProofWhy::WrongCount) => {
+                let line = line_of(text, place)?;
+                let Finding { saying, at, count } = find_count(line, self.survivors)?;
+                Some((saying, Excerpt::of_line(line, place, at, count)))
             }
             Cause::Header if text.is_empty() && self.has_logs => Some((Saying::EmptyLog, None)),
             _ => None,

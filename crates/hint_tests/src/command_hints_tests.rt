@@ -219,7 +219,38 @@ audit,r,c,l,m|m 0 Header||the file is empty; the audit can be made without it, s
 order,r,b1.0,b1.1,l,m|m 0 Header||the file is empty; the audit can be made without it|
 audit,r,c,l|l 0 Header||a log begins with its header, as (3:log1:11:0)|
 gaps,l|l 0 Header||a log begins with its header, as (3:log1:11:0)|
-audit,r,c,l,m|m 0 Header|no log|a log begins with its header, as (3:log1:11:0)|";
+audit,r,c,l,m|m 0 Header|no log|a log begins with its header, as (3:log1:11:0)|
+check,r,c,q,l|q 2 WrongCount|proof 1/entries 3/past 0/|surviving entries: 3 by the proof, another \
+number by the logs/|     2 | entries 3/       |         ^/
+check,r,c,q,l|q 2 WrongCount|proof 1/entries 4294967295 past/|surviving entries: 4294967295 by the \
+proof, another|     2 | entries 4294967295 past/       |         ^^^^^^^^^^/
+check,r,c,q,l|q 2 WrongCount|proof 1/|the logs don't have so many entries that survive/|
+check,r,c,q,l|q 2 WrongCount|proof 1/entries/|the logs don't have so many entries that survive/|";
+
+/// The second line of a proof whose number is refused, the number of survivors, and how what is
+/// said begins.
+const COUNTS: &[(&str, u32, &str)] = &[
+    (
+        "entries 3",
+        6,
+        "surviving entries: 3 by the proof, 6 by the logs\n",
+    ),
+    (
+        "entries 30",
+        3,
+        "surviving entries: 30 by the proof, 3 by the logs\n",
+    ),
+    (
+        "entries 0 past",
+        1,
+        "surviving entries: 0 by the proof, 1 by the logs\n",
+    ),
+    (
+        "entries 6",
+        6,
+        "surviving entries: 6 by the proof, another number by the logs\n",
+    ),
+];
 
 /// The words of a row.
 fn words_of(alloc: Global, text: &str) -> Result<Vec<String>, Fail> {
@@ -327,6 +358,30 @@ fn refusals_quote_the_text_and_mark_it(rt: HostRuntime) -> Result<(), Fail> {
         assert!(rt; found.contains(wanted.as_str()), "{row}: {found}");
         let excerpt = found.split_once('\n').unwrap_or(("", "")).1;
         assert_eq!(rt; excerpt, shown.as_str(), "{row}");
+    }
+    Ok(())
+}
+
+#[test]
+fn a_wrong_count_gives_both_numbers(rt: HostRuntime) -> Result<(), Fail> {
+    let alloc = rt.alloc();
+    let words = words_of(alloc, "check,r,c,q,l")?;
+    let line = "refused q 2 WrongCount\n";
+    let Some(Hint::Refused(refusal)) = hint_on(alloc, "auditorium", Some(&words), line) else {
+        return Err(Fail::from("the cause is known"));
+    };
+    assert!(rt; refusal.is_of_count());
+    for &(second, survivors, want) in COUNTS {
+        let text = format!(in alloc; "proof 1\n{second}\npast 0\n")?;
+        let explained = refusal
+            .with_survivors(survivors)
+            .explained(alloc, Some(text.as_bytes()));
+        let said = format!(in alloc; "{explained}")?;
+        let want = format!(in alloc; "auditorium: q, line 2, WrongCount: {want}")?;
+        assert!(rt;
+            said.as_str().starts_with(want.as_str()),
+            "{second}: {said}"
+        );
     }
     Ok(())
 }
