@@ -1,10 +1,12 @@
-//! Tests of the public calls of `polling_world`, `log_repair`, `finished_floor` and
+//! Tests of the public calls of `polling_world`, `log_repair`, `finished_floor`, `floor_links` and
 //! `machine_floor`. They are in a crate of their own, so that what they test isn't proved once more
 //! with them.
 #![tactic(auto)]
 
 #[cfg(test)]
 mod finished_floor_tests;
+#[cfg(test)]
+mod floor_links_tests;
 #[cfg(test)]
 mod log_repair_tests;
 #[cfg(test)]

@@ -1,4 +1,4 @@
-//! Tests of the public calls of `lms_ots`, `lms_sign`, `hss_sign` and `entry_format`. They are in
+//! Tests of the public calls of `lms_ots`, `lms_sign`, `hss_sign`, `office_key` and `entry_format`. They are in
 //! a crate of their own, so that what they test isn't proved once more with them.
 #![tactic(auto)]
 
@@ -12,5 +12,7 @@ mod key_rows;
 mod lms_ots_tests;
 #[cfg(test)]
 mod lms_sign_tests;
+#[cfg(test)]
+mod office_key_tests;
 #[cfg(test)]
 mod sealed_tests;

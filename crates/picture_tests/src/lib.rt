@@ -1,7 +1,9 @@
-//! Tests of the public calls of `entangled_picture` and `report_page`. They are in a crate of their
+//! Tests of the public calls of `page_markup`, `entangled_picture` and `report_page`. They are in a crate of their
 //! own, so that what they test isn't proved once more with them.
 #![tactic(auto)]
 
+#[cfg(test)]
+mod markup_tests;
 #[cfg(test)]
 mod open_tests;
 #[cfg(test)]

@@ -1,4 +1,4 @@
-//! Tests of the public calls of `rule_language` and `rule_engine`. They are in a crate of their
+//! Tests of the public calls of `rule_language`, `rule_meaning` and `rule_engine`. They are in a crate of their
 //! own, so that what they test isn't proved once more with them.
 #![tactic(auto)]
 
@@ -6,3 +6,5 @@
 mod rule_engine_tests;
 #[cfg(test)]
 mod rule_language_tests;
+#[cfg(test)]
+mod rule_meaning_tests;
