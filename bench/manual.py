@@ -73,7 +73,9 @@ or
 .Dq absent FILE ,
 and a hint on standard error says what was expected.
 For an invalid command line the usage line of the command follows; for a script
-and for a file of rules, the line with a mark below the word.
+and for a file of rules, the line with a mark below the word; for a proof with
+.Dq WrongCount ,
+the numbers of surviving entries by the proof and by the logs.
 With 8, 9 and 10 a line on standard error says what failed, except on a broken
 pipe.
 After

@@ -57,7 +57,7 @@ fn endorsed_words(alloc: Global, name: &str, file: &str) -> Result<Vec<String>, 
 }
 
 /// Whether a file of this name can be read once more: a pipe or a terminal can't.
-fn is_regular<R: Files<File = File>>(rt: &R, name: &str) -> bool {
+pub(crate) fn is_regular<R: Files<File = File>>(rt: &R, name: &str) -> bool {
     match fs::metadata(rt, name) {
         Ok(metadata) => metadata.is_file(),
         Err(_) => false,

@@ -1,5 +1,6 @@
 //! Hints on standard error, for users whose command wasn't carried out.
 
+use crate::survivors::survivors;
 use auditorium_core::Status;
 use command_hints::{Hint, hint_on};
 use hall_outside::{FolderStore, read_file};
@@ -7,13 +8,17 @@ use std::alloc::Global;
 use std::fs::{self, File};
 use std::io::{self, Eprint};
 use std::rt::Files;
+use std::thread::Threads;
 
 /// The most bytes of a text of which a line is shown, which is the limit of scripts and of rules.
 const MOST: usize = 4_194_304;
 
+/// The most bytes of a proof.
+const MOST_PROOF: usize = 67_108_864;
+
 /// Writes the hint, if there is one, where the command line wasn't valid, or an input was refused
 /// or isn't there. What can't be written is left out.
-pub(crate) fn hint<R: Files<File = File> + Eprint + AllocGlobal>(
+pub(crate) fn hint<R: Files<File = File> + Eprint + AllocGlobal + Threads + Sync>(
     rt: &R,
     status: Status,
     words: Option<&[String]>,
@@ -26,20 +31,28 @@ pub(crate) fn hint<R: Files<File = File> + Eprint + AllocGlobal>(
         return;
     };
     if let Some(hint) = hint_on(rt.alloc(), "auditorium", words, line) {
-        let _ = write_hint(rt, &hint);
+        let _ = write_hint(rt, words.unwrap_or(&[]), &hint);
     }
 }
 
 /// Writes the hint, with what the text of a refused file shows.
-fn write_hint<R: Files<File = File> + Eprint + AllocGlobal>(
+fn write_hint<R: Files<File = File> + Eprint + AllocGlobal + Threads + Sync>(
     rt: &R,
+    words: &[String],
     hint: &Hint<'_>,
 ) -> io::Result<()> {
-    let Hint::Refused(refusal) = *hint else {
+    let Hint::Refused(mut refusal) = *hint else {
         return eprint!(rt; "{hint}");
     };
+    let mut most = MOST;
+    if refusal.is_of_count() {
+        most = MOST_PROOF;
+        if let Some(count) = survivors(rt, words) {
+            refusal = refusal.with_survivors(count);
+        }
+    }
     let text = match refusal.text_file() {
-        Some(name) => text_again(rt, name),
+        Some(name) => text_again(rt, name, most),
         None => None,
     };
     let text = text.as_ref().map(|text| text.as_slice());
@@ -48,11 +61,15 @@ fn write_hint<R: Files<File = File> + Eprint + AllocGlobal>(
 }
 
 /// The text of the file, if it can be read once more: a pipe or a terminal can't.
-fn text_again<R: Files<File = File> + AllocGlobal>(rt: &R, name: &str) -> Option<Vec<u8>> {
+fn text_again<R: Files<File = File> + AllocGlobal>(
+    rt: &R,
+    name: &str,
+    most: usize,
+) -> Option<Vec<u8>> {
     let metadata = fs::metadata(rt, name).ok()?;
     if !metadata.is_file() {
         return None;
     }
     let mut store = FolderStore::make(rt).ok()?;
-    read_file(rt.alloc(), &mut store, name, MOST).ok()
+    read_file(rt.alloc(), &mut store, name, most).ok()
 }

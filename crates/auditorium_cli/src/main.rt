@@ -7,6 +7,7 @@ mod ending;
 mod endorsement;
 mod hinting;
 mod kept_sink;
+mod survivors;
 
 use crate::ending::{after_name, carry_out};
 use crate::endorsement::{check_endorsement, office_of_others, warn_of_others};
