@@ -10,13 +10,17 @@ use floor_links::Links;
 use hall_outside::Gate;
 use log_lock::{LogLock, Pass};
 use polling_world::Memory;
-use std::alloc::{AllocError, Global};
+use std::alloc::Global;
 use std::sync::Wait;
 use std::thread;
 use std::thread::Threads;
 
+// The bytes that have to be free for threads to be started, and are kept free until they have
+// ended. So a limit on the address space, which their stacks take up, leaves room for the rest.
+const ROOM: usize = 67_108_864;
+
 // The turns of a station's hand: at most `turns`, each behind the gate and the lock, until no
-// action is left or memory was refused.
+// action is left. Where memory is refused it ends, and leaves the rest to whoever has the station.
 fn hand<R: Wait, G: Gate>(
     rt: &R,
     alloc: Global,
@@ -27,13 +31,13 @@ fn hand<R: Wait, G: Gate>(
     mut pass: Pass<Station, Station>,
     machine: u32,
     turns: u32,
-) -> (Pass<Station, Station>, Result<(), Memory>)
+) -> Pass<Station, Station>
     requires lock { pass.lock ≡ lock.now }
     requires number { pass.number ≡ 0 }
     requires links { All (IsOfLinks links.now) pass.brand }
-    ensures lock { result.0.lock ≡ lock.now }
-    ensures number { result.0.number ≡ 0 }
-    ensures brand { result.0.brand ≡ pass.brand }
+    ensures lock { result.lock ≡ lock.now }
+    ensures number { result.number ≡ 0 }
+    ensures brand { result.brand ≡ pass.brand }
 {
     news.begin();
     for turn in 0..turns {
@@ -44,8 +48,7 @@ fn hand<R: Wait, G: Gate>(
         let done = guard.value().machine().left().is_none();
         pass = lock.release(rt, guard);
         if did.is_err() {
-            news.end();
-            return (pass, Err(AllocError));
+            break;
         }
         if done {
             news.tell();
@@ -58,7 +61,7 @@ fn hand<R: Wait, G: Gate>(
         }
     }
     news.end();
-    (pass, Ok(()))
+    pass
 }
 
 // The turns of a station's ear, each behind the gate and the lock.
@@ -113,13 +116,13 @@ fn work_station<R: Threads + Wait + Sync, G: Gate + Sync>(
     let machine = station.machine().log().owner();
     let (lock, first, second) = LogLock::<Station, Station>::make(rt, alloc, station)?;
     let shared = &lock;
-    let ((first, refused), second) = thread::join(
+    let (first, second) = thread::join(
         rt,
         move ||
             requires { (first.lock ≡ shared.now) × (first.number ≡ 0)
                 × All (IsOfLinks links.now) first.brand }
-            ensures { (result.0.lock ≡ shared.entry.now) × (result.0.number ≡ 0)
-                × (result.0.brand ≡ first.brand) }
+            ensures { (result.lock ≡ shared.entry.now) × (result.number ≡ 0)
+                × (result.brand ≡ first.brand) }
         { hand(rt, alloc, gate, links, news, shared, first, machine, turns) },
         move ||
             requires { (second.lock ≡ shared.now) × (second.number ≡ 1)
@@ -128,15 +131,11 @@ fn work_station<R: Threads + Wait + Sync, G: Gate + Sync>(
                 × (result.brand ≡ second.brand) }
         { ear(rt, gate, links, news, shared, second, machine, turns) },
     );
-    let station = lock.close(rt, first, second);
-    refused?;
-    Ok(station)
+    Ok(lock.close(rt, first, second))
 }
 
-/// Lets each station be worked by two threads, its hand and its ear, for at most `turns` turns
-/// each, and ends once all have ended. Each station comes back in its place, grown by turns.
-/// Running out of memory at one is reported once the others have ended.
-pub fn work_all<R: Threads + Wait + Sync, G: Gate + Sync>(
+// Lets each station be worked by two threads.
+fn work_each<R: Threads + Wait + Sync, G: Gate + Sync>(
     rt: &R,
     alloc: Global,
     gate: &G,
@@ -164,4 +163,28 @@ pub fn work_all<R: Threads + Wait + Sync, G: Gate + Sync>(
         after.push(station?)?;
     }
     Ok(after)
+}
+
+/// Lets each station be worked by two threads, its hand and its ear, for at most `turns` turns
+/// each, and ends once all have ended. Each station comes back in its place, grown by turns. Where
+/// there is no room for threads the stations come back as they are, and what a hand could not do
+/// for want of memory isn't done.
+pub fn work_all<R: Threads + Wait + Sync, G: Gate + Sync>(
+    rt: &R,
+    alloc: Global,
+    gate: &G,
+    links: &Links,
+    turns: u32,
+    stations: Vec<Station>,
+) -> Result<Vec<Station>, Memory>
+    requires links { All (λ (s : Station). IsOfLinks links.now (made_of s)) stations.items }
+    requires first { All (λ (s : Station). s.ticks ≡ []) stations.items }
+    ensures count { IfOk result (λ after. vec_len after ≡ vec_len stations) }
+    ensures made { IfOk result (λ after. (i : ℕ) (d : Station) → i < vec_len stations →
+        made_of (slice_index_or after.items i d) ≡ made_of (slice_index_or stations.items i d)) }
+{
+    match Vec::<u8>::with_capacity(alloc, ROOM) {
+        Ok(_room) => work_each(rt, alloc, gate, links, turns, stations),
+        Err(_) => Ok(stations),
+    }
 }

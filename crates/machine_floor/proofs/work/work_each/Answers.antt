@@ -1,7 +1,7 @@
 use Rattle.machine_floor.proofs.Imports.{◌≡◌, ℕ, suc, ◌+◌, ◌<◌, List, get_or, vec_len, vec_items, Ok, refl, ap, ◌∙◌}
 use Rattle.machine_floor.proofs.Imports.{arith, add-zero, below_more, into_iter_items, into_iter_len, StationState}
 use Rattle.machine_floor.proofs.Imports.{made_of}
-use Rattle.machine_floor.proofs.work.work_all.Goals as goal
+use Rattle.machine_floor.proofs.work.work_each.Goals as goal
 
 -- the station that comes out was first among the rest
 pub loop-station-preserved : goal.loop-station-preserved
