@@ -17,8 +17,8 @@ use Rattle.rule_language.specs.Trees.{Trees, no_trees, tree_then}
 use Rattle.rule_meaning.specs.Meaning.{bind, first_sentence, EachHolds, meanings, FormHolds}
 use Rattle.rule_meaning.specs.Tests.{passes, are_equal, field_of}
 use Rattle.rule_exactness.specs.Exact.{Saying}
-use Rattle.rule_exactness.specs.TwoSided.{Equation, equation, one_more, alone, equations, form_asks, body_asks, can_ask}
-use Rattle.rule_exactness.specs.TwoSided.{is_field, is_one_of, can_meet}
+use Rattle.rule_exactness.specs.TwoSided.{Equation, equation, one_more, equations, body_asks, can_ask}
+use Rattle.rule_exactness.specs.TwoSided.{is_field, can_meet}
 use Rattle.rule_exactness.proofs.Leaning.{are_tests, is_test}
 
 -- the first equation for a field
@@ -90,7 +90,7 @@ none_of p xs x none c = by (p x) refl
 
 -- what is checked of one equation of several
 pub record IsChecked (bound : List ℕ) (v : ℕ) (k : Kind) (es : List Equation) (e : Equation) : Type 0 where
-  pub among : is_one_of e.of bound ≡ true
+  pub among : list_any (λ u. e.of == u) bound ≡ true
   pub other : (e.of == v) ≡ false
   pub can : can_ask k e.asked e.given ≡ true
   pub first : pick e.asked es ≡ Some e
@@ -99,9 +99,9 @@ pub checked : (bound : List ℕ) (v : ℕ) (k : Kind) (es : List Equation) → c
     Contains es e → IsChecked bound v k es e
 checked bound v k [] t e c = absurd (Contains-none e c)
 checked bound v k (d ∷ es) t e c =
-    let parts = and_parts (is_one_of d.of bound && (not (d.of == v) && can_ask k d.asked d.given))
+    let parts = and_parts (list_any (λ u. d.of == u) bound && (not (d.of == v) && can_ask k d.asked d.given))
     (not (list_any (λ x. is_field d.asked x.asked) es) && can_meet bound v k es) t in
-    let here = and_parts (is_one_of d.of bound) (not (d.of == v) && can_ask k d.asked d.given) parts.0 in
+    let here = and_parts (list_any (λ u. d.of == u) bound) (not (d.of == v) && can_ask k d.asked d.given) parts.0 in
     let there = and_parts (not (d.of == v)) (can_ask k d.asked d.given) here.1 in
     let rest = and_parts (not (list_any (λ x. is_field d.asked x.asked) es)) (can_meet bound v k es) parts.1 in
     elim (Contains-cons_cases d es e c) [
@@ -164,67 +164,58 @@ module _ {T : Type 0} (node : T → Node) (row : T → Row) (S G : List T) (v : 
   each_met : (trees : Trees) (es : List Equation) → equations v trees ≡ Some es →
       ((e : Equation) → Contains es e → IsMet e) → EachHolds (meanings node row S G trees env)
   each_met no_trees es is met = tt
-  each_met (tree_then f parts rest) es is met =
-      by (alone parts (equation v f)) refl (equations v rest) refl is (each_met rest) parts refl
+  each_met (tree_then f (tree_then g inner more) rest) es is met = absurd (none≢some es is)
+  each_met (tree_then f no_trees rest) es is met =
+      by (equation v f) refl (equations v rest) refl is (each_met rest)
     where
-      by : (o : Option Equation) → alone parts (equation v f) ≡ o → (os : Option (List Equation)) →
-          equations v rest ≡ os → one_more o os ≡ Some es →
+      by : (o : Option Equation) → equation v f ≡ o → (os : Option (List Equation)) → equations v rest ≡ os →
+          one_more o os ≡ Some es →
           ((ds : List Equation) → equations v rest ≡ Some ds → ((e : Equation) → Contains ds e → IsMet e) →
-          EachHolds (meanings node row S G rest env)) → (inside : Trees) → parts ≡ inside →
-          FormHolds node row S G f env (meanings node row S G parts) × EachHolds (meanings node row S G rest env)
-      by (Some d) first (Some ds) later so on no_trees none =
+          EachHolds (meanings node row S G rest env)) →
+          FormHolds node row S G f env (meanings node row S G no_trees) × EachHolds (meanings node row S G rest env)
+      by (Some d) first (Some ds) later so on =
           let said : d ∷ ds ≡ es = cc in
           let here : (e : Equation) → Contains (d ∷ ds) e → IsMet e =
-          λ e c. met e (subst (λ (xs : List Equation). Contains xs e) said c) in
-          let form_is : equation v f ≡ Some d =
-          subst (λ (p : Trees). alone p (equation v f) ≡ Some d) none first in (
-            form_met f d (meanings node row S G parts) form_is (here d (Contains-head d ds)),
+          λ e c. met e (subst (λ (xs : List Equation). Contains xs e) said c) in (
+            form_met f d (meanings node row S G no_trees) first (here d (Contains-head d ds)),
             on ds later (λ e c. here e (Contains-later d ds e c)),
           )
-      by (Some d) first (Some ds) later so on (tree_then g inner more) some =
-          absurd (none≢some d (subst (λ (p : Trees). alone p (equation v f) ≡ Some d) some first))
-      by None first os later so on inside is = absurd (none≢some es so)
-      by (Some d) first None later so on inside is = absurd (none≢some es so)
+      by None first os later so on = absurd (none≢some es so)
+      by (Some d) first None later so on = absurd (none≢some es so)
+
+  -- of sentences that all hold the first does
+  first_of : (Ps : List (Type 0)) → EachHolds Ps → first_sentence Ps
+  first_of [] each = tt
+  first_of (P ∷ Ps) each = each.0
 
   -- a body all whose equations are met holds
   pub body_met : (parts : Trees) (es : List Equation) → body_asks v parts ≡ Some es →
       ((e : Equation) → Contains es e → IsMet e) → first_sentence (meanings node row S G parts env)
-  body_met no_trees es is met = absurd (none≢some es is)
-  body_met (tree_then f inner (tree_then g more rest)) es is met = absurd (none≢some es is)
-  body_met (tree_then f inner no_trees) es is met = by f is
+  body_met no_trees es is met = tt
+  body_met (tree_then f inner rest) es is met = by f inner rest is
     where
-      single : (g : Form) → one_more (alone inner (equation v g)) (Some []) ≡ Some es →
-          FormHolds node row S G g env (meanings node row S G inner)
-      single g is = go (alone inner (equation v g)) refl is inner refl
-        where
-          go : (o : Option Equation) → alone inner (equation v g) ≡ o → one_more o (Some []) ≡ Some es →
-              (inside : Trees) → inner ≡ inside → FormHolds node row S G g env (meanings node row S G inner)
-          go (Some d) first so no_trees none =
-              let said : d ∷ [] ≡ es = cc in
-              form_met g d (meanings node row S G inner)
-              (subst (λ (p : Trees). alone p (equation v g) ≡ Some d) none first)
-              (met d (subst (λ (xs : List Equation). Contains xs d) said (Contains-head d [])))
-          go (Some d) first so (tree_then h deep more) some =
-              absurd (none≢some d (subst (λ (p : Trees). alone p (equation v g) ≡ Some d) some first))
-          go None first so inside at = absurd (none≢some es so)
+      plainly : (body : Trees) → equations v body ≡ Some es → first_sentence (meanings node row S G body env)
+      plainly body so = first_of (meanings node row S G body env) (each_met body es so met)
 
-      by : (g : Form) → form_asks v g inner ≡ Some es → FormHolds node row S G g env (meanings node row S G inner)
-      by form.And is = each_met inner es is met
-      by form.True is = tt
-      by (form.ForEvery a k) is = single (form.ForEvery a k) is
-      by (form.ForSome a k) is = single (form.ForSome a k) is
-      by (form.EveryBefore a k u) is = single (form.EveryBefore a k u) is
-      by (form.SomeBefore a k u) is = single (form.SomeBefore a k u) is
-      by form.Or is = single form.Or is
-      by form.Not is = single form.Not is
-      by form.Implies is = single form.Implies is
-      by (form.Same a u) is = single (form.Same a u) is
-      by (form.Before a u) is = single (form.Before a u) is
-      by (form.Next a u) is = single (form.Next a u) is
-      by (form.Is a role) is = single (form.Is a role) is
-      by (form.OfKind a k) is = single (form.OfKind a k) is
-      by (form.Equal t s) is = single (form.Equal t s) is
-      by (form.Less t s) is = single (form.Less t s) is
+      by : (g : Form) (inside others : Trees) → body_asks v (tree_then g inside others) ≡ Some es →
+          FormHolds node row S G g env (meanings node row S G inside)
+      by form.True inside others so = tt
+      by form.And inside no_trees so = each_met inside es so met
+      by form.And inside (tree_then h deep more) so = plainly (tree_then form.And inside (tree_then h deep more)) so
+      by (form.ForEvery a k) inside others so = plainly (tree_then (form.ForEvery a k) inside others) so
+      by (form.ForSome a k) inside others so = plainly (tree_then (form.ForSome a k) inside others) so
+      by (form.EveryBefore a k u) inside others so = plainly (tree_then (form.EveryBefore a k u) inside others) so
+      by (form.SomeBefore a k u) inside others so = plainly (tree_then (form.SomeBefore a k u) inside others) so
+      by form.Or inside others so = plainly (tree_then form.Or inside others) so
+      by form.Not inside others so = plainly (tree_then form.Not inside others) so
+      by form.Implies inside others so = plainly (tree_then form.Implies inside others) so
+      by (form.Same a u) inside others so = plainly (tree_then (form.Same a u) inside others) so
+      by (form.Before a u) inside others so = plainly (tree_then (form.Before a u) inside others) so
+      by (form.Next a u) inside others so = plainly (tree_then (form.Next a u) inside others) so
+      by (form.Is a role) inside others so = plainly (tree_then (form.Is a role) inside others) so
+      by (form.OfKind a k) inside others so = plainly (tree_then (form.OfKind a k) inside others) so
+      by (form.Equal t s) inside others so = plainly (tree_then (form.Equal t s) inside others) so
+      by (form.Less t s) inside others so = plainly (tree_then (form.Less t s) inside others) so
 
 -- ---- such a body is a test
 
@@ -234,62 +225,51 @@ equation_test v f e is = absurd (none≢some e is)
 
 equations_tests : (v : ℕ) (trees : Trees) (es : List Equation) → equations v trees ≡ Some es → are_tests trees ≡ true
 equations_tests v no_trees es is = refl
-equations_tests v (tree_then f parts rest) es is =
-    by (alone parts (equation v f)) refl (equations v rest) refl is (equations_tests v rest) parts refl
+equations_tests v (tree_then f (tree_then g inner more) rest) es is = absurd (none≢some es is)
+equations_tests v (tree_then f no_trees rest) es is =
+    by (equation v f) refl (equations v rest) refl is (equations_tests v rest)
   where
-    by : (o : Option Equation) → alone parts (equation v f) ≡ o → (os : Option (List Equation)) →
-        equations v rest ≡ os → one_more o os ≡ Some es →
-        ((ds : List Equation) → equations v rest ≡ Some ds → are_tests rest ≡ true) → (inside : Trees) →
-        parts ≡ inside → (is_test f && (are_tests parts && are_tests rest)) ≡ true
-    by (Some d) first (Some ds) later so on no_trees none =
-        and_from (is_test f) (are_tests parts && are_tests rest)
-        (equation_test v f d (subst (λ (p : Trees). alone p (equation v f) ≡ Some d) none first))
-        (and_from (are_tests parts) (are_tests rest) (ap are_tests none) (on ds later))
-    by (Some d) first (Some ds) later so on (tree_then g inner more) some =
-        absurd (none≢some d (subst (λ (p : Trees). alone p (equation v f) ≡ Some d) some first))
-    by None first os later so on inside is = absurd (none≢some es so)
-    by (Some d) first None later so on inside is = absurd (none≢some es so)
+    by : (o : Option Equation) → equation v f ≡ o → (os : Option (List Equation)) → equations v rest ≡ os →
+        one_more o os ≡ Some es → ((ds : List Equation) → equations v rest ≡ Some ds → are_tests rest ≡ true) →
+        (is_test f && are_tests rest) ≡ true
+    by (Some d) first (Some ds) later so on = and_from (is_test f) (are_tests rest) (equation_test v f d first) (on ds later)
+    by None first os later so on = absurd (none≢some es so)
+    by (Some d) first None later so on = absurd (none≢some es so)
 
 pub body_tests : (v : ℕ) (parts : Trees) (es : List Equation) → body_asks v parts ≡ Some es → are_tests parts ≡ true
-body_tests v no_trees es is = absurd (none≢some es is)
-body_tests v (tree_then f inner (tree_then g more rest)) es is = absurd (none≢some es is)
-body_tests v (tree_then f inner no_trees) es is = by f is
+body_tests v no_trees es is = refl
+body_tests v (tree_then f inner rest) es is = by f inner rest is
   where
-    single : (g : Form) → one_more (alone inner (equation v g)) (Some []) ≡ Some es →
-        (is_test g && (are_tests inner && true)) ≡ true
-    single g is = go (alone inner (equation v g)) refl is inner refl
-      where
-        go : (o : Option Equation) → alone inner (equation v g) ≡ o → one_more o (Some []) ≡ Some es →
-            (inside : Trees) → inner ≡ inside → (is_test g && (are_tests inner && true)) ≡ true
-        go (Some d) first so no_trees none =
-            and_from (is_test g) (are_tests inner && true)
-            (equation_test v g d (subst (λ (p : Trees). alone p (equation v g) ≡ Some d) none first))
-            (and_from (are_tests inner) true (ap are_tests none) refl)
-        go (Some d) first so (tree_then h deep more) some =
-            absurd (none≢some d (subst (λ (p : Trees). alone p (equation v g) ≡ Some d) some first))
-        go None first so inside at = absurd (none≢some es so)
+    plainly : (body : Trees) → equations v body ≡ Some es → are_tests body ≡ true
+    plainly body so = equations_tests v body es so
 
-    by : (g : Form) → form_asks v g inner ≡ Some es → (is_test g && (are_tests inner && true)) ≡ true
-    by form.And is = and_from (are_tests inner) true (equations_tests v inner es is) refl
-    by form.True is = lone inner refl is
+    by : (g : Form) (inside others : Trees) → body_asks v (tree_then g inside others) ≡ Some es →
+        are_tests (tree_then g inside others) ≡ true
+    by form.True no_trees no_trees so = refl
+    by form.True (tree_then h deep more) no_trees so = plainly (tree_then form.True (tree_then h deep more) no_trees) so
+    by form.True inside (tree_then h deep more) so = plain_true inside so
       where
-        lone : (inside : Trees) → inner ≡ inside → alone inside (Some []) ≡ Some es → (are_tests inner && true) ≡ true
-        lone no_trees none so = and_from (are_tests inner) true (ap are_tests none) refl
-        lone (tree_then h deep more) some so = absurd (none≢some es so)
-    by (form.ForEvery a k) is = single (form.ForEvery a k) is
-    by (form.ForSome a k) is = single (form.ForSome a k) is
-    by (form.EveryBefore a k u) is = single (form.EveryBefore a k u) is
-    by (form.SomeBefore a k u) is = single (form.SomeBefore a k u) is
-    by form.Or is = single form.Or is
-    by form.Not is = single form.Not is
-    by form.Implies is = single form.Implies is
-    by (form.Same a u) is = single (form.Same a u) is
-    by (form.Before a u) is = single (form.Before a u) is
-    by (form.Next a u) is = single (form.Next a u) is
-    by (form.Is a role) is = single (form.Is a role) is
-    by (form.OfKind a k) is = single (form.OfKind a k) is
-    by (form.Equal t s) is = single (form.Equal t s) is
-    by (form.Less t s) is = single (form.Less t s) is
+        plain_true : (inside : Trees) → body_asks v (tree_then form.True inside (tree_then h deep more)) ≡ Some es →
+            are_tests (tree_then form.True inside (tree_then h deep more)) ≡ true
+        plain_true no_trees so = plainly (tree_then form.True no_trees (tree_then h deep more)) so
+        plain_true (tree_then i far rest) so =
+            plainly (tree_then form.True (tree_then i far rest) (tree_then h deep more)) so
+    by form.And inside no_trees so = and_from (are_tests inside) true (equations_tests v inside es so) refl
+    by form.And inside (tree_then h deep more) so = plainly (tree_then form.And inside (tree_then h deep more)) so
+    by (form.ForEvery a k) inside others so = plainly (tree_then (form.ForEvery a k) inside others) so
+    by (form.ForSome a k) inside others so = plainly (tree_then (form.ForSome a k) inside others) so
+    by (form.EveryBefore a k u) inside others so = plainly (tree_then (form.EveryBefore a k u) inside others) so
+    by (form.SomeBefore a k u) inside others so = plainly (tree_then (form.SomeBefore a k u) inside others) so
+    by form.Or inside others so = plainly (tree_then form.Or inside others) so
+    by form.Not inside others so = plainly (tree_then form.Not inside others) so
+    by form.Implies inside others so = plainly (tree_then form.Implies inside others) so
+    by (form.Same a u) inside others so = plainly (tree_then (form.Same a u) inside others) so
+    by (form.Before a u) inside others so = plainly (tree_then (form.Before a u) inside others) so
+    by (form.Next a u) inside others so = plainly (tree_then (form.Next a u) inside others) so
+    by (form.Is a role) inside others so = plainly (tree_then (form.Is a role) inside others) so
+    by (form.OfKind a k) inside others so = plainly (tree_then (form.OfKind a k) inside others) so
+    by (form.Equal t s) inside others so = plainly (tree_then (form.Equal t s) inside others) so
+    by (form.Less t s) inside others so = plainly (tree_then (form.Less t s) inside others) so
 
 -- ---- what an entry says that meets them
 

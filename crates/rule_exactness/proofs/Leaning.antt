@@ -20,7 +20,8 @@ use Rattle.rule_language.specs.Trees.{Trees, no_trees, tree_then}
 use Rattle.rule_meaning.specs.Kleene.{opposite, both, either, least, greatest, is_true}
 use Rattle.rule_meaning.specs.Knowledge.{IsTrueOf}
 use Rattle.rule_meaning.specs.Sound.{HasNoDouble}
-use Rattle.rule_meaning.specs.Meaning.{bind, first_sentence, second_sentence, EachHolds, SomeHolds, IsOfKind, AreInOrder}
+use Rattle.std.specs.Prelude.{IsSomeAnd}
+use Rattle.rule_meaning.specs.Meaning.{bind, first_sentence, second_sentence, EachHolds, SomeHolds, IsOfKind}
 use Rattle.rule_meaning.specs.Meaning.{ComesBefore, FormHolds, meanings}
 use Rattle.rule_meaning.specs.Values.{first_value, second_value, places, ancestors, rest_of, values_before, order_of}
 use Rattle.rule_meaning.specs.Values.{value, values, same_place}
@@ -547,7 +548,7 @@ module _ {T : Type 0} (node : T → Node) (row : T → Row) (S G : List T) (orde
 
   -- the order of two survivors
   order_leans : (p : Bool) (i : Option ℕ) (e : Option T) (j : Option ℕ) (f : Option T) → StandFor S i e →
-      StandFor S j f → NeedOrder e p → Leans p (order_of order i j) (AreInOrder node row S G e f)
+      StandFor S j f → NeedOrder e p → Leans p (order_of order i j) (IsSomeAnd e (λ x. ComesBefore node row S G x f))
   order_leans true (Some y) (Some e) (Some u) (Some f) se sf q = λ n. by n (order y u) refl (wholes u) refl
     where
       by : (order y u ≡ False → ⊥) → (x : Three) → order y u ≡ x → (w : Bool) → wholes u ≡ w → Precedes node G e f

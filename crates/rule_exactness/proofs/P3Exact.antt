@@ -18,8 +18,6 @@ use Rattle.entry_order.proofs.Places.{member_at}
 use Rattle.rule_language.specs.declared.row.Row.{Row}
 use Rattle.rule_language.specs.declared.kind.Kind.{Kind}
 use Rattle.rule_language.specs.declared.kind.Kind.TheVariants as kind
-use Rattle.rule_language.specs.declared.kind.Field.TheVariants as field
-use Rattle.rule_language.specs.declared.term.Term.TheVariants.{Of}
 use Rattle.rule_language.specs.declared.form.Form.TheVariants as form
 use Rattle.rule_language.specs.Kinds.{has_session}
 use Rattle.rule_language.specs.Trees.{Trees, no_trees, tree_then}

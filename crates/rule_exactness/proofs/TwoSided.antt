@@ -1,7 +1,7 @@
 -- Rules of one's own of which unsettled is exact.
 use Rattle.std.proofs.Common.{◌≡◌, ◌≢◌, ℕ, ◌*◌, ◌^◌, ◌<◌, ◌≤◌, length, arith, Bool, true, false, cond, List, [], ◌∷◌, map, Option, Some, None}
 use Rattle.std.proofs.Common.{inl, inr, refl, sym, ap, subst, ◌∙◌, ◌&&◌, ◌||◌}
-use Rattle.std.specs.Prelude.{option_map, IsTrue, not, nat_lt, ◌==◌, replicate}
+use Rattle.std.specs.Prelude.{option_map, IsTrue, not, nat_lt, ◌==◌, if◌then◌else◌, replicate}
 use Rattle.std.specs.List.{Contains, filter, flat_map, list_any}
 use Rattle.std.proofs.lemmas.List.{length-map, length-replicate}
 use Rattle.std.proofs.lemmas.Bool.{eq-eqb, false≢true, and_parts, not-true, ltb-true, lt-ltb}
@@ -27,7 +27,7 @@ use Rattle.rule_meaning.specs.Meaning.{bind, unbound}
 use Rattle.rule_meaning.specs.Tests.{is_kind, are_equal, field_of}
 use Rattle.entry_order.specs.Precedes.{IsAcyclic}
 use Rattle.rule_exactness.specs.Exact.{Saying, IsSayable, CanSay, AreWellFormed, IsMade, IsOpen, TwoSidedRulesAreExact}
-use Rattle.rule_exactness.specs.TwoSided.{Equation, can_ask, is_one_of, is_real, body_asks, can_be_met, agree}
+use Rattle.rule_exactness.specs.TwoSided.{Equation, can_ask, is_real, body_asks, can_be_met}
 use Rattle.rule_exactness.specs.TwoSided.{first_test, second_test, all_tests, leads_form, leads, IsLed, IsTwoSided}
 use Rattle.rule_exactness.proofs.Digests.{flat_few, map_few, few_filtered}
 use Rattle.rule_exactness.proofs.Fresh.{Wish, IsFair}
@@ -403,13 +403,13 @@ module _ {T : Type 0} (node : T → Node) (row : T → Row)
     -- the variables that are bound stand for survivors, and no other stands for another entry
     abbrev IsBound : List ℕ → (ℕ → Option T) → Type 0
     IsBound bound ρ =
-        ((w : ℕ) → is_one_of w bound ≡ true → (x : T) × (ρ w ≡ Some x) × Contains S x) × AreSurviving ρ
+        ((w : ℕ) → list_any (λ u. w == u) bound ≡ true → (x : T) × (ρ w ≡ Some x) × Contains S x) × AreSurviving ρ
 
     bound_more : (bound : List ℕ) (ρ : ℕ → Option T) → IsBound bound ρ → (v : ℕ) (x : T) → Contains S x →
         IsBound (v ∷ bound) (bind v x ρ)
     bound_more bound ρ are_bound v x cx = (λ w c. by (w == v) w c, λ w z is. on (w == v) w z is)
       where
-        by : (b : Bool) (w : ℕ) → (b || is_one_of w bound) ≡ true → (z : T) × (cond b (Some x) (ρ w) ≡ Some z) × Contains S z
+        by : (b : Bool) (w : ℕ) → (b || list_any (λ u. w == u) bound) ≡ true → (z : T) × (cond b (Some x) (ρ w) ≡ Some z) × Contains S z
         by true w c = (x, refl, cx)
         by false w c = are_bound.0 w c
 
@@ -492,7 +492,7 @@ module _ {T : Type 0} (node : T → Node) (row : T → Row)
 
       -- a quantifier over what came before has what it needs
       gap_met : (v : ℕ) (k : Kind) (parts : Trees) (bound : List ℕ) (ρ : ℕ → Option T) → IsBound bound ρ →
-          (o : Option T) (p : Bool) → (is_real k && agree p (filled k)) ≡ true → (es : List Equation) →
+          (o : Option T) (p : Bool) → (is_real k && (if p then filled k else not (filled k))) ≡ true → (es : List Equation) →
           body_asks v parts ≡ Some es → can_be_met bound v k (Some es) ≡ true → NeedAtGap o v k parts ρ p
       gap_met v k parts bound ρ are_bound None p t es asks meet = tt
       gap_met v k parts bound ρ are_bound (Some last) true t es asks meet =
@@ -536,14 +536,14 @@ module _ {T : Type 0} (node : T → Node) (row : T → Row)
       form_met (form.EveryBefore v k u) parts bound σ ρ are_bound on p t rest = absurd (false≢true t)
       form_met (form.SomeBefore v k u) parts bound σ ρ are_bound on p t rest =
           by (body_asks v parts) refl
-          (and_parts (is_real k && agree p (filled k)) (can_be_met bound v k (body_asks v parts)) t).1
+          (and_parts (is_real k && (if p then filled k else not (filled k))) (can_be_met bound v k (body_asks v parts)) t).1
         where
           by : (o : Option (List Equation)) → body_asks v parts ≡ o → can_be_met bound v k o ≡ true →
               (are_tests parts ≡ true) × NeedAtGap (ρ u) v k parts ρ p
           by None asks meet = absurd (false≢true meet)
           by (Some es) asks meet =
               let kinds =
-              (and_parts (is_real k && agree p (filled k)) (can_be_met bound v k (body_asks v parts)) t).0 in (
+              (and_parts (is_real k && (if p then filled k else not (filled k))) (can_be_met bound v k (body_asks v parts)) t).0 in (
                 body_tests v parts es asks,
                 gap_met v k parts bound ρ are_bound (ρ u) p kinds es asks meet,
               )

@@ -1,6 +1,6 @@
 -- Rules of one's own of which unsettled is exact.
 use Rattle.std.specs.Prelude.{◌≡◌, ℕ, Bool, true, false, ◌&&◌, ◌==◌, not, if◌then◌else◌}
-use Rattle.std.specs.Prelude.{List, [], ◌∷◌, Option, Some, None}
+use Rattle.std.specs.Prelude.{List, [], ◌∷◌, Option, Some, None, bytes_eq}
 use Rattle.std.specs.List.{list_any}
 use Rattle.rule_language.specs.declared.kind.Kind.{Kind}
 use Rattle.rule_language.specs.declared.kind.Kind.TheVariants as kind
@@ -9,7 +9,7 @@ use Rattle.rule_language.specs.declared.kind.Field.TheVariants as field
 use Rattle.rule_language.specs.declared.term.Term.TheVariants.{Of}
 use Rattle.rule_language.specs.declared.form.Form.{Form}
 use Rattle.rule_language.specs.declared.form.Form.TheVariants as form
-use Rattle.rule_language.specs.Kinds.{has_session, has_ballot, has_booth}
+use Rattle.rule_language.specs.Kinds.{field_word, has_booth, has_field}
 use Rattle.rule_language.specs.Trees.{Trees, no_trees, tree_then}
 
 -- that a variable's field is another variable's
@@ -29,55 +29,33 @@ abbrev pub one_more : Option Equation → Option (List Equation) → Option (Lis
 one_more (Some e) (Some es) = Some (e ∷ es)
 one_more e es = None
 
--- nothing, where there are formulas
-abbrev pub alone : {A : Type 0} → Trees → Option A → Option A
-alone no_trees a = a
-alone (tree_then form parts rest) a = None
-
 -- the equations that formulas are, if each is one
 abbrev pub equations : ℕ → Trees → Option (List Equation)
 equations v no_trees = Some []
-equations v (tree_then form parts rest) = one_more (alone parts (equation v form)) (equations v rest)
+equations v (tree_then form no_trees rest) = one_more (equation v form) (equations v rest)
+equations v other = None
 
 -- what a body asks of v: `true`, one equation, or `and` of some
-abbrev pub form_asks : ℕ → Form → Trees → Option (List Equation)
-form_asks v form.And parts = equations v parts
-form_asks v form.True parts = alone parts (Some [])
-form_asks v form parts = one_more (alone parts (equation v form)) (Some [])
-
--- the same of a body, which is one formula
 abbrev pub body_asks : ℕ → Trees → Option (List Equation)
-body_asks v no_trees = None
-body_asks v (tree_then form parts rest) = alone rest (form_asks v form parts)
+body_asks v (tree_then form.True no_trees no_trees) = Some []
+body_asks v (tree_then form.And parts no_trees) = equations v parts
+body_asks v body = equations v body
+
+-- whether two fields are one, by their words
+abbrev pub is_field : Field → Field → Bool
+is_field f g = bytes_eq (field_word f) (field_word g)
 
 -- whether an entry of the kind can have the other entry's value in the field, whatever it is
 abbrev pub can_ask : Kind → Field → Field → Bool
-can_ask k field.Maker field.Maker = true
-can_ask k field.Number field.Number = true
-can_ask k field.Session field.Session = has_session k
-can_ask k field.Ballot field.Ballot = has_ballot k
 can_ask k field.Booth field.Maker = has_booth k
-can_ask k field.Booth field.Booth = has_booth k
-can_ask k f g = false
+can_ask k f g = is_field f g && has_field k f
 
--- whether two fields are one
-abbrev pub is_field : Field → Field → Bool
-is_field field.Maker field.Maker = true
-is_field field.Number field.Number = true
-is_field field.Session field.Session = true
-is_field field.Ballot field.Ballot = true
-is_field field.Booth field.Booth = true
-is_field f g = false
-
--- whether a variable is among these
-abbrev pub is_one_of : ℕ → List ℕ → Bool
-is_one_of v vs = list_any (λ u. v == u) vs
-
--- whether an entry of the kind can meet all of them: each asks for another field
+-- whether an entry of the kind can meet all of them: each asks for another field, and for its value in
+-- an entry of another bound variable
 abbrev pub can_meet : List ℕ → ℕ → Kind → List Equation → Bool
 can_meet bound v k [] = true
 can_meet bound v k (e ∷ es) =
-    (is_one_of e.of bound && (not (e.of == v) && can_ask k e.asked e.given))
+    (list_any (λ u. e.of == u) bound && (not (e.of == v) && can_ask k e.asked e.given))
     && (not (list_any (λ d. is_field e.asked d.asked) es) && can_meet bound v k es)
 
 -- whether a body asks for equations that an entry of the kind can meet
@@ -89,11 +67,6 @@ can_be_met bound v k (Some es) = can_meet bound v k es
 abbrev pub is_real : Kind → Bool
 is_real kind.Any = false
 is_real k = true
-
--- whether the second is as the first says
-abbrev pub agree : Bool → Bool → Bool
-agree true q = q
-agree false q = not q
 
 -- of tests of formulas in a row the first
 abbrev pub first_test : List (Bool → Bool) → Bool → Bool
@@ -118,7 +91,7 @@ leads_form filled bound (form.ForEvery v k) parts inside p = first_test (inside 
 leads_form filled bound (form.ForSome v k) parts inside p = first_test (inside (v ∷ bound)) p
 leads_form filled bound (form.EveryBefore v k u) parts inside p = false
 leads_form filled bound (form.SomeBefore v k u) parts inside p =
-    (is_real k && agree p (filled k)) && can_be_met bound v k (body_asks v parts)
+    (is_real k && (if p then filled k else not (filled k))) && can_be_met bound v k (body_asks v parts)
 leads_form filled bound form.And parts inside p = all_tests (inside bound) p
 leads_form filled bound form.Or parts inside p = all_tests (inside bound) p
 leads_form filled bound form.Not parts inside p = first_test (inside bound) (not p)

@@ -26,7 +26,7 @@ pub use Rattle.rule_language.specs.declared.term.Term.{Term}
 pub use Rattle.rule_meaning.specs.Judging.{is_in, over, over_before, over_from, over_rows, signed, unless_ragged}
 pub use Rattle.rule_meaning.specs.Kleene.{as_three, both, either, greatest, is_true, least, opposite}
 pub use Rattle.rule_meaning.specs.Knowledge.{IsLess, IsLessKnown, IsTrueOf}
-pub use Rattle.rule_meaning.specs.Meaning.{AreInOrder, AreSame, ComesBefore, EachHolds, FormHolds, IsOfKind}
+pub use Rattle.rule_meaning.specs.Meaning.{ComesBefore, EachHolds, FormHolds, IsOfKind}
 pub use Rattle.rule_meaning.specs.Meaning.{SomeHolds, bind, first_sentence, meanings, second_sentence, unbound}
 pub use Rattle.rule_meaning.specs.Scopes.{env_of}
 pub use Rattle.rule_meaning.specs.Sound.{GraphsAreTrue, HasNoDouble, LessIsKnown, RulesAreSettled, UnknownOnlyByGaps}

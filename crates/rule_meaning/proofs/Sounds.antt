@@ -11,10 +11,11 @@ use Rattle.rule_meaning.proofs.Imports.{order_is_settled, whole_from_test, reach
 use Rattle.rule_meaning.proofs.Imports.{before_among_survivors, member_at, place_of, Row, Kind, Form, Trees, no_trees}
 use Rattle.rule_meaning.proofs.Imports.{tree_then, has_kind, passes, opposite, either, least, greatest, as_three}
 use Rattle.rule_meaning.proofs.Imports.{is_true, bind, unbound, first_sentence, second_sentence, EachHolds, SomeHolds}
-use Rattle.rule_meaning.proofs.Imports.{IsOfKind, AreSame, ComesBefore, AreInOrder, FormHolds, meanings, first_value}
+use Rattle.rule_meaning.proofs.Imports.{IsOfKind, ComesBefore, FormHolds, meanings, first_value}
 use Rattle.rule_meaning.proofs.Imports.{second_value, places, ancestors, rest_of, values_before, row_at, same_place}
 use Rattle.rule_meaning.proofs.Imports.{order_of, value, values, IsTrueOf, HasNoDouble, ValuesAreRight, GraphsAreTrue}
 use Rattle.rule_meaning.proofs.Imports.{RulesAreSettled}
+use Rattle.std.specs.Prelude.{IsSomeAnd}
 use Rattle.rule_language.specs.declared.form.Form.TheVariants as form
 use Rattle.rule_meaning.proofs.Kleenes.{both_true, both_false, either_true, either_false, opposite_true, opposite_false}
 use Rattle.rule_meaning.proofs.Kleenes.{least_true}
@@ -254,7 +255,7 @@ module _ {T : Type 0} (node : T → Node) (row : T → Row) (S G : List T) (orde
 
   -- two places are one if and only if their entries are
   pub same_agrees : (i : Option ℕ) (e : Option T) (j : Option ℕ) (f : Option T) → StandFor S i e → StandFor S j f →
-      Agrees (same_place i j) (AreSame node row S G e f)
+      Agrees (same_place i j) (IsSomeAnd e (λ x. IsSomeAnd f (λ y. x ≡ y)))
   same_agrees (Some i) (Some e) (Some j) (Some f) se sf = record {
     yes = λ t. let at : i ≡ j = eqb-true i j (as_three_true (i == j) t) in
         let there : slice_get S j ≡ Some e = subst (λ (k : ℕ). slice_get S k ≡ Some e) at se in
@@ -271,7 +272,7 @@ module _ {T : Type 0} (node : T → Node) (row : T → Row) (S G : List T) (orde
 
   -- what is known of the order of two places is right of their entries
   order_agrees : (i : Option ℕ) (e : Option T) (j : Option ℕ) (f : Option T) → StandFor S i e → StandFor S j f →
-      Agrees (order_of order i j) (AreInOrder node row S G e f)
+      Agrees (order_of order i j) (IsSomeAnd e (λ x. ComesBefore node row S G x f))
   order_agrees (Some i) (Some e) (Some j) (Some f) se sf =
       record { yes = λ t. known.yes i j e f se sf t; no = λ t. known.no i j e f se sf t }
   order_agrees None None j f se sf = record { yes = λ t. cc; no = λ t h. h }
