@@ -45,8 +45,8 @@ test:
 
 completions:
 	mkdir -p out
-	python3 bench/completions.py bash >out/auditorium.bash
-	python3 bench/completions.py zsh >out/auditorium.zsh
+	python3 tools/completions.py bash >out/auditorium.bash
+	python3 tools/completions.py zsh >out/auditorium.zsh
 
 install: build completions
 	$(call put,$(DESTDIR)$(PREFIX))

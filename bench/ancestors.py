@@ -2,7 +2,7 @@
 
 usage: python3 bench/ancestors.py [PROGRAM]
 
-PROGRAM is the built `order_speed` (`rt run` in its crate builds it), and `bench/ancestors.c` is
+PROGRAM is the built `bench_order` (`rt run` in its crate builds it), and `bench/ancestors.c` is
 compiled by `cc -O3 -march=native`. Both make the rows of one random graph of 16,384 nodes, four
 parents each, by turns, a fresh process each time. The least and the median of their processor times
 are printed, with the ratios, and the most memory that the program took in all. It fails where two
@@ -19,7 +19,7 @@ import time
 NODES = 16384
 TURNS = 15
 HERE = os.path.dirname(os.path.abspath(__file__))
-BUILT = os.path.join(HERE, "..", "crates", "order_speed", "out", "order_speed")
+BUILT = os.path.join(HERE, "..", "crates", "bench_order", "out", "bench_order")
 
 
 def run(program):

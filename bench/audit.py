@@ -2,7 +2,7 @@
 
 usage: python3 bench/audit.py PROGRAM SPEED [RUNS]
 
-PROGRAM is the built `auditorium_cli`, SPEED the built `signature_speed` (`rt run` in its crate builds each). The
+PROGRAM is the built `auditorium_cli`, SPEED the built `bench_signatures` (`rt run` in its crate builds each). The
 scripts are those of play.py. Of each play the supervisor's log alone is audited by the standard rules, then all four
 logs, and then `order` is asked of two entries of the four. Beside them SPEED verifies one signature of the same kind
 as many times as there are distinct entries, by turns; what that takes is weighed by the numbers of hashes, which

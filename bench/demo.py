@@ -2,7 +2,7 @@
 
 usage: python3 bench/demo.py PROGRAM SPEED [RUNS]
 
-PROGRAM is the built `auditorium_cli`, SPEED the built `signature_speed` (`rt run` in its crate builds each).
+PROGRAM is the built `auditorium_cli`, SPEED the built `bench_signatures` (`rt run` in its crate builds each).
 The hashes are those of making four keys, signing each entry and hashing its text, and of verifying each entry
 that survives and hashing its text; what as many hashes take is measured by SPEED, by turns with the
 demonstrations. The least times of RUNS turns are printed, and the greatest peak of memory.

@@ -2,7 +2,7 @@
 
 usage: python3 bench/hostile_rules.py [--limits] [PROGRAM]
 
-PROGRAM is the built `rule_speed` (`rt run` in its crate builds it). It is asked for each case over N and over
+PROGRAM is the built `bench_rules` (`rt run` in its crate builds it). It is asked for each case over N and over
 2N entries, and the script fails where its processor time grows by more than 1.6 times what the width does: the
 number of rows that the quantifiers of the rule go over, one in another. With `--limits` each standard rule, and
 some others, are judged over the dearest log of 16,384 entries that is known, which takes some minutes.
@@ -14,7 +14,7 @@ import subprocess
 import sys
 
 HERE = pathlib.Path(__file__).resolve().parent
-BUILT = HERE.parent / "crates" / "rule_speed" / "out" / "rule_speed"
+BUILT = HERE.parent / "crates" / "bench_rules" / "out" / "bench_rules"
 TEXT = HERE.parent / "crates" / "rule_language" / "src" / "standard_text.rt"
 SLACK = 1.6
 ROUNDS = 3
@@ -87,7 +87,7 @@ def main():
     words = [word for word in sys.argv[1:] if word != "--limits"]
     program = words[0] if words else str(BUILT)
     if not pathlib.Path(program).is_file():
-        print(f"{program} isn't there: run `rt run` in crates/rule_speed first")
+        print(f"{program} isn't there: run `rt run` in crates/bench_rules first")
         return 2
     if "--limits" not in sys.argv:
         return 0 if grow(program) else 1

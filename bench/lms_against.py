@@ -5,7 +5,7 @@ usage: python3 bench/lms_against.py FOLDER [PROGRAM]
 FOLDER has a Python module `lms` with these calls, bytes in and out: `public(kind, height, identifier, seed)`
 gives a public key of 56 bytes, `signed(kind, height, identifier, seed, index, message)` a signature, and
 `signs(key, message, signature)` says whether it is one of the message; a kind is "w1", "w2", "w4" or "w8".
-PROGRAM is the built `signature_speed`.
+PROGRAM is the built `bench_signatures`.
 """
 
 import os
@@ -19,7 +19,7 @@ def main():
     import lms
 
     here = os.path.dirname(os.path.abspath(__file__))
-    built = os.path.join(here, "..", "crates", "signature_speed", "out", "signature_speed")
+    built = os.path.join(here, "..", "crates", "bench_signatures", "out", "bench_signatures")
     program = os.path.abspath(sys.argv[2] if len(sys.argv) > 2 else built)
     cases = [(kind, 5, index) for kind in ("w1", "w2", "w4", "w8") for index in (0, 3, 31)]
     cases.append(("w4", 10, 2))

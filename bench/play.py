@@ -2,7 +2,7 @@
 
 usage: python3 bench/play.py PROGRAM SPEED [RUNS]
 
-PROGRAM is the built `auditorium_cli`, SPEED the built `signature_speed` (`rt run` in its crate builds
+PROGRAM is the built `auditorium_cli`, SPEED the built `bench_signatures` (`rt run` in its crate builds
 each). A script has one supervisor and three booths with keys of kind w4 and height 10, and each entry
 is heard by every machine. The hashes are those of making four keys, signing each entry and hashing its
 text; what as many hashes take is measured by SPEED, by turns with the plays. The least times of RUNS turns

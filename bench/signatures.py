@@ -2,7 +2,7 @@
 
 usage: python3 bench/signatures.py [PROGRAM]
 
-PROGRAM is the built `signature_speed` (`rt run` in its crate builds it). For each kind at height 5,
+PROGRAM is the built `bench_signatures` (`rt run` in its crate builds it). For each kind at height 5,
 and for w4 at height 10, the program hashes as many messages of 55 bytes as making the key takes, makes
 the key, signs 32 messages and verifies the signatures, all in one run and in processor time. Each
 ratio is that of the time of one hash there to the time of one in the plain loop; a message of several
@@ -87,7 +87,7 @@ def unsealing_rate(program, kind, height):
 
 def main():
     here = os.path.dirname(os.path.abspath(__file__))
-    built = os.path.join(here, "..", "crates", "signature_speed", "out", "signature_speed")
+    built = os.path.join(here, "..", "crates", "bench_signatures", "out", "bench_signatures")
     program = sys.argv[1] if len(sys.argv) > 1 else built
     for kind, height in [("w1", 5), ("w2", 5), ("w4", 5), ("w8", 5), ("w4", 10)]:
         runs = [measure(program, kind, height) for _ in range(RUNS)]

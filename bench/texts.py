@@ -1,7 +1,7 @@
 #!/usr/bin/env python3
 """Times and weighs the readers of canonical texts.
 
-Run from the repository's top, after `rt run` in crates/text_speed has built the program:
+Run from the repository's top, after `rt run` in crates/bench_text has built the program:
 
     python3 bench/texts.py
 
@@ -21,7 +21,7 @@ import sys
 import tempfile
 import time
 
-PROGRAM = pathlib.Path("crates/text_speed/out/text_speed")
+PROGRAM = pathlib.Path("crates/bench_text/out/bench_text")
 ROUNDS = 9
 # A small process that starts the program: one that is forked counts what its parent held.
 WEIGH = """
@@ -147,7 +147,7 @@ def weighed(what, path):
 
 def main():
     if not PROGRAM.exists():
-        sys.exit(f"{PROGRAM} isn't there: run `rt run` in crates/text_speed first")
+        sys.exit(f"{PROGRAM} isn't there: run `rt run` in crates/bench_text first")
     other = library()
     if other is None:
         print("libgcrypt isn't there")

@@ -1,4 +1,4 @@
-//! The command lines, and the help. `bench/manual.py` makes the manual page from these tables.
+//! The command lines, and the help. `tools/manual.py` makes the manual page from these tables.
 
 use std::fmt::{self, Formatter, Write};
 

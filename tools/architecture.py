@@ -1,7 +1,7 @@
 #!/usr/bin/env python3
 """Checks docs/ARCHITECTURE.md against crates.txt, and draws docs/architecture.svg from both.
 
-Run from anywhere: python3 bench/architecture.py [--write]
+Run from anywhere: python3 tools/architecture.py [--write]
 
 The page has a table for each band, lowest first, and then one for programs that measure and one for crates of
 tests. "Stands on" has the crates of crates.txt that a crate uses and that no other one of these uses, and the

@@ -1,7 +1,7 @@
 #!/usr/bin/env python3
 """Opens pages of `auditorium_view` in headless Chromium and compares what the browser shows with the report.
 
-usage: python3 bench/pages.py PROGRAMS [--random COUNT] [--seed SEED] [--shots FOLDER]
+usage: python3 tools/pages.py PROGRAMS [--random COUNT] [--seed SEED] [--shots FOLDER]
 
 PROGRAMS is a folder with the built `auditorium` and `auditorium_view`. Chromium is Debian's package `chromium`. Six
 places are made (whole, a log missing, cut, forged, forked, with a stray), and COUNT random ones, 100 if it isn't said,

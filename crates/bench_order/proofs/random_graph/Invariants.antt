@@ -1,5 +1,5 @@
 use Rattle.std.proofs.Common.{◌≡◌, length}
-use Rattle.order_speed.proofs.random_graph.Given as goal
+use Rattle.bench_order.proofs.random_graph.Given as goal
 
 -- a node has been made for each number so far
 abbrev pub invariant-loop-node : goal.invariant-loop-node

@@ -1,7 +1,7 @@
 //! Times the rows of a random graph whose nodes have four parents each, one of them the node
 //! before.
 //!
-//! `order_speed NODES ROUNDS` makes the rows so many times, and prints for each the processor time
+//! `bench_order NODES ROUNDS` makes the rows so many times, and prints for each the processor time
 //! in nanoseconds and a checksum of the answers. Without words it prints the checksum for 2,000
 //! nodes.
 #![tactic(auto)]
@@ -131,7 +131,7 @@ fn main(rt: HostRuntime) -> Result<()> {
     if words.is_empty() {
         return print_checksum(&rt, alloc);
     }
-    ensure!(words.len() == 2, "order_speed NODES ROUNDS");
+    ensure!(words.len() == 2, "bench_order NODES ROUNDS");
     let count = words[0].as_str().parse::<u32>()?;
     let rounds = words[1].as_str().parse::<u32>()?;
     time_rounds(&rt, alloc, count, rounds)

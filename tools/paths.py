@@ -1,7 +1,7 @@
 #!/usr/bin/env python3
 """Checks the documents: each path and link that they name exists, and the README has at most 950 words.
 
-Run from anywhere: python3 bench/paths.py
+Run from anywhere: python3 tools/paths.py
 
 Read are the Markdown files of the repository. A link is looked for from the document's folder. A word in
 backticks that begins with a folder of the top is looked for from the top, and one that begins with `src/`,
@@ -16,7 +16,7 @@ import sys
 
 ROOT = pathlib.Path(__file__).resolve().parent.parent
 MOST_WORDS = 950
-TOP = ("crates/", "docs/", "bench/", "examples/", ".ci/")
+TOP = ("crates/", "docs/", "bench/", "tools/", "examples/", ".ci/")
 OWN = ("src/", "specs/", "proofs/", "must-fail/")
 
 

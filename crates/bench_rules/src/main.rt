@@ -1,6 +1,6 @@
 //! Times how long judging takes over rows that the maker of a log may have chosen to be dear.
 //!
-//! `rule_speed RULES KIND COUNT SESSION NUMBER ..` judges the rules of a text over rows one after
+//! `bench_rules RULES KIND COUNT SESSION NUMBER ..` judges the rules of a text over rows one after
 //! another in a chain from a gap: by four words each, COUNT rows of KIND in SESSION, whose maker
 //! gave all of them one number. It prints for each rule the processor time in nanoseconds and the
 //! verdict. Without words it prints the verdicts on the standard rules over a few rows.

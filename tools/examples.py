@@ -1,7 +1,7 @@
 #!/usr/bin/env python3
 """Runs the commands of examples/README.md and docs/REPORT.md and compares what they print and their exit statuses.
 
-usage: python3 bench/examples.py [--view VIEW] PROGRAM [WORD ..]
+usage: python3 tools/examples.py [--view VIEW] PROGRAM [WORD ..]
 
 PROGRAM, with these words before the command's, takes the place of `auditorium`, and its output may go into a file by
 `>`; VIEW takes the place of `auditorium_view`, and without it no page is made; any other command is the shell's. A

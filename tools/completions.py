@@ -1,7 +1,7 @@
 #!/usr/bin/env python3
 """Prints the completions of both programs for a shell, from the tables of the program's help.
 
-usage: python3 bench/completions.py bash|zsh
+usage: python3 tools/completions.py bash|zsh
 
 The commands and the names of their words are the constants of crates/command_hints/src/commands.rt. By its name a word
 is completed: as a file with an ending, as the name of an office, or not at all. A name without a line in FILES and
@@ -17,7 +17,7 @@ FILES = {"LOG": "log", "SCRIPT": "script", "ROSTER": "roster", "RULES": "rules",
 NOTHING = {"X", "Y", "N", "SEED"}
 
 BASH = """\
-# Completions of auditorium and auditorium_view for bash. Made by bench/completions.py.
+# Completions of auditorium and auditorium_view for bash. Made by tools/completions.py.
 
 # Names files with the ending $1, if there is one, and folders, that begin with $2.
 _auditorium_files() {
@@ -65,7 +65,7 @@ complete -F _auditorium auditorium auditorium_view
 
 ZSH = """\
 #compdef auditorium auditorium_view
-# Completions of auditorium and auditorium_view for zsh. Made by bench/completions.py.
+# Completions of auditorium and auditorium_view for zsh. Made by tools/completions.py.
 
 _auditorium() {
     local -a commands words_after
@@ -145,7 +145,7 @@ def zsh():
 def main():
     shells = {"bash": bash, "zsh": zsh}
     if len(sys.argv) != 2 or sys.argv[1] not in shells:
-        sys.exit("usage: python3 bench/completions.py bash|zsh")
+        sys.exit("usage: python3 tools/completions.py bash|zsh")
     names = {word.removesuffix("..") for _, words, _ in commands() for word in words}
     unknown = sorted(names - set(FILES) - NOTHING)
     for name in unknown:

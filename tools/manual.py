@@ -1,7 +1,7 @@
 #!/usr/bin/env python3
 """Makes docs/auditorium.1 and docs/auditorium_view.1 from the tables of the program's help, and checks them.
 
-Run from anywhere: python3 bench/manual.py
+Run from anywhere: python3 tools/manual.py
 
 The tables are the constants of crates/command_hints/src/commands.rt. The pages are written anew; where `mandoc` is
 installed, what it finds fault with is printed. So is each command line of the tables that README.md or docs/FORMATS.md
@@ -25,7 +25,7 @@ VIEW_STATUSES = {0, 1, 2, 3, 4, 5, 6, 8, 9, 10}
 DATE = "November 30, 2026"
 
 HEAD = """\
-.\\" Made by bench/manual.py from the program's help.
+.\\" Made by tools/manual.py from the program's help.
 .Dd {date}
 .Dt AUDITORIUM 1
 .Os
@@ -102,7 +102,7 @@ with each status.
 """
 
 VIEW_HEAD = """\
-.\\" Made by bench/manual.py from the program's help.
+.\\" Made by tools/manual.py from the program's help.
 .Dd {date}
 .Dt AUDITORIUM_VIEW 1
 .Os

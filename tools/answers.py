@@ -1,5 +1,5 @@
 #!/usr/bin/env python3
-"""Checks docs/ANSWERS.md against the sources. Run from anywhere: python3 bench/answers.py
+"""Checks docs/ANSWERS.md against the sources. Run from anywhere: python3 tools/answers.py
 
 A row's first cell is `CRATE`: `CALL`, or empty where the row goes on with the call above. Its fourth cell names
 clauses and then `PATH`, a file of the crate; or it says "the one clause", with the definition in parentheses if it
@@ -16,7 +16,7 @@ NAME = re.compile(r"`([^`]+)`")
 FALLIBLE = re.compile(r"-> (?:Result|Option)<")
 # Crates that compare or measure, and serve no command.
 APART = {
-    "small_worlds", "listed_graphs", "world_orders", "order_speed", "text_speed", "rule_speed", "signature_speed",
+    "small_worlds", "listed_graphs", "world_orders", "bench_order", "bench_text", "bench_rules", "bench_signatures",
     "auditorium_cli", "auditorium_view",
 }
 

@@ -1,11 +1,11 @@
 #!/usr/bin/env python3
 """Checks what docs/PROMISES.md and the crates' READMEs name, and that each law has a caller or a reader.
 
-Run from anywhere: python3 bench/promises.py
+Run from anywhere: python3 tools/promises.py
 
 In docs/PROMISES.md each crate of crates.txt must have one row, but those that only test, measure or compare:
-their names end in `_tests`, `_speed` or `_orders`, or only such crates use them. In a row's third column `NAME`, clause `CLAUSE`,
-in `PATH` means that PATH is a file of the crate and that NAME and CLAUSE are words of it, NAME of a function
+their names end in `_tests` or `_orders`, or begin with `bench_`, or only such crates use them. In a row's third
+column `NAME`, clause `CLAUSE`, in `PATH` means that PATH is a file of the crate and that NAME and CLAUSE are words of it, NAME of a function
 or of a definition. In crates/NAME/README.md the names in the column "Kept by" must be words of the crate's
 sources, or of those of a crate that the cell names too.
 
@@ -20,7 +20,7 @@ import sys
 ROOT = pathlib.Path(__file__).resolve().parent.parent
 PROMISES = ROOT / "docs" / "PROMISES.md"
 NAME = re.compile(r"`([^`]+)`")
-WITHOUT_ROW = ("_tests", "_speed", "_orders")
+WITHOUT_ROW = re.compile(r"bench_\w+|\w+_(?:tests|orders)")
 LAW = re.compile(r"^pub fn (\w+)(?:<[^(]*>)?\(\)\s*\n(?=\s*(?:requires|ensures))", re.M)
 CALL = re.compile(r"(?<![.\w])(?<!fn )(?:(\w+)::)?(\w+)(?:::<[^>]*>)?\(\)")
 USE = re.compile(r"^use (\w+)::(?:\{(.*?)\}|(\w+));", re.S | re.M)
@@ -42,7 +42,7 @@ def crates_without_row():
                 users.get(name, []).append(crate)
     found = set()
     for crate in reversed(crates()):
-        if crate.endswith(WITHOUT_ROW) or users[crate] and found.issuperset(users[crate]):
+        if WITHOUT_ROW.fullmatch(crate) or users[crate] and found.issuperset(users[crate]):
             found.add(crate)
     return found
 

@@ -1,5 +1,5 @@
 //! Does one thing with a text so many times, for measuring the readers:
-//! `text_speed WHAT COUNT FILE`, where WHAT is `read` (as a tree), `pass` (find it in place),
+//! `bench_text WHAT COUNT FILE`, where WHAT is `read` (as a tree), `pass` (find it in place),
 //! `walk` (find it, and walk its members and their members) or `copy`. It prints what was found the
 //! last time.
 #![tactic(auto)]
@@ -68,7 +68,7 @@ fn once(alloc: Global, what: &str, bytes: &[u8]) -> Result<usize, AllocError> {
 fn main(rt: HostRuntime) -> io::Result<()> {
     let mut words = env::args(&rt)?.skip(1);
     let (Some(what), Some(count), Some(file)) = (words.next(), words.next(), words.next()) else {
-        println!(rt; "text_speed read|pass|walk|copy COUNT FILE")?;
+        println!(rt; "bench_text read|pass|walk|copy COUNT FILE")?;
         return Ok(());
     };
     let count: u32 = count.parse().unwrap_or(0);

@@ -1,7 +1,7 @@
 #!/usr/bin/env python3
 """Public names of the specs that stand in two crates.
 
-usage: python3 bench/names.py
+usage: python3 tools/names.py
 
 A name has one meaning. Two crates may use it where it says the same of two types, as a method of a trait would;
 those names are listed here. Any other that stands in two crates is printed, and the status is then 1.

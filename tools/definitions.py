@@ -1,8 +1,8 @@
 #!/usr/bin/env python3
 """The definitions that public clauses reach, and of each command those that have to be read.
 
-usage: python3 bench/definitions.py [--list | --write]
-       python3 bench/definitions.py read [PART] [--html]
+usage: python3 tools/definitions.py [--list | --write]
+       python3 tools/definitions.py read [PART] [--html]
 
 A public clause is a `requires` or `ensures` of a function that its crate exports, or of a trait's function,
 and so are the members that a trait or a type gives to contracts (`ghost NAME`, `Value`). What a type keeps of
