@@ -13,6 +13,7 @@ ghost use Rattle.std.specs.Prelude.{
   if◌then◌else◌,
   is_ok,
   Some,
+  None,
   IfOk,
   IfSome,
   OnOk,
@@ -44,6 +45,9 @@ pub struct Found {
     pub is_regular: bool,
     pub is_folder: bool,
     pub is_link: bool,
+    /// Its device, and its number there.
+    pub device: u64,
+    pub number: u64,
     /// How many names it has.
     pub links: u64,
     /// Its permission bits.
@@ -79,17 +83,45 @@ pub trait Folder {
     /// The system has said that the name stands for what was read under it, if it was read.
     ghost unchanged: { Self → List ℕ → Type 0 };
 
+    /// The system has said so of each regular file that was read.
+    ghost all_unchanged: { Self → Type 0 };
+
+    /// The file of this name is open to be read from this byte on.
+    ghost is_open: { Self → List ℕ → ℕ → Type 0 };
+
     /// What stands under the name itself: no link is followed (`lstat`).
     fn look(&mut self, name: &str) -> io::Result<Option<Found>>
         ensures found { IfOk result (λ found. Now (moments self.old) (IsLookedUp name.now found)) }
         ensures same { moments self.new ≡ moments self.old }
+        ensures open { (file : List ℕ) (at : ℕ) → is_open self.old file at → is_open self.new file at }
         ensures spared { spares self.old → spares self.new };
 
-    /// Reads into the front of `into` from the byte `at` on, or finds no such file (`open`, `pread`).
-    fn read_at(&mut self, name: &str, at: u64, into: &mut [u8]) -> io::Result<Option<usize>>
-        requires { 0 < length into.old }
-        ensures given { IfOk result
-            (GivesPart (moments self.old) name.now at into.old into.new) }
+    /// Whether the file that is open to be read is that of the name, read up to this byte. No call
+    /// of the system is made.
+    fn is_open_at(&mut self, name: &str, at: u64) -> bool
+        ensures open { result ≡ true → is_open self.new name.now at }
+        ensures same { moments self.new ≡ moments self.old };
+
+    /// Opens the file of this name to be read from the byte `at` on, in place of the one that is
+    /// open, and says what it is; or finds no such file (`open`, `fstat`, `lseek`).
+    fn open_at(&mut self, name: &str, at: u64) -> io::Result<Option<Found>>
+        ensures open { IfOk result (λ found. IfSome found (λ file. is_open self.new name.now at)) }
+        ensures none { IfOk result (λ found. found ≡ None
+            → Now (moments self.old) (λ w. w.at name.now ≡ None)) }
+        ensures same { moments self.new ≡ moments self.old };
+
+    /// Reads on into the front of `into` (`read`).
+    fn read_on(&mut self, name: &str, at: u64, into: &mut [u8]) -> io::Result<usize>
+        requires some { 0 < length into.old }
+        requires open { is_open self.old name.now at }
+        ensures given { IfOk result (λ n.
+            GivesPart (moments self.old) name.now at into.old into.new (Some n)) }
+        ensures same { moments self.new ≡ moments self.old };
+
+    /// Whether each regular file that was read is what its name stands for (`stat`).
+    fn are_all_as_read(&mut self) -> io::Result<bool>
+        ensures seen { IfOk result (λ are. are ≡ true → all_unchanged self.new) }
+        ensures open { (name : List ℕ) (at : ℕ) → is_open self.old name at → is_open self.new name at }
         ensures same { moments self.new ≡ moments self.old };
 
     /// Reads the first bytes of a file, which doesn't count as read (`open`, `read`).

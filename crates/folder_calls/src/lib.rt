@@ -1,8 +1,8 @@
 //! The calls that a system gives for the files of a folder, what they mean, and how several files
 //! are put in place with them.
 //!
-//! [`Folder`] is a score of calls, each with what it does to the folder and with what a crash may leave
-//! of it. Over them [`finish`] puts files in place: each name has its old or its new bytes after a
+//! [`Folder`] is some twenty calls, each with what it does to the folder and with what a crash may
+//! leave of it. Over them [`finish`] puts files in place: each name has its old or its new bytes after a
 //! crash at any moment, in the files' order, and a set of files is old, or new, or has no mark.
 #![tactic(auto)]
 

@@ -84,6 +84,24 @@ fn read(
     Ok(Some(read_from(bytes.as_slice(), at, into)))
 }
 
+/// As `read`, of a file that is there.
+fn read_there(
+    alloc: Global,
+    calls: &[Call],
+    name: &str,
+    at: u64,
+    into: &mut [u8],
+) -> io::Result<usize>
+    requires { 0 < length into.old }
+    ensures { IfOk result (λ n.
+        GivesPart (moments_of calls.now) name.now at into.old into.new (Some n)) }
+{
+    match read(alloc, calls, name, at, into)? {
+        Some(count) => Ok(count),
+        None => Err(io::Error::from(ErrorKind::NotFound)),
+    }
+}
+
 #[tactic(auto, using(crate::proofs::Parts::none_past, crate::proofs::Parts::some_before))]
 fn read_from(bytes: &[u8], at: u64, into: &mut [u8]) -> usize
     requires { 0 < length into.old }
@@ -190,7 +208,7 @@ fn flush(alloc: Global, disk: &mut Disk, name: &str, ending: Ending) -> io::Resu
 }
 
 impl<'a> Folder for MemoryFolder<'a> {
-    ghost use Rattle.std.specs.Prelude.{◌≡◌, true, false};
+    ghost use Rattle.std.specs.Prelude.{◌≡◌, true, false, ⊤};
     ghost use Rattle.folder_tests.specs.Memory.{moments_of, has_number};
 
     ghost moments = { λ m. moments_of (m.disk.now).calls.items };
@@ -205,6 +223,10 @@ impl<'a> Folder for MemoryFolder<'a> {
 
     ghost unchanged = { λ m _. m.disk.now.has_changed ≡ false };
 
+    ghost all_unchanged = { λ m. m.disk.now.has_changed ≡ false };
+
+    ghost is_open = { λ _ _ _. ⊤ };
+
     fn look(&mut self, name: &str) -> io::Result<Option<Found>> {
         if !succeeds(self.disk, self.fault) {
             return Err(failed());
@@ -215,18 +237,30 @@ impl<'a> Folder for MemoryFolder<'a> {
         }
     }
 
-    fn read_at(&mut self, name: &str, at: u64, into: &mut [u8]) -> io::Result<Option<usize>> {
+    fn is_open_at(&mut self, _name: &str, _at: u64) -> bool {
+        false
+    }
+
+    fn open_at(&mut self, name: &str, _at: u64) -> io::Result<Option<Found>> {
+        self.look(name)
+    }
+
+    fn read_on(&mut self, name: &str, at: u64, into: &mut [u8]) -> io::Result<usize> {
         if !succeeds(self.disk, self.fault) {
             return Err(failed());
         }
-        read(self.alloc, self.disk.calls.as_slice(), name, at, into)
+        read_there(self.alloc, self.disk.calls.as_slice(), name, at, into)
+    }
+
+    fn are_all_as_read(&mut self) -> io::Result<bool> {
+        if !succeeds(self.disk, self.fault) {
+            return Err(failed());
+        }
+        Ok(!self.disk.has_changed)
     }
 
     fn read_front(&mut self, name: &str, into: &mut [u8]) -> io::Result<usize> {
-        match self.read_at(name, 0, into)? {
-            Some(count) => Ok(count),
-            None => Err(io::Error::from(ErrorKind::NotFound)),
-        }
+        self.read_on(name, 0, into)
     }
 
     fn create(&mut self, name: &str, _bits: u32) -> io::Result<Option<u64>> {

@@ -11,6 +11,8 @@ pub const PLAIN: Found = Found {
     is_regular: true,
     is_folder: false,
     is_link: false,
+    device: 0,
+    number: 0,
     links: 1,
     bits: 0o644,
     owner: 0,

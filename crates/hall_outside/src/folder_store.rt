@@ -6,9 +6,9 @@ use crate::begun_files::{BegunFiles, append_to, begin};
 use crate::counts::raised;
 use crate::failure::Failure;
 use crate::placing::{discard, place};
+use crate::reading_parts::read_part;
 use crate::stores::{Failed, Memory, Store, Taken};
 use crate::system_folder::SystemFolder;
-use folder_calls::Folder;
 use std::fs::File;
 use std::io;
 use std::marker::Model;
@@ -138,7 +138,7 @@ impl<'a, R: Files<File = File> + AllocGlobal> Store for FolderStore<'a, R> {
     ghost finishes = { λ old ok new. CountsFailures old.write_faults ok new.write_faults };
 
     fn read_at(&mut self, name: &str, at: u64, into: &mut [u8]) -> Result<Taken, Failed> {
-        match self.folder.read_at(name, at, into) {
+        match read_part(&mut self.folder, name, at, into) {
             Ok(None) => {
                 self.absences = raised(self.absences, 1);
                 Ok(Taken::Absent)

@@ -10,6 +10,7 @@ ghost use Rattle.std.proofs.Props.{props};
 use crate::begun_files::{BegunFiles, append_to, begin, number_of};
 use crate::counts::raised;
 use crate::placing::place;
+use crate::reading_parts::read_part;
 use crate::stores::{Failed, Memory, Store, Taken};
 use folder_calls::{Begun, Folder, is_other};
 use std::alloc::{AllocError, Global};
@@ -45,7 +46,7 @@ fn read_shown<F: Folder>(
     if is_other(name) || number_of(begun, name).is_some() {
         return Err(io::Error::from(ErrorKind::ResourceBusy));
     }
-    let given = folder.read_at(name, at, into)?;
+    let given = read_part(folder, name, at, into)?;
     Ok(taken(given))
 }
 

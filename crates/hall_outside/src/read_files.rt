@@ -1,5 +1,5 @@
 // Files that were read, so that none is replaced that another program has written since.
-ghost use Rattle.std.specs.Prelude.{◌≡◌, true, ℕ, List, IfOk, OnOk};
+ghost use Rattle.std.specs.Prelude.{◌≡◌, true, ℕ, List, IfOk};
 ghost use Rattle.hall_outside.specs.LookingBack.{IsAsRead, AreUnchanged, AreAllAsRead};
 
 use crate::calls::again;
@@ -156,18 +156,12 @@ impl ReadFiles {
         Ok(true)
     }
 
-    /// Fails with `ResourceBusy` where a regular file that was read isn't what its name stands for
-    /// now. So files that are replaced together are read together: all old, or all new.
-    pub fn require_all_unchanged<L: LookBack>(&self, names: &L) -> io::Result<()>
-        ensures { OnOk result (AreAllAsRead (L.still names.now) self.now) }
+    /// Whether each regular file that was read is what its name stands for now. So files that are
+    /// replaced together are read together: all old, or all new.
+    pub fn are_all_as_read<L: LookBack>(&self, names: &L) -> io::Result<bool>
+        ensures { IfOk result (λ are. are ≡ true → AreAllAsRead (L.still names.now) self.now) }
     {
-        if are_as_read(names, &self.places[..self.count.min(self.places.len())])? {
-            return Ok(());
-        }
-        Err(io::Error::new(
-            ErrorKind::ResourceBusy,
-            "a file that was read before it has changed since: try again",
-        ))
+        are_as_read(names, &self.places[..self.count.min(self.places.len())])
     }
 }
 

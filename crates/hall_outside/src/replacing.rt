@@ -1,15 +1,14 @@
-// What a new file may replace, and which secrets are read.
+// What a new file may replace, and which files are read.
 ghost use Rattle.std.specs.Prelude.{◌≡◌, OnOk};
 ghost use Rattle.folder_calls.specs.World.{Now};
 ghost use Rattle.hall_outside.specs.Beginning.{MayBegin};
 
-use crate::calls::{again, look};
+use crate::calls::again;
 use crate::refusals::{Refusal, Standing, reading_refusal, replacing_refusal};
-use folder_calls::{Folder, Found, OWNER_WRITES, in_use};
-use std::fs::{self, File, Metadata, Permissions};
+use folder_calls::{Folder, Found, OWNER_WRITES};
+use std::fs::{File, Metadata, Permissions};
 use std::io::{self, ErrorKind};
 use std::os::unix::fs::{MetadataExt, PermissionsExt, fchown};
-use std::rt::Files;
 
 /// The permission bits of a file, without those that change who runs it.
 const BITS: u32 = 0o777;
@@ -41,6 +40,8 @@ pub(crate) fn found_of(found: &Metadata, was_read: bool) -> Found {
         is_regular: found.is_file(),
         is_folder: found.is_dir(),
         is_link: found.is_symlink(),
+        device: found.dev(),
+        number: found.ino(),
         links: found.nlink(),
         bits: found.mode() & BITS,
         owner: found.uid(),
@@ -96,24 +97,8 @@ fn refused(why: &str) -> io::Error {
     io::Error::new(ErrorKind::PermissionDenied, why)
 }
 
-/// Opens the file to be read. Of one that holds a secret it looks before and after whether that may
-/// be read, since a pipe would be waited for, and the name can change in between.
-pub(crate) fn open_to_read<R: Files<File = File>>(rt: &R, name: &str) -> io::Result<File> {
-    if !is_secret(name) {
-        return fs::open(rt, name);
-    }
-    require_readable(name, &found_of(&look(rt, name)?, false))?;
-    let file = fs::open(rt, name)?;
-    let open = again(|| file.metadata())?;
-    let found = look(rt, name)?;
-    require_readable(name, &found_of(&found, false))?;
-    if !is_one(&open, &found) {
-        return Err(in_use());
-    }
-    Ok(file)
-}
-
-fn require_readable(name: &str, found: &Found) -> io::Result<()> {
+/// Fails where what was found may not be read.
+pub(crate) fn require_readable(name: &str, found: &Found) -> io::Result<()> {
     match reading_refusal(&standing_of(name, found)) {
         Some(refusal) => Err(error_of(refusal, found)),
         None => Ok(()),

@@ -1,24 +1,24 @@
 // Files of the system, as they are opened and read.
-ghost use Rattle.std.specs.Prelude.{◌≤◌, [], length, IfOk, IfSome, Some};
+ghost use Rattle.std.specs.Prelude.{◌≤◌, [], length, IfOk, Some};
 ghost use Rattle.folder_calls.specs.World.{GivesPart};
-ghost use Rattle.hall_outside.specs.LookingBack.{AreAllAsRead};
 
 use crate::calls::again;
-use crate::read_files::{Identity, LookBack, ROOM, ReadFiles, SystemNames};
-use crate::replacing::open_to_read;
+use crate::read_files::{Identity, ROOM, ReadFiles};
 use std::alloc::{AllocError, Global};
-use std::fs::File;
+use std::fs::{self, File, Metadata};
 use std::io::{self, ErrorKind, Read, Seek, SeekFrom};
 use std::rt::Files;
 
 /// How many bytes a read takes at most.
 const PART: usize = 65_536;
 
-/// A file that is being read, and how many of its bytes have been.
+/// A file that is being read, from which byte on it is read next, and whether it was read since it
+/// was opened.
 #[derive(Drop)]
 struct Reading<F> {
     file: F,
     at: u64,
+    is_begun: bool,
 }
 
 /// The file that was read last, if it can be read on, and its name.
@@ -37,9 +37,12 @@ impl LastRead {
         })
     }
 
-    fn is_at(&self, name: &str, at: u64) -> bool {
+    /// Whether this file is open, and was read up to this byte.
+    pub fn is_at(&self, name: &str, at: u64) -> bool {
         match &self.open {
-            Some(reading) => at > 0 && reading.at == at && self.name.as_str() == name,
+            Some(reading) => {
+                at > 0 && reading.is_begun && reading.at == at && self.name.as_str() == name
+            }
             None => false,
         }
     }
@@ -50,39 +53,46 @@ impl LastRead {
     }
 }
 
-/// Reads on where the last read of the file ended, so that a pipe is read too; elsewhere the file
-/// is opened anew. What has the name is kept with the files that were read.
-pub(crate) fn read_part<R: Files<File = File>>(
+/// Opens the file, and keeps it with what is read next, or finds that there is none. What has the
+/// name is kept with the files that were read.
+pub(crate) fn open_at<R: Files<File = File>>(
     rt: &R,
     last: &mut LastRead,
     read: &mut ReadFiles,
     name: &str,
     at: u64,
-    into: &mut [u8],
-) -> io::Result<Option<usize>>
-    ensures { IfOk result (GivesPart [] name.now at into.old into.new) }
-{
-    match reading_at(rt, last, read, name, at)? {
-        Some(reading) => Ok(Some(read_on(&mut last.open, reading, into)?)),
-        None => Ok(None),
+) -> io::Result<Option<Metadata>> {
+    last.open = None;
+    last.keep_name(name)?;
+    let mut file = match fs::open(rt, name) {
+        Ok(file) => file,
+        Err(error) if error.kind() == ErrorKind::NotFound => {
+            read.note(name, None)?;
+            return Ok(None);
+        }
+        Err(error) => return Err(error),
+    };
+    let found = again(|| file.metadata())?;
+    read.note(name, Some(Identity::of(&found)))?;
+    if at > 0 {
+        file.seek(SeekFrom::Start(at))?;
     }
+    last.open = Some(Reading {
+        file,
+        at,
+        is_begun: false,
+    });
+    Ok(Some(found))
 }
 
-/// The reading that is open if it is at this byte of the file, and else a new one.
-fn reading_at<R: Files<File = File>>(
-    rt: &R,
-    last: &mut LastRead,
-    read: &mut ReadFiles,
-    name: &str,
-    at: u64,
-) -> io::Result<Option<Reading<File>>> {
-    let is_at = last.is_at(name, at);
-    let open = last.open.take();
-    if is_at {
-        return Ok(open);
+/// Reads the next bytes of the open file.
+pub(crate) fn read_next(last: &mut LastRead, into: &mut [u8]) -> io::Result<usize>
+    ensures { IfOk result (λ n. GivesPart [] [] 0 into.old into.new (Some n)) }
+{
+    match last.open.take() {
+        Some(reading) => read_on(&mut last.open, reading, into),
+        None => Err(io::Error::from(ErrorKind::NotFound)),
     }
-    last.keep_name(name)?;
-    opened_at(rt, &SystemNames { rt }, read, name, at)
 }
 
 /// Reads the next bytes, and keeps the file open.
@@ -95,37 +105,9 @@ fn read_on<F: Read + Drop>(
 {
     let count = read_some(&mut reading.file, into)?;
     reading.at = reading.at.saturating_add(count as u64);
+    reading.is_begun = true;
     *open = Some(reading);
     Ok(count)
-}
-
-/// The file, open at this byte, or `None` where the system says that there is none. It fails where
-/// a file that was read before has changed.
-fn opened_at<R: Files<File = File>, L: LookBack>(
-    rt: &R,
-    names: &L,
-    read: &mut ReadFiles,
-    name: &str,
-    at: u64,
-) -> io::Result<Option<Reading<File>>>
-    ensures { IfOk result (λ reading. IfSome reading (λ _.
-        AreAllAsRead (L.still names.now) read.new)) }
-{
-    let mut file = match open_to_read(rt, name) {
-        Ok(file) => file,
-        Err(error) if error.kind() == ErrorKind::NotFound => {
-            read.note(name, None)?;
-            return Ok(None);
-        }
-        Err(error) => return Err(error),
-    };
-    let found = again(|| file.metadata())?;
-    read.note(name, Some(Identity::of(&found)))?;
-    read.require_all_unchanged(names)?;
-    if at > 0 {
-        file.seek(SeekFrom::Start(at))?;
-    }
-    Ok(Some(Reading { file, at }))
 }
 
 fn part() -> [u8; PART] {

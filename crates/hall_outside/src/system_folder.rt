@@ -4,9 +4,9 @@ ghost use Rattle.folder_calls.specs.Writes.{IsCount};
 
 use crate::calls::{again, look_for, remove, rename};
 use crate::new_files::folder_of;
-use crate::read_files::ReadFiles;
+use crate::read_files::{ReadFiles, SystemNames};
 use crate::replacing::{found_of, is_one, keep_owner, set_bits};
-use crate::system_files::{LastRead, read_part, read_through_signals};
+use crate::system_files::{LastRead, open_at, read_next, read_through_signals};
 use folder_calls::{Folder, Found};
 use std::alloc::AllocError;
 use std::fs::{self, File, TryLockError};
@@ -75,6 +75,10 @@ impl<'a, R: Files<File = File>> Folder for SystemFolder<'a, R> {
 
     ghost unchanged = { λ _ _. ⊤ };
 
+    ghost all_unchanged = { λ _. ⊤ };
+
+    ghost is_open = { λ _ _ _. ⊤ };
+
     fn look(&mut self, name: &str) -> io::Result<Option<Found>> {
         match look_for(self.rt, name)? {
             Some(found) => Ok(Some(found_of(&found, self.read.has(&found)))),
@@ -82,8 +86,23 @@ impl<'a, R: Files<File = File>> Folder for SystemFolder<'a, R> {
         }
     }
 
-    fn read_at(&mut self, name: &str, at: u64, into: &mut [u8]) -> io::Result<Option<usize>> {
-        read_part(self.rt, &mut self.last_read, &mut self.read, name, at, into)
+    fn is_open_at(&mut self, name: &str, at: u64) -> bool {
+        self.last_read.is_at(name, at)
+    }
+
+    fn open_at(&mut self, name: &str, at: u64) -> io::Result<Option<Found>> {
+        match open_at(self.rt, &mut self.last_read, &mut self.read, name, at)? {
+            Some(found) => Ok(Some(found_of(&found, true))),
+            None => Ok(None),
+        }
+    }
+
+    fn read_on(&mut self, _name: &str, _at: u64, into: &mut [u8]) -> io::Result<usize> {
+        read_next(&mut self.last_read, into)
+    }
+
+    fn are_all_as_read(&mut self) -> io::Result<bool> {
+        self.read.are_all_as_read(&SystemNames { rt: self.rt })
     }
 
     fn read_front(&mut self, name: &str, into: &mut [u8]) -> io::Result<usize> {

@@ -7,8 +7,8 @@ use Rattle.hall_outside.proofs.placing_store.read_shown.Goals as goal
 pub returns-clause-taken : goal.returns-clause-taken
 returns-clause-taken g c =
     let ws = g.F.Folder.moments c.args.folder.now in
-    subst (IsTaken (shown_files c.args.begun.now ws) c.args.name.now c.args.at c.args.into.now c.read_at.new.into)
+    subst (IsTaken (shown_files c.args.begun.now ws) c.args.name.now c.args.at c.args.into.now c.read_part.new.into)
     (sym c.taken.ensures)
-    (taken_shown c.args.begun.now ws c.args.name.now c.args.at c.args.into.now c.read_at.new.into c.in_ok-given.given
+    (taken_shown c.args.begun.now ws c.args.name.now c.args.at c.args.into.now c.read_part.new.into c.in_ok-given.given
     (sym c.number_of.ensures ∙ none_of c.number_of.result (sym c.is_some.ensures ∙ c.if-is_some.false))
     (sym c.is_other.ensures ∙ c.if-is_other.false) c.in_ok-given.ensures.given)
