@@ -4,7 +4,7 @@ ghost use Rattle.entry_format.specs.EntryText.{IsVersion, IsDeedIn};
 
 use crate::entry_format_tests::text_in;
 use entry_format::{
-    Deed, Entry, EntryFault, How, Names, SealFault, Sealed, is_rising, seal, unseal,
+    Deed, Entry, EntryFault, How, Names, SealFault, Sealed, is_rising, seal, unseal, unseal_vec,
 };
 use hex::encode;
 use lms_ots::OtsKind;
@@ -143,7 +143,7 @@ fn text_of(
 }
 
 /// The fault of an entry of these parts: its election, maker, names, deed and signature. The
-/// election is 32 times a letter.
+/// election is 32 times a letter. A text that might be taken has the same fault, and comes back.
 fn fault_of(
     alloc: Global,
     roster: &Roster,
@@ -155,7 +155,15 @@ fn fault_of(
     };
     let text = text_of(alloc, secret, maker, names, deed, digits)?;
     let election = [if *election == "E" { b'e' } else { b'o' }; 32];
-    Ok(unseal(alloc, roster, &election, &text).err())
+    let given = Vec::from_slice(alloc, &text)?;
+    let Err(refused) = unseal_vec(alloc, roster, &election, given) else {
+        return Ok(None);
+    };
+    let comes_back = refused.text.as_slice() == text.as_slice();
+    match unseal(alloc, roster, &election, &text) {
+        Err(fault) if comes_back && fault.word() == refused.fault.word() => Ok(Some(fault)),
+        _ => Ok(None),
+    }
 }
 
 /// Whether the fault of the row's entry is the one that the row says.
@@ -231,10 +239,22 @@ fn unseals(alloc: Global, roster_text: &[u8], text: &[u8]) -> bool {
     }
 }
 
+/// Whether the text is unsealed, to an entry that takes it.
+fn unseals_vec(alloc: Global, roster_text: &[u8], text: &[u8]) -> Result<bool, Fail> {
+    let roster = Roster::read(alloc, roster_text)?;
+    let given = Vec::from_slice(alloc, text)?;
+    match unseal_vec(alloc, &roster, &election(roster_text), given) {
+        Ok(read) => Ok(read.text() == text),
+        Err(_) => Ok(false),
+    }
+}
+
 /// Whether a copy of what is sealed has its text, and that is unsealed again.
 fn is_copied(alloc: Global, roster_text: &[u8], sealed: &Sealed) -> Result<bool, Fail> {
     let copy = sealed.copy(alloc)?;
-    Ok(copy.text() == sealed.text() && unseals(alloc, roster_text, copy.text()))
+    let text = copy.text();
+    let again = unseals(alloc, roster_text, text) && unseals_vec(alloc, roster_text, text)?;
+    Ok(again && text == sealed.text())
 }
 
 /// The length of what is sealed and its digest in hexadecimal.
