@@ -18,7 +18,7 @@ pub use Rattle.entry_format.specs.Nodes.{node_of}
 pub use Rattle.entry_format.specs.Plains.{plain_of}
 pub use Rattle.entry_format.specs.Reading.{HasForm, HasRisingNames, IsFormFault, Reads}
 pub use Rattle.entry_format.specs.SealedEntry.{SealedEntry}
-pub use Rattle.entry_format.specs.Sealing.{HasIndex, IsSealed, sealed_from, sealed_of, signature_in}
+pub use Rattle.entry_format.specs.Sealing.{HasIndex, IsSealed, sealed_in, sealed_of, signature_in}
 pub use Rattle.entry_format.specs.Unsealing.{IsEntryFault, IsFault, IsValid, Unseals, key_at}
 pub use Rattle.entry_format.specs.declared.deed.Deed.{Deed}
 pub use Rattle.entry_format.specs.declared.deed.Deed.TheVariants.{Activate, Authorise, Cancel, Cast, Challenge}

@@ -3,7 +3,7 @@ use Rattle.std.proofs.Common.{length, drop}
 use Rattle.entry_format.proofs.Imports.{◌≡◌, ◌∙◌, ℕ, ◌-◌, List, [], ◌∷◌, ◌++◌, ap, sym, arith, take, codes, text_of}
 use Rattle.entry_format.proofs.Imports.{append-nil, append_assoc, length-append, drop-append_seam, take-append_seam}
 use Rattle.entry_format.proofs.Imports.{decimal, refl, subst, Entry, IsAscending, IsSignedText, body_tree, signed_tree, HasIndex}
-use Rattle.entry_format.proofs.Imports.{IsSealed, Signs, sealed_from, signature_in, atom_text, texts_of}
+use Rattle.entry_format.proofs.Imports.{IsSealed, Signs, sealed_in, signature_in, atom_text, texts_of}
 use Rattle.entry_format.proofs.Imports.{◌≤◌, IsEntry, Sexp, max_members, max_octets, signed_list}
 use Rattle.entry_format.proofs.Limits.{members_in, signed_fits}
 
@@ -57,7 +57,7 @@ signature_there text entry signature is =
 -- the parts of a signed text belong together
 pub parts_together : (text : List ℕ) (entry : Entry) (signature key : List ℕ) (count : ℕ) → count ≡ length signature →
     IsSignedText text entry signature → IsAscending entry.names → HasIndex signature entry.number →
-    Signs key (text_of (body_tree entry)) signature → IsSealed (sealed_from entry text count key)
+    Signs key (text_of (body_tree entry)) signature → IsSealed (sealed_in entry text count key)
 parts_together text entry signature key count counted spelt rising index signs =
     let same : signature ≡ signature_in text count =
     sym (ap (signature_in text) counted ∙ signature_there text entry signature spelt) in

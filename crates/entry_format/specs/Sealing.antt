@@ -22,6 +22,11 @@ pub record IsSealed (sealed : SealedEntry) : Type 0 where
   pub index : HasIndex sealed.signature sealed.entry.number
   pub signs : Signs sealed.key (text_of (body_tree sealed.entry)) sealed.signature
 
+-- the value of these parts
+abbrev pub sealed_from : Entry → List ℕ → List ℕ → List ℕ → SealedEntry
+sealed_from entry signature text key =
+    record { entry = entry; signature = signature; text = text; digest = sha256 text; key = key }
+
 -- the signature of so many octets in a signed text, before the parenthesis at its end
 abbrev pub signature_in : List ℕ → ℕ → List ℕ
 signature_in text count = take count (drop (length text - 1 - count) text)
@@ -37,5 +42,5 @@ sealed_of entry text count digest key = record {
 }
 
 -- the same, with the digest of the text
-abbrev pub sealed_from : Entry → List ℕ → ℕ → List ℕ → SealedEntry
-sealed_from entry text count key = sealed_of entry text count (sha256 text) key
+abbrev pub sealed_in : Entry → List ℕ → ℕ → List ℕ → SealedEntry
+sealed_in entry text count key = sealed_of entry text count (sha256 text) key

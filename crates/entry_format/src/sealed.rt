@@ -1,6 +1,6 @@
 //! Sealed entries: signed by their maker, with the signature verified.
 ghost use Rattle.std.specs.Prelude.{◌≡◌, IfErr, IfOk};
-ghost use Rattle.entry_format.specs.Sealing.{IsSealed, sealed_from};
+ghost use Rattle.entry_format.specs.Sealing.{IsSealed, sealed_in};
 
 use crate::entry::Entry;
 use entry_order::Knot;
@@ -56,9 +56,9 @@ impl Sealed {
         signature_len: usize,
         key: [u8; 56],
     ) -> Result<Sealed, Vec<u8>>
-        requires { IsSealed (sealed_from entry text.items signature_len key) }
+        requires { IsSealed (sealed_in entry text.items signature_len key) }
         ensures value { IfOk result (λ sealed.
-            sealed ≡ sealed_from entry text.items signature_len key) }
+            sealed ≡ sealed_in entry text.items signature_len key) }
         ensures kept { IfOk result (λ sealed. IsSealed sealed) }
         ensures text { IfErr result (λ back. back.items ≡ text.items) }
     {

@@ -9,7 +9,7 @@ use Rattle.canonical_sexp.specs.Text.{text_of}
 use Rattle.lms_sign.specs.Signs.{Signs}
 use Rattle.roster.specs.declared.post.Post.{Post}
 use Rattle.entry_format.specs.declared.entry.Entry.{Entry}
-use Rattle.entry_format.specs.Sealing.{HasIndex, sealed_from}
+use Rattle.entry_format.specs.Sealing.{HasIndex, sealed_in}
 use Rattle.entry_format.specs.Unsealing.{IsValid, key_at}
 use Rattle.entry_order.specs.Ascending.{IsAscending}
 use Rattle.entry_format.specs.declared.reading.Head.{Head}
@@ -82,4 +82,4 @@ pub record IsUnder (machines : List Post) (election : List ℕ) (entry : Entry) 
 -- with the text it is a valid sealed entry
 abbrev pub IsVerified : List Post → List ℕ → List ℕ → Verified → Type 0
 IsVerified machines election text verified =
-    IsValid machines election text (sealed_from verified.entry text verified.signature_len verified.key)
+    IsValid machines election text (sealed_in verified.entry text verified.signature_len verified.key)

@@ -1,6 +1,6 @@
 use Rattle.std.proofs.Common.{◌<◌, length}
 use Rattle.entry_format.proofs.Imports.{◌≡◌, ◌∙◌, ℕ, List, [], refl, ap, sym, subst, arith, Sexp, text_of, Fits}
-use Rattle.entry_format.proofs.Imports.{public_of, Post, body_tree, signed_tree, key_at, signed_list, sealed_from, get_or}
+use Rattle.entry_format.proofs.Imports.{public_of, Post, body_tree, signed_tree, key_at, signed_list, sealed_in, get_or}
 use Rattle.entry_format.proofs.Imports.{SealedEntry, signature_in}
 use Rattle.entry_format.proofs.Keys.{key_is, signs_same, signature_small, signature_some}
 use Rattle.entry_format.proofs.Limits.{body_fits, signed_fits}
@@ -79,7 +79,7 @@ returns-in-Ok-clause-valid c =
     let sealed : SealedEntry = c.in-Ok.sealed in
     let machines : List Post = c.as_slice-machines.result.now in
     let makers_key : List ℕ = (get_or machines entry.maker c.index-machines-entry.result).key in
-    let is : sealed ≡ sealed_from entry c.in_ok-text.text.items c.len.result makers_key = c.in-Ok.ensures.value in
+    let is : sealed ≡ sealed_in entry c.in_ok-text.text.items c.len.result makers_key = c.in-Ok.ensures.value in
     let within : entry.maker < length machines = omega (arith, ap length c.as_slice-machines.ensures) in
     let of_maker = key_is machines entry.maker c.index-machines-entry.result within
     ∙ ap (λ (ms : List Post). key_at ms entry.maker) c.as_slice-machines.ensures in
