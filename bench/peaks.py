@@ -83,16 +83,28 @@ def full_pipe():
     return reading, writing, count
 
 
+def state_of(stat):
+    """The state of a thread, by its file: `Z` where it has ended."""
+    try:
+        with open(stat) as file:
+            return file.read().rsplit(")", 1)[1].split()[0]
+    except (FileNotFoundError, ProcessLookupError):
+        return "Z"
+
+
 def waits(process):
-    """Whether the program waits, here to write, or has ended."""
-    with open(f"/proc/{process.pid}/stat") as file:
-        return file.read().rsplit(")", 1)[1].split()[0] in "SZ"
+    """Whether all threads of the program wait, here for the one that writes, or have ended."""
+    tasks = f"/proc/{process.pid}/task"
+    return all(state_of(f"{tasks}/{task}/stat") in "SZ" for task in os.listdir(tasks))
 
 
 def peak_of(process):
     """The most memory that the waiting program has had, in bytes."""
-    while not waits(process):
+    # Threads may wait for one another between two looks.
+    still = 0
+    while still < 3:
         time.sleep(0.01)
+        still = still + 1 if waits(process) else 0
     with open(f"/proc/{process.pid}/status") as file:
         peaks = [line.split()[1] for line in file if line.startswith("VmHWM:")]
     assert peaks, "the program has written nothing"
