@@ -13,6 +13,10 @@ use std::thread::{self, Threads};
 // that one which is held up delays the others by a small part of the work only.
 const MOST_THREADS: usize = 16;
 
+// The bytes that have to be free for threads to be started, and are kept free until they have
+// ended. So a limit on the address space, which their stacks take up, leaves room for the rest.
+const ROOM: usize = 67_108_864;
+
 /// A leaf of a tree: its value, and the checkpoints of its one-time key.
 #[derive(Drop)]
 pub(crate) struct Leaf {
@@ -59,8 +63,29 @@ pub(crate) fn make_leaves(
     }
 }
 
-// Makes all leaves, in threads.
+// Makes all leaves, in threads if there is room for them.
 pub(crate) fn make_leaves_in<R: Threads + Sync>(
+    rt: &R,
+    alloc: Global,
+    kind: OtsKind,
+    height: u32,
+    id: &[u8; 16],
+    seed: &[u8; 32],
+    leaves: &mut [Leaf],
+)
+    requires height { IsHeight height }
+    requires count { length leaves.old ≡ 2 ^ height }
+    requires room { AreBlank kind leaves.old }
+    ensures { AreLeaves kind height id.now seed.now leaves.new }
+{
+    match Vec::<u8>::with_capacity(alloc, ROOM) {
+        Ok(_room) => make_each_in(rt, kind, height, id, seed, leaves),
+        Err(_) => make_leaves(kind, height, id, seed, leaves),
+    }
+}
+
+// Makes all leaves, in threads.
+fn make_each_in<R: Threads + Sync>(
     rt: &R,
     kind: OtsKind,
     height: u32,

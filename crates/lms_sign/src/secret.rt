@@ -167,7 +167,7 @@ impl LmsSecret {
         }) }
     {
         let mut leaves = blank_leaves(alloc, kind, height)?;
-        make_leaves_in(rt, kind, height, &id, &seed, leaves.as_mut_slice());
+        make_leaves_in(rt, alloc, kind, height, &id, &seed, leaves.as_mut_slice());
         LmsSecret::of_leaves(alloc, kind, height, id, seed, next, leaves)
     }
 
