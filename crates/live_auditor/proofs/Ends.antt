@@ -11,6 +11,12 @@ slice_get_old [] x i low = absurd (omega arith)
 slice_get_old (y ∷ ys) x zero low = refl
 slice_get_old (y ∷ ys) x (suc i) low = slice_get_old ys x i (omega arith)
 
+-- or when others are
+pub slice_get_left : {X : Type 0} (xs ys : List X) (i : ℕ) → i < length xs → slice_get (xs ++ ys) i ≡ slice_get xs i
+slice_get_left [] ys i low = absurd (omega arith)
+slice_get_left (x ∷ xs) ys zero low = refl
+slice_get_left (x ∷ xs) ys (suc i) low = slice_get_left xs ys i (omega arith)
+
 -- an element that is put after a list comes at its length
 pub slice_get_last : {X : Type 0} (xs : List X) (x : X) → slice_get (xs ++ x ∷ []) (length xs) ≡ Some x
 slice_get_last [] x = refl

@@ -43,9 +43,10 @@ pub use Rattle.live_auditor.specs.declared.summary.Summed.{Summed}
 pub use Rattle.live_auditor.specs.declared.summary.Unsummed.{Unsummed}
 pub use Rattle.live_auditor.specs.declared.summary.Unsummed.TheVariants.{Memory, TooWide}
 pub use Rattle.live_auditor.specs.declared.usual.Usual.{Usual}
-pub use Rattle.live_auditor.specs.inside.Found.{FindsNames, IsUsualBy}
+pub use Rattle.live_auditor.specs.inside.Found.{FindsNames, IsApartBy, IsUsualBy}
 pub use Rattle.live_auditor.specs.inside.Grown.{AreJudgedOver, kept_with, said_with}
-pub use Rattle.live_auditor.specs.inside.Kept.{IsKept, IsSummed, SurvivorsKept, link_to, live_of, nodes_by}
+pub use Rattle.live_auditor.specs.inside.Kept.{IsGraphed, IsKept, IsSummed, SurvivorsKept, link_to, live_of}
+pub use Rattle.live_auditor.specs.inside.Kept.{nodes_by}
 pub use Rattle.live_auditor.specs.inside.KeptOf.{IsSummedBy, kept_of}
 pub use Rattle.live_auditor.specs.inside.Unsummed.{IsUnjudged, IsUnsummed}
 pub use Rattle.live_auditor.specs.inside.Usual.{AreMissing, AreParents, IsUsual, grown}

@@ -1,4 +1,4 @@
--- Verdicts by the rows of survivors, as they are where one more comes after them.
+-- Verdicts by the rows of survivors, as they are where others come after them.
 use Rattle.std.proofs.Common.{◌≡◌}
 use Rattle.live_auditor.proofs.Imports.{◌∙◌, ap, refl, sym, subst, ℕ, zero, suc, ◌<◌, Bool, List, [], ◌∷◌, ◌++◌, map}
 use Rattle.live_auditor.proofs.Imports.{length, arith, get_or, length-append, Ok, Links, parents_in, ragged_in}
@@ -7,24 +7,24 @@ use Rattle.live_auditor.proofs.Imports.{known_before, known_whole, Rule, Row, ru
 use Rattle.live_auditor.proofs.Imports.{ComesBeforeNone, IsJudgeAnswer, Verdict, same_answer, AreJudged}
 use Rattle.live_auditor.proofs.Imports.{AreJudgedOver, nodes_by}
 use Rattle.live_auditor.proofs.Agreements.{same_before, same_whole, not_before}
-use Rattle.live_auditor.proofs.Ends.{slice_get_old}
+use Rattle.live_auditor.proofs.Ends.{slice_get_left}
 
-module _ (links : List Links) (last : Links) (known : Known) (falls : Descends (parents_of (links ++ last ∷ [])))
-    (is : IsKnownOf (nodes_by (links ++ last ∷ [])) known) where
+module _ (links later : List Links) (known : Known) (falls : Descends (parents_of (links ++ later)))
+    (is : IsKnownOf (nodes_by (links ++ later)) known) where
   -- all of them
   abbrev all : List Links
-  all = links ++ last ∷ []
+  all = links ++ later
 
   -- the place of one of the first is known
   within : (x : ℕ) → x < length links → x < length all
-  within x low = omega (arith, low, length-append links (last ∷ []))
+  within x low = omega (arith, low, length-append links later)
 
-  -- which names the same with the last, and a gap if it did
+  -- which names the same with the later ones, and a gap if it did
   parents_stay : (x : ℕ) → x < length links → parents_of all x ≡ parents_of links x
-  parents_stay x low = ap parents_in (slice_get_old links last x low)
+  parents_stay x low = ap parents_in (slice_get_left links later x low)
 
   ragged_stays : (x : ℕ) → x < length links → ragged_of all x ≡ ragged_of links x
-  ragged_stays x low = ap ragged_in (slice_get_old links last x low)
+  ragged_stays x low = ap ragged_in (slice_get_left links later x low)
 
   -- what is known of what comes before it is what was known
   orders_stay : (y x : ℕ) → x < length links →
@@ -39,7 +39,7 @@ module _ (links : List Links) (last : Links) (known : Known) (falls : Descends (
       sym (same_whole (parents_of all) (parents_of links) (ragged_of all) (ragged_of links) (length links) falls
       parents_stay ragged_stays x x low) ∙ sym (is.wholes x (within x low))
 
-  -- the last comes before none of the first
+  -- a later one comes before none of the first
   pub last_comes_last : ComesBeforeNone (length links) (known_before known)
   last_comes_last y x low past =
       ap is_true (is.orders y x (within x low))

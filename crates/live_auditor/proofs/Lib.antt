@@ -10,3 +10,4 @@ pub mod Steps
 pub mod Kept
 pub mod Finds
 pub mod Wide
+pub mod AfterBase

@@ -10,10 +10,11 @@ use Rattle.live_auditor.proofs.Imports.{Contains-none, Contains-map, list_any_of
 use Rattle.live_auditor.proofs.Imports.{SealedEntry, node_of_sealed, EntryGraph, Links, IsGraphOfGiven, parents_of}
 use Rattle.live_auditor.proofs.Imports.{distinct, no_collision_new, IsSealedGraph, survivors_distinct, Row, rule_tree}
 use Rattle.live_auditor.proofs.Imports.{Verdict, AreJudged, IsFirstTooWide, nodes_of, row_of, HasRoomFor, LiveState}
-use Rattle.live_auditor.proofs.Imports.{Unsummed, TooWide, Memory, IsUsualBy, said_with, kept_with, SurvivorsKept}
+use Rattle.live_auditor.proofs.Imports.{Unsummed, TooWide, Memory, IsApartBy, IsUsualBy, said_with, kept_with}
+use Rattle.live_auditor.proofs.Imports.{SurvivorsKept, IsGraphed, Post, RuleTree, IsNew}
 use Rattle.live_auditor.proofs.Imports.{IsKept, IsSummed, link_to, nodes_by, IsUnjudged, IsUnsummed, IsUsual}
 use Rattle.live_auditor.proofs.Imports.{AreParents, AreMissing, grown}
-use Rattle.live_auditor.proofs.Additions.{once_more}
+use Rattle.live_auditor.proofs.Additions.{added_apart, apart_more, sealed_more}
 use Rattle.live_auditor.proofs.Ends.{at_contains}
 use Rattle.live_auditor.proofs.Grown.{is_grown}
 
@@ -40,23 +41,19 @@ mapped_at {X} f xs p y at = by (slice_get xs p) refl (sym (slice_get-map f xs p)
     by None is none = absurd (let no : None ≡ Some y = none in cc)
     by (Some x) is some = let same : f x ≡ y = cc in (x, is, same)
 
-module _ (live : LiveState) (kept : SurvivorsKept) (is : IsKept live kept) (e : SealedEntry)
-    (room : HasRoomFor live.added e) (parents : List ℕ) (missing : List (List ℕ))
-    (usual : IsUsualBy live.added live.summary.gaps kept.digests kept.rows e parents missing) where
-  -- the graph of the entries before
-  abbrev graph : EntryGraph SealedEntry
-  graph = is.live.after.graph
-
-  -- it is that of the entries, each of them once
-  graphed : IsGraphOfGiven node_of_sealed live.added graph
-  graphed = subst (λ es. IsGraphOfGiven node_of_sealed es graph) is.live.once is.live.after.graphed.2
+module _ (machines : List Post) (given : List SealedEntry) (graph : EntryGraph SealedEntry) (gaps : List (List ℕ))
+    (kept : SurvivorsKept) (is : IsGraphed machines given graph gaps kept) (e : SealedEntry)
+    (new : IsNew node_of_sealed given e)
+    (highest : (f : SealedEntry) → Contains given f → f.entry.stamp < e.entry.stamp) (parents : List ℕ)
+    (missing : List (List ℕ)) (apart : IsApartBy gaps kept.digests kept.rows e parents missing) where
+  -- a survivor is given
+  is_given : (f : SealedEntry) → Contains graph.survivors f → Contains given f
+  is_given f has = ((survivors_are_no_strays node_of_sealed given f).0 ((is.graphed.members f).0 has)).0
 
   -- no two survivors have one digest
   one_digest : (f g : SealedEntry) → Contains graph.survivors f → Contains graph.survivors g → f.digest ≡ g.digest →
       f ≡ g
-  one_digest f g has also same =
-      survivors_distinct (survivors_are_no_strays node_of_sealed) live.added graph is.live.after.graphed f g has also
-      same
+  one_digest f g has also same = is.apart f g (is_given f has) (is_given g also) same
 
   -- a digest that is kept at a place is that of the survivor there
   at_digest : (p : ℕ) (d : List ℕ) → slice_get kept.digests p ≡ Some d →
@@ -79,41 +76,40 @@ module _ (live : LiveState) (kept : SurvivorsKept) (is : IsKept live kept) (e : 
       true≢false (sym found ∙ none)
 
   -- the entry is usual
-  is_usual : IsUsual node_of_sealed live.added graph e
+  is_usual : IsUsual node_of_sealed given graph e
   is_usual = record {
-    latest = λ f has. ltb-true f.entry.stamp e.entry.stamp
-        (each_passes (λ (g : SealedEntry). nat_lt g.entry.stamp e.entry.stamp) live.added f usual.latest has);
-    closes_none = λ has. none_found live.summary.gaps usual.closes_none
-        (subst (λ ds. Contains ds e.digest) (sym is.live.after.gaps) has);
-    not_itself = none_found e.entry.names usual.not_itself;
+    latest = highest;
+    closes_none = λ has. none_found gaps apart.closes_none
+        (subst (λ ds. Contains ds e.digest) (sym is.are_gaps) has);
+    not_itself = none_found e.entry.names apart.not_itself;
     no_fork = λ f has maker number.
-        let row = row_of live.machines f in
+        let row = row_of machines f in
         let there = subst (λ rows. Contains rows row) (sym is.survivors.rows)
-        (Contains-map (row_of live.machines) graph.survivors f has) in
+        (Contains-map (row_of machines) graph.survivors f has) in
         let test = λ (r : Row). (r.maker == e.entry.maker) && (r.number == e.entry.number) in
         let passes : test row ≡ true = and_from (f.entry.maker == e.entry.maker) (f.entry.number == e.entry.number)
         (eq-eqb f.entry.maker e.entry.maker maker)
         (eq-eqb f.entry.number e.entry.number number) in
-        true≢false (sym (list_any_of test kept.rows row there passes) ∙ usual.no_fork);
+        true≢false (sym (list_any_of test kept.rows row there passes) ∙ apart.no_fork);
   }
 
   -- these are its parents
   are_parents : AreParents node_of_sealed graph.survivors e parents
   are_parents p = (
     λ has.
-        (let (d, at, names) = usual.finds.stands p has in
+        (let (d, at, names) = apart.finds.stands p has in
         let (f, stands, same) = at_digest p d at in
         (f, stands, subst (λ c. Contains e.entry.names c) (sym same) names)),
-    λ f stands names. elim (usual.finds.each f.digest names) [
+    λ f stands names. elim (apart.finds.each f.digest names) [
       | inl (q, has, at) ↦
           (let (g, there, same) = at_digest q f.digest at in
           let one : g ≡ f =
           one_digest g f (at_contains graph.survivors q g there) (at_contains graph.survivors p f stands) same in
           let place : q ≡ p =
-          graphed.kept.single q p f (subst (λ h. slice_get graph.survivors q ≡ Some h) one there) stands in
+          is.graphed.kept.single q p f (subst (λ h. slice_get graph.survivors q ≡ Some h) one there) stands in
           subst (λ n. Contains parents n) place has)
       | inr lacked ↦
-          absurd ((usual.finds.lacks f.digest lacked).1 (digest_kept f (at_contains graph.survivors p f stands)))
+          absurd ((apart.finds.lacks f.digest lacked).1 (digest_kept f (at_contains graph.survivors p f stands)))
     ],
   )
 
@@ -121,9 +117,9 @@ module _ (live : LiveState) (kept : SurvivorsKept) (is : IsKept live kept) (e : 
   are_missing : AreMissing node_of_sealed graph.survivors e missing
   are_missing d = (
     λ has.
-        (let (names, none) = usual.finds.lacks d has in
+        (let (names, none) = apart.finds.lacks d has in
         (names, λ (f, there, same). none (subst (λ c. Contains kept.digests c) same (digest_kept f there)))),
-    λ (names, none). elim (usual.finds.each d names) [
+    λ (names, none). elim (apart.finds.each d names) [
       | inl (p, has, at) ↦
           (let (f, stands, same) = at_digest p d at in
           absurd (none (f, at_contains graph.survivors p f stands, same)))
@@ -135,45 +131,23 @@ module _ (live : LiveState) (kept : SurvivorsKept) (is : IsKept live kept) (e : 
   few : length graph.survivors < 16384
   few = let count : length kept.digests ≡ length graph.survivors =
       ap length is.survivors.digests ∙ length-map graph.survivors (λ (f : SealedEntry). f.digest) in
-      omega (arith, count, usual.few)
+      omega (arith, count, apart.few)
 
   -- the graph with it is that of all
-  is_next : IsGraphOfGiven node_of_sealed (live.added ++ e ∷ []) (grown graph e parents missing)
-  is_next =
-      is_grown node_of_sealed live.added graph graphed e room.0 is_usual parents are_parents missing are_missing few
-
-  sealed_next : IsSealedGraph (live.added ++ e ∷ []) (Ok (grown graph e parents missing))
-  sealed_next =
-      let once : distinct node_of_sealed (live.added ++ e ∷ []) ≡ live.added ++ e ∷ [] =
-      once_more live.added e is.live.once room.0 in (
-        no_collision_new node_of_sealed (λ (s : SealedEntry). s.text) live.added e is.live.after.graphed.0 room.0,
-        subst (λ es. length es ≤ 16384) (sym once)
-            (omega (arith, length-append live.added (e ∷ []), room.1)),
-        subst (λ es. IsGraphOfGiven node_of_sealed es (grown graph e parents missing)) (sym once) is_next,
-      )
+  pub is_next : IsGraphOfGiven node_of_sealed (given ++ e ∷ []) (grown graph e parents missing)
+  is_next = is_grown node_of_sealed given graph is.graphed e new is_usual parents are_parents missing are_missing few
 
   -- the rows and one more
-  rows_next : (row : Row) → row ≡ row_of live.machines e →
-      kept.rows ++ row ∷ [] ≡ map (row_of live.machines) (graph.survivors ++ e ∷ [])
+  pub rows_next : (row : Row) → row ≡ row_of machines e →
+      kept.rows ++ row ∷ [] ≡ map (row_of machines) (graph.survivors ++ e ∷ [])
   rows_next row same =
       ap (λ (rows : List Row). rows ++ row ∷ []) is.survivors.rows
-      ∙ ap (λ (r : Row). map (row_of live.machines) graph.survivors ++ r ∷ []) same
-      ∙ sym (map-append (row_of live.machines) graph.survivors (e ∷ []))
+      ∙ ap (λ (r : Row). map (row_of machines) graph.survivors ++ r ∷ []) same
+      ∙ sym (map-append (row_of machines) graph.survivors (e ∷ []))
 
   -- the links and one more
   links_next : kept.links ++ link_to parents missing ∷ [] ≡ graph.links ++ link_to parents missing ∷ []
   links_next = ap (λ (links : List Links). links ++ link_to parents missing ∷ []) is.survivors.links
-
-  -- what refuses the rules over the rows refuses them over the entries
-  pub unsummed_next : (row : Row) → row ≡ row_of live.machines e → (fault : Unsummed) →
-      IsUnjudged (kept.rows ++ row ∷ []) (map rule_tree live.rules) fault →
-      IsUnsummed live.machines (map rule_tree live.rules) (live.added ++ e ∷ []) fault
-  unsummed_next row same (TooWide place) first = (
-    grown graph e parents missing,
-    sealed_next,
-    subst (λ rows. IsFirstTooWide rows (map rule_tree live.rules) place) (rows_next row same) first,
-  )
-  unsummed_next row same Memory first = tt
 
   -- the parents of survivors and of the entry are below them
   pub falls_next : Descends (parents_of (kept.links ++ link_to parents missing ∷ []))
@@ -181,28 +155,14 @@ module _ (live : LiveState) (kept : SurvivorsKept) (is : IsKept live kept) (e : 
       subst (λ (links : List Links). Descends (parents_of links)) (sym links_next)
       is_next.kept.linked.arrows.descends
 
-  -- what is then said and kept is that of the entries and this one
-  pub summed_next : (row : Row) (rows : List Row) (link : Links) (gaps : List (List ℕ)) (verdicts : List Verdict) →
-      row ≡ row_of live.machines e → rows ≡ kept.rows ++ row ∷ [] → link ≡ link_to parents missing →
-      gaps ≡ ascending (live.summary.gaps ++ missing) →
-      AreJudged (kept.rows ++ row ∷ []) (nodes_by (kept.links ++ link_to parents missing ∷ []))
-      (map rule_tree live.rules) verdicts →
-      IsSummed live.machines (map rule_tree live.rules) (live.added ++ e ∷ []) (said_with live.summary gaps verdicts)
-      (kept_with kept e.digest rows link)
-  summed_next row rows link gaps verdicts same all linked are judged = record {
-    after = record {
-      graph = grown graph e parents missing;
-      graphed = sealed_next;
-      survivors = omega (arith, is.live.after.survivors, length-append graph.survivors (e ∷ []));
-      gaps = are ∙ ap (λ (ds : List (List ℕ)). ascending (ds ++ missing)) is.live.after.gaps;
-      strays = is.live.after.strays;
-      forks = is.live.after.forks;
-      judged =
-          subst (λ (seen : List Row). AreJudged seen (nodes_of (grown graph e parents missing))
-          (map rule_tree live.rules) verdicts) (rows_next row same)
-          (subst (λ (links : List Links). AreJudged (kept.rows ++ row ∷ []) (nodes_by links)
-          (map rule_tree live.rules) verdicts) links_next judged);
-    };
+  -- the graph of the entries and this one, and what is then kept of it
+  pub graphed_next : (row : Row) (rows : List Row) (link : Links) (more : List (List ℕ)) → row ≡ row_of machines e →
+      rows ≡ kept.rows ++ row ∷ [] → link ≡ link_to parents missing → more ≡ ascending (gaps ++ missing) →
+      IsGraphed machines (given ++ e ∷ []) (grown graph e parents missing) more (kept_with kept e.digest rows link)
+  graphed_next row rows link more same all linked are = record {
+    apart = apart_more given e is.apart new;
+    graphed = is_next;
+    are_gaps = are ∙ ap (λ (ds : List (List ℕ)). ascending (ds ++ missing)) is.are_gaps;
     survivors = record {
       digests = ap (λ (ds : List (List ℕ)). ds ++ e.digest ∷ []) is.survivors.digests
           ∙ sym (map-append (λ (f : SealedEntry). f.digest) graph.survivors (e ∷ []));
@@ -210,3 +170,94 @@ module _ (live : LiveState) (kept : SurvivorsKept) (is : IsKept live kept) (e : 
       links = ap (λ (l : Links). kept.links ++ l ∷ []) linked ∙ links_next;
     };
   }
+
+  -- and what is said of them by verdicts on the rows
+  pub judged_next : (trees : List RuleTree) (row : Row) (verdicts : List Verdict) → row ≡ row_of machines e →
+      AreJudged (kept.rows ++ row ∷ []) (nodes_by (kept.links ++ link_to parents missing ∷ [])) trees verdicts →
+      AreJudged (map (row_of machines) (graph.survivors ++ e ∷ [])) (nodes_of (grown graph e parents missing)) trees
+      verdicts
+  judged_next trees row verdicts same judged =
+      subst (λ (seen : List Row). AreJudged seen (nodes_of (grown graph e parents missing)) trees verdicts)
+      (rows_next row same)
+      (subst (λ (links : List Links). AreJudged (kept.rows ++ row ∷ []) (nodes_by links) trees verdicts) links_next
+      judged)
+
+-- what is kept of an audit is what its graph has
+pub graphed_kept : (live : LiveState) (kept : SurvivorsKept) (is : IsKept live kept) →
+    IsGraphed live.machines live.added is.live.after.graph live.summary.gaps kept
+graphed_kept live kept is = record {
+  apart = added_apart live.added is.live.once;
+  graphed = subst (λ es. IsGraphOfGiven node_of_sealed es is.live.after.graph) is.live.once is.live.after.graphed.2;
+  are_gaps = is.live.after.gaps;
+  survivors = is.survivors;
+}
+
+-- each of these has a lower stamp
+pub all_lower : (given : List SealedEntry) (e : SealedEntry) →
+    list_all (λ (g : SealedEntry). nat_lt g.entry.stamp e.entry.stamp) given ≡ true → (f : SealedEntry) →
+    Contains given f → f.entry.stamp < e.entry.stamp
+all_lower given e latest f has =
+    ltb-true f.entry.stamp e.entry.stamp
+    (each_passes (λ (g : SealedEntry). nat_lt g.entry.stamp e.entry.stamp) given f latest has)
+
+module _ (live : LiveState) (kept : SurvivorsKept) (is : IsKept live kept) (e : SealedEntry)
+    (room : HasRoomFor live.added e) (parents : List ℕ) (missing : List (List ℕ))
+    (usual : IsUsualBy live.added live.summary.gaps kept.digests kept.rows e parents missing) where
+  abbrev first : EntryGraph SealedEntry
+  first = is.live.after.graph
+
+  seen : IsGraphed live.machines live.added first live.summary.gaps kept
+  seen = graphed_kept live kept is
+
+  low : (f : SealedEntry) → Contains live.added f → f.entry.stamp < e.entry.stamp
+  low = all_lower live.added e usual.latest
+
+  -- its graph is what is answered of them
+  sealed_usual : IsSealedGraph (live.added ++ e ∷ []) (Ok (grown first e parents missing))
+  sealed_usual =
+      sealed_more live.added e first (grown first e parents missing) is.live.after.graphed is.live.once room
+      (is_next live.machines live.added first live.summary.gaps kept seen e room.0 low parents missing usual.apart)
+
+  -- what refuses the rules with a usual entry more refuses them over all entries
+  pub unsummed_usual : (row : Row) → row ≡ row_of live.machines e → (fault : Unsummed) →
+      IsUnjudged (kept.rows ++ row ∷ []) (map rule_tree live.rules) fault →
+      IsUnsummed live.machines (map rule_tree live.rules) (live.added ++ e ∷ []) fault
+  unsummed_usual row same (TooWide place) found = (
+    grown first e parents missing,
+    sealed_usual,
+    subst (λ rows. IsFirstTooWide rows (map rule_tree live.rules) place)
+        (rows_next live.machines live.added first live.summary.gaps kept seen e room.0 low parents missing usual.apart row
+        same) found,
+  )
+  unsummed_usual row same Memory found = tt
+
+  -- the parents of survivors and of a usual entry are below them
+  pub falls_usual : Descends (parents_of (kept.links ++ link_to parents missing ∷ []))
+  falls_usual =
+      falls_next live.machines live.added first live.summary.gaps kept seen e room.0 low parents missing usual.apart
+
+  -- what is said and kept with a usual entry more is that of the entries and this one
+  pub summed_usual : (row : Row) (rows : List Row) (link : Links) (gaps : List (List ℕ)) (verdicts : List Verdict) →
+      row ≡ row_of live.machines e → rows ≡ kept.rows ++ row ∷ [] → link ≡ link_to parents missing →
+      gaps ≡ ascending (live.summary.gaps ++ missing) →
+      AreJudged (kept.rows ++ row ∷ []) (nodes_by (kept.links ++ link_to parents missing ∷ []))
+      (map rule_tree live.rules) verdicts →
+      IsSummed live.machines (map rule_tree live.rules) (live.added ++ e ∷ []) (said_with live.summary gaps verdicts)
+      (kept_with kept e.digest rows link)
+  summed_usual row rows link gaps verdicts same all linked are judged =
+      let next = graphed_next live.machines live.added first live.summary.gaps kept seen e room.0 low parents missing
+      usual.apart row rows link gaps same all linked are in
+      record {
+        after = record {
+          graph = grown first e parents missing;
+          graphed = sealed_usual;
+          survivors = omega (arith, is.live.after.survivors, length-append first.survivors (e ∷ []));
+          gaps = next.are_gaps;
+          strays = is.live.after.strays;
+          forks = is.live.after.forks;
+          judged =
+              judged_next live.machines live.added first live.summary.gaps kept seen e room.0 low parents
+              missing usual.apart (map rule_tree live.rules) row verdicts same judged;
+        };
+        survivors = next.survivors;
+      }

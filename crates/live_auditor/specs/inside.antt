@@ -1,4 +1,6 @@
 -- Definitions that no public clause needs.
+pub mod Base
+pub mod Following
 pub mod Found
 pub mod Grown
 pub mod Kept
@@ -6,3 +8,4 @@ pub mod KeptOf
 pub mod Seen
 pub mod Unsummed
 pub mod Usual
+pub mod Stamps

@@ -26,6 +26,7 @@ use roster::Roster;
 use rule_engine::{Judge, JudgeFault, Verdict};
 use rule_language::{Row, Rule};
 use std::alloc::{AllocError, Global};
+use std::slice;
 
 /// Judges the rules in their order by their verdicts over the first rows, up to the first that is
 /// too wide.
@@ -56,36 +57,37 @@ fn judge_each(
     Ok(verdicts)
 }
 
-/// The verdicts by the rows of survivors and of one more with this link, by those without it.
-fn verdicts_by(
+/// The verdicts by the rows of survivors with these links and of others after them, by those
+/// without the others.
+pub(crate) fn verdicts_by(
     alloc: Global,
     rules: &[Rule],
     rows: &[Row],
     links: &[Link],
-    last: &Link,
+    later: &[Link],
     before: &[Verdict],
 ) -> Result<Vec<Verdict>, Unsummed>
-    requires falls { Descends (parents_of (links.now ++ last.now ∷ [])) }
-    requires one_each { length rows.now ≡ length links.now + 1 }
-    requires few { length links.now < 16384 }
+    requires falls { Descends (parents_of (links.now ++ later.now)) }
+    requires one_each { length rows.now ≡ length links.now + length later.now }
+    requires few { length rows.now ≤ 16384 }
     requires before { AreJudged (take (length links.now) rows.now) (nodes_by links.now)
         (map rule_tree rules.now) before.now }
     ensures ok { IfOk result (λ verdicts. AreJudged rows.now
-        (nodes_by (links.now ++ last.now ∷ [])) (map rule_tree rules.now) verdicts.items) }
+        (nodes_by (links.now ++ later.now)) (map rule_tree rules.now) verdicts.items) }
     ensures err { IfErr result (IsUnjudged rows.now (map rule_tree rules.now)) }
 {
     // Without rules the order of the rows isn't needed.
     if rules.is_empty() {
         return Ok(Vec::new(alloc));
     }
-    let grown = Grown::over(links, last);
+    let grown = Grown::over(links, later);
     let order = Rows::make(alloc, &grown)?;
     let judge = Judge::over(alloc, rows, &order)?;
     judge_each(alloc, rules, &judge, links.len(), before)
 }
 
 /// The gaps where these digests, too, are named and no survivor has them.
-fn gaps_with(
+pub(crate) fn gaps_with(
     alloc: Global,
     gaps: &[[u8; 32]],
     missing: &[[u8; 32]],
@@ -156,7 +158,7 @@ fn growth_by(
         rules,
         rows.as_slice(),
         links,
-        &link,
+        slice::from_ref(&link),
         summary.verdicts(),
     ) {
         Ok(verdicts) => Ok(Growth {

@@ -2,9 +2,11 @@
 //! strays, the forks and a verdict on each rule, whatever the order in which they came.
 #![tactic(auto)]
 
+mod base;
 mod borrowed;
 mod fresh;
 mod growth;
+mod late;
 mod laws;
 mod live;
 mod seen;

@@ -10,9 +10,11 @@ ghost use Rattle.live_auditor.specs.Adding.{
 };
 ghost use Rattle.live_auditor.specs.Live.{IsLive, IsOfMachine};
 
+use crate::base::{Base, base_of, lower_base, raise_base};
 use crate::borrowed::borrowed_with;
 use crate::fresh::{Fresh, LiveFault};
 use crate::growth::growth_of;
+use crate::late::summed_late;
 use crate::seen::{Seen, seen_among};
 use crate::summary::{Summary, Unsummed, summed_of};
 use crate::survivors::Survivors;
@@ -40,12 +42,15 @@ pub struct Live {
     added: Vec<Sealed>,
     summary: Summary,
     survivors: Survivors,
+    /// Those with lower stamps than the last few.
+    base: Base,
 }
 
 impl Model for Live {
     ghost use Rattle.std.specs.Coded.{codes};
     ghost use Rattle.rule_language.specs.contracts.formula.Formula as formula;
     ghost use Rattle.live_auditor.specs.Live.{LiveState};
+    ghost use Rattle.live_auditor.specs.inside.Base.{IsBase};
     ghost use Rattle.live_auditor.specs.inside.Kept.{IsKept};
     ghost use Rattle.live_auditor.specs.inside.KeptOf.{kept_of};
 
@@ -65,7 +70,8 @@ impl Model for Live {
       rules = l.rules.items;
       added = l.added.items;
       summary = l.summary;
-    }) (kept_of l.survivors) };
+    }) (kept_of l.survivors)
+        × IsBase l.roster.machines l.rules.items l.added.items l.base };
 }
 
 impl Live {
@@ -77,13 +83,19 @@ impl Live {
         ensures kept { IfOk result IsLive }
     {
         let roster = roster.copy(alloc)?;
-        match summed_of(alloc, &roster, rules.as_slice(), Vec::new(alloc)) {
-            Ok(summed) => Ok(Live {
+        let read = rules.as_slice();
+        let summed = match summed_of(alloc, &roster, read, Vec::new(alloc)) {
+            Ok(summed) => summed,
+            Err(_) => return Err(AllocError),
+        };
+        match base_of(alloc, &roster, read, &[], 0) {
+            Ok(base) => Ok(Live {
                 roster,
                 rules,
                 added: Vec::new(alloc),
                 summary: summed.summary,
                 survivors: summed.survivors,
+                base,
             }),
             Err(_) => Err(AllocError),
         }
@@ -110,7 +122,7 @@ impl Live {
     }
 
     /// Adds an entry whose digest no added one has. What is known of the survivors serves where it
-    /// comes after all others.
+    /// comes after all others, and what is known of the base where it comes after that.
     fn add_new(&mut self, alloc: Global, s: Sealed) -> Result<Fresh, LiveFault>
         requires machine { IsOfMachine self.old.machines s }
         requires room { HasRoomFor self.old.added s }
@@ -119,6 +131,9 @@ impl Live {
         ensures same { IsOfSameAudit self.old self.new }
         ensures kept { IsLive self.new }
     {
+        if s.entry().stamp < self.base.below {
+            return self.add_anew(alloc, s);
+        }
         let rules = self.rules.as_slice();
         let added = self.added.as_slice();
         let summary = &self.summary;
@@ -131,7 +146,7 @@ impl Live {
             &self.survivors,
             &s,
         ) {
-            Ok(None) => self.add_anew(alloc, s),
+            Ok(None) => self.add_late(alloc, s),
             Ok(Some(growth)) => {
                 self.added.reserve(1)?;
                 self.survivors.reserve()?;
@@ -145,6 +160,43 @@ impl Live {
         }
     }
 
+    /// Adds an entry that isn't the last: the few that have higher stamps are put after it.
+    fn add_late(&mut self, alloc: Global, s: Sealed) -> Result<Fresh, LiveFault>
+        requires machine { IsOfMachine self.old.machines s }
+        requires room { HasRoomFor self.old.added s }
+        ensures answer { IsAddAnswer self.old s result }
+        ensures becomes { Becomes self.old s result self.new }
+        ensures same { IsOfSameAudit self.old self.new }
+        ensures kept { IsLive self.new }
+    {
+        self.added.reserve(1)?;
+        let rules = self.rules.as_slice();
+        let added = self.added.as_slice();
+        let stamp = s.entry().stamp;
+        if !raise_base(alloc, &self.roster, rules, added, stamp, &mut self.base)? {
+            return self.add_anew(alloc, s);
+        }
+        match summed_late(
+            alloc,
+            &self.roster,
+            rules,
+            added,
+            &self.summary,
+            &self.survivors,
+            &self.base,
+            &s,
+        ) {
+            Ok(Some(summed)) => {
+                self.added.push_reserved(s);
+                self.summary = summed.summary;
+                self.survivors = summed.survivors;
+                Ok(Fresh::New)
+            }
+            Ok(None) => self.add_anew(alloc, s),
+            Err(_) => Err(LiveFault::Memory),
+        }
+    }
+
     /// Adds an entry of any kind: everything is found again.
     fn add_anew(&mut self, alloc: Global, s: Sealed) -> Result<Fresh, LiveFault>
         requires machine { IsOfMachine self.old.machines s }
@@ -155,8 +207,12 @@ impl Live {
         ensures kept { IsLive self.new }
     {
         self.added.reserve(1)?;
-        let entries = borrowed_with(alloc, self.added.as_slice(), &s)?;
-        match summed_of(alloc, &self.roster, self.rules.as_slice(), entries) {
+        let rules = self.rules.as_slice();
+        let added = self.added.as_slice();
+        let stamp = s.entry().stamp;
+        lower_base(alloc, &self.roster, rules, added, stamp, &mut self.base)?;
+        let entries = borrowed_with(alloc, added, &s)?;
+        match summed_of(alloc, &self.roster, rules, entries) {
             Ok(summed) => {
                 self.added.push_reserved(s);
                 self.summary = summed.summary;

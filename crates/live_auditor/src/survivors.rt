@@ -1,5 +1,5 @@
 //! What is kept of the survivors, beside what is said of them.
-ghost use Rattle.std.specs.Prelude.{◌≡◌, ◌<◌, ◌++◌, ◌∷◌, [], length, map, slice_get};
+ghost use Rattle.std.specs.Prelude.{◌≡◌, ◌+◌, ◌<◌, ◌≤◌, ◌++◌, ◌∷◌, [], length, map, slice_get};
 ghost use Rattle.std.specs.Prelude.{IfOk, OnOk, Some};
 ghost use Rattle.entry_format.specs.SealedEntry.{SealedEntry};
 ghost use Rattle.entry_graph.specs.EntryGraph.{parents_of};
@@ -95,6 +95,28 @@ impl Survivors {
         })
     }
 
+    /// The same survivors.
+    pub(crate) fn copy(&self, alloc: Global) -> Result<Survivors, AllocError>
+        ensures { IfOk result (λ copy. kept_of copy ≡ kept_of self.now) }
+    {
+        Ok(Survivors {
+            digests: Vec::from_slice(alloc, &self.digests)?,
+            rows: Vec::from_slice(alloc, &self.rows)?,
+            links: copies_of(alloc, &self.links)?,
+        })
+    }
+
+    /// Puts one with this digest, row and link after the others.
+    pub(crate) fn add(&mut self, digest: [u8; 32], row: Row, link: Link) -> Result<(), AllocError>
+        ensures { OnOk result (kept_of self.new
+            ≡ kept_with (kept_of self.old) digest (self.old.rows.items ++ row ∷ []) link) }
+    {
+        self.digests.push(digest)?;
+        self.rows.push(row)?;
+        self.links.push(link)?;
+        Ok(())
+    }
+
     /// Makes room for one more.
     pub(crate) fn reserve(&mut self) -> Result<(), AllocError>
         ensures same { kept_of self.new ≡ kept_of self.old }
@@ -139,32 +161,45 @@ fn links_of(alloc: Global, graph: &Graph<Borrowed<'_>>) -> Result<Vec<Link>, All
     Ok(links)
 }
 
-/// The graph of survivors and one more after them.
+/// Copies of the links.
+fn copies_of(alloc: Global, links: &[Link]) -> Result<Vec<Link>, AllocError>
+    ensures { IfOk result (λ copies. copies.items ≡ links.now) }
+{
+    let mut copies = Vec::with_capacity(alloc, links.len())?;
+    for link in links {
+        copies.push(Link::copied(alloc, link.parents(), link.ragged())?)?;
+    }
+    Ok(copies)
+}
+
+/// The graph of survivors and others after them.
 #[derive(Drop)]
 pub(crate) struct Grown<'a> {
     links: &'a [Link],
-    last: &'a Link,
+    later: &'a [Link],
 }
 
 impl<'a> Model for Grown<'a> {
-    ghost use Rattle.std.specs.Prelude.{◌++◌, ◌∷◌, [], List};
+    ghost use Rattle.std.specs.Prelude.{◌+◌, ◌≤◌, ◌++◌, List, length};
     ghost use Rattle.entry_graph.specs.EntryGraph.{Links, parents_of};
     ghost use Rattle.entry_order.specs.Ancestors.{Descends};
 
     ghost Value = { List Links };
 
-    ghost view = { λ g. g.links.now ++ g.last.now ∷ [] };
+    ghost view = { λ g. g.links.now ++ g.later.now };
 
-    ghost invariant = { λ g. Descends (parents_of (g.links.now ++ g.last.now ∷ [])) };
+    ghost invariant = { λ g. Descends (parents_of (g.links.now ++ g.later.now))
+        × (length g.links.now + length g.later.now ≤ 16384) };
 }
 
 impl<'a> Grown<'a> {
-    /// The graph of survivors with these links and one with the last link.
-    pub(crate) fn over(links: &'a [Link], last: &'a Link) -> Grown<'a>
-        requires { Descends (parents_of (links.now ++ last.now ∷ [])) }
-        ensures { result ≡ links.now ++ last.now ∷ [] }
+    /// The graph of survivors with these links and of those with the later links.
+    pub(crate) fn over(links: &'a [Link], later: &'a [Link]) -> Grown<'a>
+        requires falls { Descends (parents_of (links.now ++ later.now)) }
+        requires few { length links.now + length later.now ≤ 16384 }
+        ensures { result ≡ links.now ++ later.now }
     {
-        Grown { links, last }
+        Grown { links, later }
     }
 
     /// The link of a survivor.
@@ -176,7 +211,7 @@ impl<'a> Grown<'a> {
         if node < self.links.len() {
             &self.links[node]
         } else {
-            self.last
+            &self.later[node - self.links.len()]
         }
     }
 }
@@ -187,7 +222,7 @@ impl<'a> Arrows for Grown<'a> {
     ghost graph = { nodes_by };
 
     fn count(&self) -> usize {
-        self.links.len() + 1
+        self.links.len() + self.later.len()
     }
 
     fn parents(&self, node: usize) -> &[u32] {

@@ -4,7 +4,7 @@ ghost use Rattle.std.specs.Prelude.{IfNone, IfOk, IfSome, Some};
 ghost use Rattle.std.specs.List.{Contains, list_all, list_any};
 ghost use Rattle.std.specs.Str.{bytes_eq};
 ghost use Rattle.auditor.specs.Rows.{HaveMakers, row_of};
-ghost use Rattle.live_auditor.specs.inside.Found.{FindsNames, IsUsualBy};
+ghost use Rattle.live_auditor.specs.inside.Found.{FindsNames, IsApartBy, IsUsualBy};
 
 use crate::borrowed::Borrowed;
 use crate::survivors::Survivors;
@@ -78,6 +78,29 @@ fn named_in(alloc: Global, digests: &[[u8; 32]], names: &[[u8; 32]]) -> Result<N
     Ok(Named { parents, missing })
 }
 
+/// What the entry names among the survivors, if none of them and no gap is changed by it where it
+/// comes after all of them: it closes no gap, is no fork and doesn't name itself.
+pub(crate) fn apart_names(
+    alloc: Global,
+    gaps: &[[u8; 32]],
+    survivors: &Survivors,
+    entry: &Sealed,
+) -> Result<Option<Named>, AllocError>
+    ensures { IfOk result (λ found. IfSome found (λ named. IsApartBy gaps.now
+        survivors.now.digests.items survivors.now.rows.items entry.now
+        named.parents.items named.missing.items)) }
+{
+    if survivors.digests.len() >= MOST_SURVIVORS
+        || is_among(gaps, entry.digest())
+        || is_among(entry.names(), entry.digest())
+        || is_numbered(survivors.rows.as_slice(), entry.maker(), entry.number())
+    {
+        return Ok(None);
+    }
+    let named = named_in(alloc, survivors.digests.as_slice(), entry.names())?;
+    Ok(Some(named))
+}
+
 /// What the entry names among the survivors, if it is usual.
 fn usual_names(
     alloc: Global,
@@ -90,16 +113,10 @@ fn usual_names(
         survivors.now.digests.items survivors.now.rows.items entry.now
         named.parents.items named.missing.items)) }
 {
-    if survivors.digests.len() >= MOST_SURVIVORS
-        || !is_latest(added, entry)
-        || is_among(gaps, entry.digest())
-        || is_among(entry.names(), entry.digest())
-        || is_numbered(survivors.rows.as_slice(), entry.maker(), entry.number())
-    {
+    if !is_latest(added, entry) {
         return Ok(None);
     }
-    let named = named_in(alloc, survivors.digests.as_slice(), entry.names())?;
-    Ok(Some(named))
+    apart_names(alloc, gaps, survivors, entry)
 }
 
 /// The row of the entry, unless it names itself.

@@ -14,14 +14,19 @@ pub record FindsNames (digests names : List (List ℕ)) (parents : List ℕ) (mi
       ((p : ℕ) × Contains parents p × (slice_get digests p ≡ Some d)) ⊎ Contains missing d
   pub lacks : (d : List ℕ) → Contains missing d → Contains names d × (Contains digests d → ⊥)
 
--- the entry has the highest stamp, the digest of no gap and of none of its names, and the maker and
--- number of no row; its names are at the parents' places, or nowhere
-pub record IsUsualBy (added : List SealedEntry) (gaps digests : List (List ℕ)) (rows : List Row)
-    (e : SealedEntry) (parents : List ℕ) (missing : List (List ℕ)) : Type 0 where
+-- the entry has the digest of no gap and of none of its names, and the maker and number of no row;
+-- its names are at the parents' places, or nowhere
+pub record IsApartBy (gaps digests : List (List ℕ)) (rows : List Row) (e : SealedEntry) (parents : List ℕ)
+    (missing : List (List ℕ)) : Type 0 where
   pub few : length digests < 16384
-  pub latest : list_all (λ (f : SealedEntry). nat_lt f.entry.stamp e.entry.stamp) added ≡ true
   pub closes_none : list_any (λ d. bytes_eq d e.digest) gaps ≡ false
   pub not_itself : list_any (λ d. bytes_eq d e.digest) e.entry.names ≡ false
   pub no_fork : list_any
       (λ (row : Row). (row.maker == e.entry.maker) && (row.number == e.entry.number)) rows ≡ false
   pub finds : FindsNames digests e.entry.names parents missing
+
+-- it has the highest stamp too
+pub record IsUsualBy (added : List SealedEntry) (gaps digests : List (List ℕ)) (rows : List Row)
+    (e : SealedEntry) (parents : List ℕ) (missing : List (List ℕ)) : Type 0 where
+  pub latest : list_all (λ (f : SealedEntry). nat_lt f.entry.stamp e.entry.stamp) added ≡ true
+  pub apart : IsApartBy gaps digests rows e parents missing

@@ -1,7 +1,9 @@
 -- What is kept of the survivors, beside what is said of them.
 use Rattle.std.specs.Prelude.{◌≡◌, ℕ, ◌==◌, not, List, length, map}
+use Rattle.entry_format.specs.Nodes.{node_of_sealed}
+use Rattle.entry_order.specs.Naming.{Distinct}
 use Rattle.entry_format.specs.SealedEntry.{SealedEntry}
-use Rattle.entry_graph.specs.EntryGraph.{EntryGraph, Links, parents_of, ragged_of}
+use Rattle.entry_graph.specs.EntryGraph.{EntryGraph, IsGraphOfGiven, Links, parents_of, ragged_of}
 use Rattle.precedence.specs.Graph.{Graph}
 use Rattle.roster.specs.declared.post.Post.{Post}
 use Rattle.rule_language.specs.declared.formula.Rule.{Rule}
@@ -23,6 +25,14 @@ pub record AreSurvivorsOf (machines : List Post) (graph : EntryGraph SealedEntry
   pub digests : kept.digests ≡ map (λ (e : SealedEntry). e.digest) graph.survivors
   pub rows : kept.rows ≡ map (row_of machines) graph.survivors
   pub links : kept.links ≡ graph.links
+
+-- the graph is that of the entries, of which no two have one digest, with these gaps and survivors
+pub record IsGraphed (machines : List Post) (given : List SealedEntry) (graph : EntryGraph SealedEntry)
+    (gaps : List (List ℕ)) (kept : SurvivorsKept) : Type 0 where
+  pub apart : Distinct node_of_sealed given
+  pub graphed : IsGraphOfGiven node_of_sealed given graph
+  pub are_gaps : gaps ≡ graph.gaps
+  pub survivors : AreSurvivorsOf machines graph kept
 
 -- the summary is that of the entries, and these are the survivors
 pub record IsSummed (machines : List Post) (rules : List RuleTree) (entries : List SealedEntry)

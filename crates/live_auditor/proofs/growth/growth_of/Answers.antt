@@ -1,7 +1,7 @@
 use Rattle.std.proofs.Common.{◌≡◌, Option}
 use Rattle.live_auditor.proofs.Imports.{subst, IfSome, row_of, Usual, live_of, kept_of}
 use Rattle.live_auditor.proofs.Finds.{usual_found}
-use Rattle.live_auditor.proofs.Steps.{falls_next, summed_next, unsummed_next}
+use Rattle.live_auditor.proofs.Steps.{falls_usual, summed_usual, unsummed_usual}
 use Rattle.live_auditor.proofs.growth.growth_of.Goals as goal
 
 pub growth_by-requires-clause-falls : goal.growth_by-requires-clause-falls
@@ -11,7 +11,7 @@ growth_by-requires-clause-falls c =
     let named = c.in-Some.usual.named in
     let usual = usual_found live.added c.gaps-gaps.result.now live.summary.gaps kept.digests kept.rows c.args.entry.now
     c.in_ok-usual.field-0 c.in-Some.usual c.gaps-gaps.ensures c.in-Some.is c.in_ok-usual.ensures.named in
-    falls_next live kept c.requires.kept c.args.entry.now c.requires.room named.parents.items named.missing.items usual
+    falls_usual live kept c.requires.kept c.args.entry.now c.requires.room named.parents.items named.missing.items usual
 
 pub returns-in-Ok-clause-ok : goal.returns-in-Ok-clause-ok
 returns-in-Ok-clause-ok c =
@@ -24,7 +24,7 @@ returns-in-Ok-clause-ok c =
     let same = subst (λ (o : Option Usual). IfSome o (λ u. u.row ≡ row_of live.machines e)) c.in-Some.is
     c.in_ok-usual.ensures.row in
     let growth = c.in-Ok.growth in
-    summed_next live kept c.requires.kept e c.requires.room named.parents.items named.missing.items usual
+    summed_usual live kept c.requires.kept e c.requires.room named.parents.items named.missing.items usual
     c.in-Some.usual.row growth.rows.items growth.link growth.gaps.items growth.verdicts.items same c.in-Ok.ensures.rows
     c.in-Ok.ensures.link c.in-Ok.ensures.gaps c.in-Ok.ensures.verdicts
 
@@ -38,5 +38,5 @@ returns-in-Err-clause-err c =
     c.in_ok-usual.field-0 c.in-Some.usual c.gaps-gaps.ensures c.in-Some.is c.in_ok-usual.ensures.named in
     let same = subst (λ (o : Option Usual). IfSome o (λ u. u.row ≡ row_of live.machines e)) c.in-Some.is
     c.in_ok-usual.ensures.row in
-    unsummed_next live kept c.requires.kept e c.requires.room named.parents.items named.missing.items usual
+    unsummed_usual live kept c.requires.kept e c.requires.room named.parents.items named.missing.items usual
     c.in-Some.usual.row same c.in-Err.fault c.in-Err.ensures.err

@@ -11,7 +11,7 @@ judge_each-requires-clause-later c =
     let known = subst (λ (ls : List Links). IsKnownOf (nodes_by ls) c.in_ok-order.order) c.over-grown.ensures
     c.in_ok-order.ensures in
     subst (λ (r : Ready). ComesBeforeNone (length links) (known_before r.known)) (sym c.in_ok-judge.ensures)
-    (last_comes_last links c.args.last.now c.in_ok-order.order c.requires.falls known)
+    (last_comes_last links c.args.later.now c.in_ok-order.order c.requires.falls known)
 
 pub judge_each-requires-clause-before : goal.judge_each-requires-clause-before
 judge_each-requires-clause-before c =
@@ -24,7 +24,7 @@ judge_each-requires-clause-before c =
     length-take-le (length links) c.args.rows.now (omega (arith, c.requires.one_each)) in
     subst (λ (r : Ready). AreJudgedOver (take (length links) r.rows) (known_before r.known) (known_whole r.known) trees
     c.args.before.now) (sym c.in_ok-judge.ensures)
-    (judged_over links c.args.last.now c.in_ok-order.order c.requires.falls known rows count trees c.args.before.now
+    (judged_over links c.args.later.now c.in_ok-order.order c.requires.falls known rows count trees c.args.before.now
     c.requires.before)
 
 pub returns-clause-err : goal.returns-clause-err

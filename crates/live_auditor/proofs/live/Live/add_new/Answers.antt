@@ -4,6 +4,8 @@ use Rattle.live_auditor.proofs.Imports.{Rule, rule_tree, HasRoomFor, IsTooWideOv
 use Rattle.live_auditor.proofs.Imports.{said_with, kept_with, SurvivorsKept, IsSummed, kept_of}
 use Rattle.live_auditor.proofs.Additions.{wide_over}
 use Rattle.live_auditor.proofs.Kept.{kept_grown}
+use Rattle.live_auditor.proofs.Imports.{Entry}
+use Rattle.live_auditor.proofs.AfterBase.{based}
 use Rattle.live_auditor.proofs.live.Live.add_new.Goals as goal
 
 pub growth_of-requires-clause-room : goal.growth_of-requires-clause-room
@@ -20,10 +22,10 @@ invariant_of-self-in-Ok-Some c =
     (map rule_tree c.as_slice-rules.result.now) (c.as_slice-added.result.now ++ c.args.s ∷ [])
     (said_with c.self.inside.summary grown.gaps.items grown.verdicts.items)
     (kept_with old c.args.s.digest grown.rows.items grown.link))) c.in-Ok-Some.field-0-is c.in-Ok-Some.ensures.ok in
-    kept_grown machines c.self.inside.rules.items c.as_slice-rules.result.now c.self.inside.added.items
+    let kept = kept_grown machines c.self.inside.rules.items c.as_slice-rules.result.now c.self.inside.added.items
     c.as_slice-added.result.now c.push_reserved.new.self.items c.self.inside.summary c.grow.new.self old
     (kept_of c.push.new.self) c.args.s growth.gaps.items growth.verdicts.items growth.rows.items growth.link
-    c.self.invariant
+    c.self.invariant.0
     (subst (λ (l : LiveState). IsOfMachine l.machines c.args.s) (sym c.self.view_is) c.requires.machine)
     (subst (λ (l : LiveState). HasRoomFor l.added c.args.s) (sym c.self.view_is) c.requires.room)
     c.as_slice-rules.ensures.value c.as_slice-added.ensures.value
@@ -34,7 +36,15 @@ invariant_of-self-in-Ok-Some c =
     ∙ ap (λ (k : SurvivorsKept). kept_with k c.digest.result.now growth.rows.items growth.link)
     c.in_ok-reserve-in-Ok-Some-2.ensures.same
     ∙ ap (λ (d : List ℕ). kept_with old d growth.rows.items growth.link) c.digest.ensures.value)
-    summed
+    summed in (
+      kept,
+      based machines c.self.inside.rules.items c.self.inside.rules.items c.self.inside.added.items
+          c.self.inside.added.items c.push_reserved.new.self.items c.args.s c.self.inside.base c.entry.result.now.stamp
+          refl refl
+          (c.push_reserved.ensures.items
+          ∙ ap (λ (es : List SealedEntry). es ++ c.args.s ∷ []) c.in_ok-reserve-in-Ok-Some.ensures.items)
+          (ap (λ (e : Entry). e.stamp) c.entry.ensures.value) c.if-entry-self.false c.self.invariant.1,
+    )
 
 pub returns-in_ok-reserve-in-Ok-Some-2-clause-kept : goal.returns-in_ok-reserve-in-Ok-Some-2-clause-kept
 returns-in_ok-reserve-in-Ok-Some-2-clause-kept c =
@@ -48,7 +58,7 @@ returns-in_ok-reserve-in-Ok-Some-2-clause-kept c =
     let next = kept_grown machines c.self.inside.rules.items c.as_slice-rules.result.now c.self.inside.added.items
     c.as_slice-added.result.now c.push_reserved.new.self.items c.self.inside.summary c.grow.new.self old
     (kept_of c.push.new.self) c.args.s growth.gaps.items growth.verdicts.items growth.rows.items growth.link
-    c.self.invariant
+    c.self.invariant.0
     (subst (λ (l : LiveState). IsOfMachine l.machines c.args.s) (sym c.self.view_is) c.requires.machine)
     (subst (λ (l : LiveState). HasRoomFor l.added c.args.s) (sym c.self.view_is) c.requires.room)
     c.as_slice-rules.ensures.value c.as_slice-added.ensures.value
