@@ -44,8 +44,8 @@ pub fn create_locked<F: Folder>(
         other_name,
         bits.unwrap_or(DEFAULT_BITS) | OWNER_WRITES,
     )?;
-    // Once it is locked no other program of this kind puts one in place, so what was read before can
-    // be compared.
+    // Once it is locked no other program of this kind puts one in place, so what was read before
+    // can be compared.
     match require_as_read(folder, name) {
         Ok(()) => Ok(number),
         Err(reason) => {
@@ -230,7 +230,8 @@ fn remove_unlocked<F: Folder>(folder: &mut F, number: u64, name: &str) -> io::Re
 /// Locks the open file, or fails where another program has.
 fn require_lock<F: Folder>(folder: &mut F, number: u64, name: &str) -> io::Result<()>
     ensures locked { OnOk result (F.is_locked folder.new number) }
-    ensures meanwhile { Does (removed name.now) false (F.moments folder.old) (F.moments folder.new) }
+    ensures meanwhile { Does (removed name.now) false
+        (F.moments folder.old) (F.moments folder.new) }
     ensures spared { F.spares folder.old → F.spares folder.new }
 {
     if folder.lock(number, name)? {

@@ -93,7 +93,8 @@ pub trait Folder {
     fn look(&mut self, name: &str) -> io::Result<Option<Found>>
         ensures found { IfOk result (λ found. Now (moments self.old) (IsLookedUp name.now found)) }
         ensures same { moments self.new ≡ moments self.old }
-        ensures open { (file : List ℕ) (at : ℕ) → is_open self.old file at → is_open self.new file at }
+        ensures open { (file : List ℕ) (at : ℕ) → is_open self.old file at
+            → is_open self.new file at }
         ensures spared { spares self.old → spares self.new };
 
     /// Whether the file that is open to be read is that of the name, read up to this byte. No call
@@ -121,7 +122,8 @@ pub trait Folder {
     /// Whether each regular file that was read is what its name stands for (`stat`).
     fn are_all_as_read(&mut self) -> io::Result<bool>
         ensures seen { IfOk result (λ are. are ≡ true → all_unchanged self.new) }
-        ensures open { (name : List ℕ) (at : ℕ) → is_open self.old name at → is_open self.new name at }
+        ensures open { (name : List ℕ) (at : ℕ) → is_open self.old name at
+            → is_open self.new name at }
         ensures same { moments self.new ≡ moments self.old };
 
     /// Reads the first bytes of a file, which doesn't count as read (`open`, `read`).

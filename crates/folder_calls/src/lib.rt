@@ -2,8 +2,9 @@
 //! are put in place with them.
 //!
 //! [`Folder`] is some twenty calls, each with what it does to the folder and with what a crash may
-//! leave of it. Over them [`finish`] puts files in place: each name has its old or its new bytes after a
-//! crash at any moment, in the files' order, and a set of files is old, or new, or has no mark.
+//! leave of it. Over them [`create_locked`] makes a new file that is locked, and [`finish`] puts
+//! files in place: each name has its old or its new bytes after a crash at any moment, in the
+//! files' order, and a set of files is old, or new, or has no mark.
 #![tactic(auto)]
 
 mod begun;
