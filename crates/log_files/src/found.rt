@@ -32,6 +32,10 @@ use std::thread::{self, Threads};
 // is held up keeps the others waiting for a small part alone.
 const MOST_THREADS: usize = 16;
 
+// The bytes that have to be free for threads to be started, and are kept free until they have
+// ended. So a limit on the address space, which their stacks take up, leaves room for the rest.
+const ROOM: usize = 67_108_864;
+
 // The bytes of the shortest signature, that of W8 at height 5.
 const SHORTEST: usize = 1292;
 
@@ -293,7 +297,7 @@ fn read_rest(alloc: Global, reader: &SealedReader<'_>, firsts: &[usize], found: 
     }
 }
 
-/// Reads the entry of each record where its text stands first, in threads.
+/// Reads the entry of each record where its text stands first, in threads if there is room for them.
 fn read_firsts_in<R: Threads + Sync>(
     rt: &R,
     alloc: Global,
@@ -303,10 +307,12 @@ fn read_firsts_in<R: Threads + Sync>(
 )
     ensures { StayReadBy reader.now.machines reader.now.election found.old found.new }
 {
+    let room = Vec::<u8>::with_capacity(alloc, ROOM);
+    let threads = if room.is_ok() { MOST_THREADS } else { 1 };
     thread::for_each_mut(
         rt,
         found,
-        MOST_THREADS,
+        threads,
         &|at, part: &mut Found|
             ensures { (said : RecordText) →
                 IsReadBy reader.entry.now.machines reader.entry.now.election
