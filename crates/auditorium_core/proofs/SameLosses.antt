@@ -1,24 +1,22 @@
 -- Losses of the same entries on the same ways, in order, are the same but for their causes.
-use Rattle.std.proofs.Common.{length, cond, Bool, true, Some}
+use Rattle.std.proofs.Common.{length, true, Some}
 use Rattle.std.specs.Prelude.{AllPairs, ◌↔◌}
 use Rattle.std.specs.List.{Contains}
-use Rattle.auditorium_core.proofs.Imports.{◌≡◌, ◌∙◌, ℕ, zero, suc, ◌+◌, ◌<◌, inl, inr, List, [], ◌∷◌, refl, sym}
-use Rattle.auditorium_core.proofs.Imports.{ap, subst, arith, All-contains, Contains-none, Contains-head, Contains-later}
+use Rattle.auditorium_core.proofs.Imports.{◌≡◌, ◌∙◌, ℕ, zero, suc, ◌<◌, inl, inr, List, [], ◌∷◌, refl, sym}
+use Rattle.auditorium_core.proofs.Imports.{ap, subst, arith, true≢false, All-contains, Contains-none, Contains-head, Contains-later}
 use Rattle.auditorium_core.proofs.Imports.{element_at, member_at, one_at, slice_get, SealedEntry, Loss}
 use Rattle.auditorium_core.proofs.Imports.{node_of_sealed, history, MachineState, Script, world_of}
 use Rattle.entry_order.specs.declared.event.Event.TheVariants.{Sent}
 use Rattle.entry_order.specs.History.{sent}
 use Rattle.entry_order.specs.Receipt.{IsOrderly}
 use Rattle.entry_order.proofs.Histories.{nth_split}
-use Rattle.entry_order.proofs.Lists.{Contains-cons_cases}
+use Rattle.entry_order.proofs.Lists.{Contains-cons_cases, list_any_of, list_any_some}
 use Rattle.finished_floor.specs.declared.loss.LossWhy.{LossWhy}
 use Rattle.finished_floor.specs.declared.loss.LossWhy.TheVariants.{Scripted, ToStopped, LogFull}
-use Rattle.finished_floor.specs.Arrivals.{is_of}
-use Rattle.finished_floor.specs.Laws.{times_lost}
+use Rattle.finished_floor.specs.Arrivals.{is_lost, is_of}
 use Rattle.finished_floor.specs.Losses.{AreLosses, IsCauseOf, IsOnWay, IsToldBefore}
 use Rattle.finished_floor.specs.Scripted.{is_scripted}
 use Rattle.finished_floor.proofs.Arriving.{is_of_parts, itself}
-use Rattle.std.proofs.lemmas.Bool.{cases_Bool}
 use Rattle.auditorium_core.specs.OneRun.{DiffersInCause, DifferInCauses}
 
 -- both are of one entry, on one way
@@ -140,31 +138,13 @@ one_on_way (z ∷ zs) x y told inside there same =
 -- ---- losses of one world
 
 -- a loss is one of its entry on its way
-lost_some : (losses : List Loss) (l : Loss) → Contains losses l → 0 < times_lost losses l.from l.number l.to
-lost_some [] l c = absurd (Contains-none l c)
-lost_some (x ∷ xs) l c =
-    elim (Contains-cons_cases x xs l c) [
-      | inl is ↦
-          (let here : is_of l.from l.number l.to x ≡ true =
-          subst (λ (y : Loss). is_of l.from l.number l.to y ≡ true) (sym is)
-          (itself l l.from l.number l.to refl refl refl) in
-          let one = ap (λ (b : Bool). cond b 1 0 + times_lost xs l.from l.number l.to) here in
-          omega (arith, one))
-      | inr later ↦ (let some = lost_some xs l later in omega (arith, some))
-    ]
+lost_some : (losses : List Loss) (l : Loss) → Contains losses l → is_lost losses l.from l.number l.to ≡ true
+lost_some losses l c = list_any_of (is_of l.from l.number l.to) losses l c (itself l l.from l.number l.to refl refl refl)
 
 -- what is lost on a way has a loss
-some_lost : (losses : List Loss) (from number to : ℕ) → 0 < times_lost losses from number to →
+some_lost : (losses : List Loss) (from number to : ℕ) → is_lost losses from number to ≡ true →
     (l : Loss) × Contains losses l × (is_of from number to l ≡ true)
-some_lost [] from number to some = absurd (omega (arith, some))
-some_lost (x ∷ xs) from number to some =
-    elim (cases_Bool (is_of from number to x)) [
-      | inl is ↦ (x, Contains-head x xs, is)
-      | inr isnt ↦
-          (let none = ap (λ (b : Bool). cond b 1 0 + times_lost xs from number to) isnt in
-          let (l, inside, of) = some_lost xs from number to (omega (arith, some, none)) in
-          (l, Contains-later x xs l inside, of))
-    ]
+some_lost losses from number to some = list_any_some (is_of from number to) losses some
 
 -- the entry of a machine with a number, if it sent so many
 record IsSentSo (machines : List MachineState) (from number : ℕ) : Type 0 where
@@ -192,15 +172,15 @@ module _ (script : Script) (machines : List MachineState) (orderly : IsOrderly n
   among losses others is also l inside =
       let way = All-contains (IsOnWay machines) losses l is.only inside in
       let so = sent_so machines orderly l.from l.number way.number in
-      let some : 0 < times_lost losses l.from so.entry.entry.number l.to =
-      subst (λ (n : ℕ). 0 < times_lost losses l.from n l.to) (sym so.numbered) (lost_some losses l inside) in
+      let some : is_lost losses l.from so.entry.entry.number l.to ≡ true =
+      subst (λ (n : ℕ). is_lost losses l.from n l.to ≡ true) (sym so.numbered) (lost_some losses l inside) in
       elim (is.each l.from l.to so.entry way.from way.to way.other so.was_sent) [
-        | inl (got, none) ↦ absurd (omega (arith, some, none))
+        | inl (got, none) ↦ absurd (true≢false (sym some ∙ none))
         | inr (unheard, once) ↦ elim (also.each l.from l.to so.entry way.from way.to way.other so.was_sent) [
           | inl (got, none) ↦ absurd (unheard got)
           | inr (not_got, one) ↦
               (let (k, there, of) =
-              some_lost others l.from so.entry.entry.number l.to (omega (arith, one)) in
+              some_lost others l.from so.entry.entry.number l.to one in
               let (from, number, to) = is_of_parts k l.from so.entry.entry.number l.to of in
               (k, there, (sym from, sym so.numbered ∙ sym number, sym to)))
         ]

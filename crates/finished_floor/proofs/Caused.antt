@@ -9,7 +9,7 @@ use Rattle.finished_floor.proofs.Imports.{IsPermutation-sym, SealedEntry, sent, 
 use Rattle.finished_floor.proofs.Imports.{Script, Loss, LossWhy, Scripted, LinkFull, ToStopped, LogFull, SameDigest}
 use Rattle.finished_floor.proofs.Imports.{is_of, ArePlaced, HaveGrown, count_sent, AreScripted, IsLossCause}
 use Rattle.finished_floor.proofs.Imports.{IsLicensed, MachineState, IsWithinStop, world_of, AreMachinesOf}
-use Rattle.finished_floor.proofs.Imports.{AreLostAsScripted, IsCauseOf, IsOnWay, is_before_link, is_kept_off}
+use Rattle.finished_floor.proofs.Imports.{AreLostAsScripted, IsCauseSoFar, IsOnWay, is_before_link, is_kept_off}
 use Rattle.finished_floor.proofs.Imports.{put_before}
 use Rattle.std.specs.Prelude.{All}
 use Rattle.finished_floor.proofs.Arriving.{is_of_parts, itself}
@@ -26,7 +26,7 @@ all_by P xs each k d lt = each (get_or xs k d) (Contains-get_or xs k d lt)
 module _ (script : Script) (ms ns : List MachineState) (of : AreMachinesOf script ms) (grown : HaveGrown ms ns)
     (placed : ArePlaced ns) (before lost after told : List Loss) (losses : after ≡ before ++ lost)
     (moved : IsPermutation after told) (only : All (IsOnWay ms) before)
-    (causes : All (λ loss. IsCauseOf script ms before loss loss.why) before)
+    (causes : All (λ loss. IsCauseSoFar script ms before loss loss.why) before)
     (scripted : AreLostAsScripted script ms before) (licensed : All (IsLicensed script.loses ns) lost) where
   -- the machines are the script's still
   now_of : AreMachinesOf script ns
@@ -140,8 +140,8 @@ module _ (script : Script) (ms ns : List MachineState) (of : AreMachinesOf scrip
       same ∙ at ∙ ap (λ (i : ℕ). Some i) (omega arith)
 
   -- a cause stays
-  cause_still : (l : Loss) → IsOnWay ms l → (why : LossWhy) → IsCauseOf script ms before l why →
-      IsCauseOf script ns told l why
+  cause_still : (l : Loss) → IsOnWay ms l → (why : LossWhy) → IsCauseSoFar script ms before l why →
+      IsCauseSoFar script ns told l why
   cause_still l way Scripted cause = cause
   cause_still l way LinkFull (named, was) =
       let more = put_more l.from l.number l.to way.from in
@@ -164,7 +164,7 @@ module _ (script : Script) (ms ns : List MachineState) (of : AreMachinesOf scrip
       (n, there, (entry, sent_still ms ns grown l.from entry was_sent, numbered, held_still m n _ grows borne))
 
   -- and what is lost in the sweep has one
-  cause_new : (l : Loss) (why : LossWhy) → IsLossCause script.loses ns l why → IsCauseOf script ns told l why
+  cause_new : (l : Loss) (why : LossWhy) → IsLossCause script.loses ns l why → IsCauseSoFar script ns told l why
   cause_new l Scripted cause = cause
   cause_new l LinkFull cause = absurd cause
   cause_new l ToStopped cause = cause
@@ -173,12 +173,12 @@ module _ (script : Script) (ms ns : List MachineState) (of : AreMachinesOf scrip
   cause_new l SameDigest cause = cause
 
   -- each loss that is reported has its cause
-  pub all_caused : All (λ loss. IsCauseOf script ns told loss loss.why) told
+  pub all_caused : All (λ loss. IsCauseSoFar script ns told loss loss.why) told
   all_caused =
-      all_by (λ loss. IsCauseOf script ns told loss loss.why) told
+      all_by (λ loss. IsCauseSoFar script ns told loss loss.why) told
       (λ l c. elim (told_cases l c) [
         | inl old ↦ cause_still l (All-contains (IsOnWay ms) before l only old) l.why
-            (All-contains (λ loss. IsCauseOf script ms before loss loss.why) before l causes old)
+            (All-contains (λ loss. IsCauseSoFar script ms before loss loss.why) before l causes old)
         | inr new ↦ cause_new l l.why (All-contains (IsLicensed script.loses ns) lost l licensed new).cause
       ])
 

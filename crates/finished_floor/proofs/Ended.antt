@@ -39,11 +39,11 @@ module _ (script : Script) (lawful : IsLawful script) (ms : List MachineState) (
       elim whole [
         | inl none ↦ inl none
         | inr (inl stopped) ↦ inr (inl stopped)
-        | inr (inr (inl refused)) ↦ inr (inr (inl refused))
-        | inr (inr (inr (inl full))) ↦ inr (inr (inr (inl full)))
+        | inr (inr (inl (deed, next, refused))) ↦ inr (inr (inr (inr (deed, next, inl refused))))
+        | inr (inr (inr (inl full))) ↦ inr (inr (inl full))
         | inr (inr (inr (inr (inl spent)))) ↦ absurd (not_spent k m is spent)
-        | inr (inr (inr (inr (inr (inl signed))))) ↦ inr (inr (inr (inr (inl signed))))
-        | inr (inr (inr (inr (inr (inr before))))) ↦ inr (inr (inr (inr (inr before))))
+        | inr (inr (inr (inr (inr (inl signed))))) ↦ inr (inr (inr (inl signed)))
+        | inr (inr (inr (inr (inr (inr (deed, next, held)))))) ↦ inr (inr (inr (inr (deed, next, inr held))))
       ]
 
   -- each machine is at its end if the run of each is whole

@@ -11,7 +11,7 @@ use Rattle.finished_floor.proofs.Caused.{all_caused, all_on_way, all_scripted}
 use Rattle.finished_floor.proofs.Ended.{all_at_end}
 use Rattle.finished_floor.proofs.Filled.{zip_from, zip_at, zip_many}
 use Rattle.finished_floor.proofs.Grown.{machines_still, was_at}
-use Rattle.finished_floor.proofs.Heard.{all_others, balanced_moved, got_or_lost}
+use Rattle.finished_floor.proofs.Heard.{all_known, balanced_moved, got_or_lost}
 use Rattle.finished_floor.proofs.Played.{are_orderly, played_again}
 use Rattle.finished_floor.proofs.Roomy.{loses_nothing}
 use Rattle.finished_floor.proofs.Sorted.{told_once}
@@ -61,13 +61,13 @@ module _ (script : Script) (lawful : IsLawful script) (roster : List Post) (ms n
   pub floor_of : IsFloorOf script roster ns told
   floor_of =
       let (lost, split, licensed) = losses in
-      let each = got_or_lost ns told (each_is_heard_or_lost node_of_sealed) once
+      let each = got_or_lost ns told (each_is_heard_or_lost node_of_sealed)
       (balanced_moved node_of_sealed (length ns) (history (world_of ns)) after told (λ a b. []) moved balanced) in
       let only = all_on_way script ms ns left.machines grown placed before lost after told split moved left.only
       left.causes left.scripted licensed in
       let causes = all_caused script ms ns left.machines grown placed before lost after told split moved
       left.only left.causes left.scripted licensed in
-      let others = all_others ns placed told once each only script causes in
+      let known = all_known ns placed told each only script causes in
       record {
         roster = left.roster;
         machines = now_of;
@@ -76,11 +76,10 @@ module _ (script : Script) (lawful : IsLawful script) (roster : List Post) (ms n
           sorted = sorted;
           each = each;
           only = only;
-          causes = causes;
-          others = others;
+          causes = known;
           scripted = all_scripted script ms ns left.machines grown placed before lost after told split moved
               left.only left.causes left.scripted licensed scripted;
         };
-        roomy = loses_nothing script ns now_of orderly told once each only causes others;
+        roomy = loses_nothing script ns now_of orderly told each only known;
         at_end = all_at_end script lawful ns now_of orderly (stamps_are_few node_of_sealed) whole;
       }

@@ -30,8 +30,9 @@ pub use Rattle.entry_order.specs.declared.step.Step.{Step}
 pub use Rattle.finished_floor.specs.Arrivals.{AreOnce, Differ, arriving, got, got_from, is_lost, is_of}
 pub use Rattle.finished_floor.specs.Balance.{IsBalanced}
 pub use Rattle.finished_floor.specs.Done.{did}
-pub use Rattle.finished_floor.specs.Floors.{AreBy, AreGathered, ArePlayedAgain, IsBy, IsFloorOf, pass_of, passes_of}
-pub use Rattle.finished_floor.specs.Laws.{EachIsHeardOrLost, times_lost}
+pub use Rattle.finished_floor.specs.Floors.{AreBy, AreGathered, ArePlayedAgain, IsBy, IsCauseSoFar, IsFloorOf, pass_of}
+pub use Rattle.finished_floor.specs.Floors.{passes_of}
+pub use Rattle.finished_floor.specs.Laws.{EachIsHeardOrLost}
 pub use Rattle.finished_floor.specs.Losses.{AreLostAsScripted, HoldsAnother, IsCauseOf, IsGotOrLost, IsOnWay}
 pub use Rattle.finished_floor.specs.Losses.{IsToldBefore, LosesNothing, is_before_link, is_kept_off, put_before}
 pub use Rattle.finished_floor.specs.OfEntries.{lost_by}

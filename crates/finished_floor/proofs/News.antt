@@ -3,7 +3,7 @@ use Rattle.finished_floor.proofs.Imports.{◌≡◌, ◌∙◌, ℕ, zero, suc, 
 use Rattle.finished_floor.proofs.Imports.{Option, Some, refl, sym, ap, subst, arith, length-append, slice_get}
 use Rattle.finished_floor.proofs.Imports.{Contains, All-nil, slice_get_cases, SealedEntry, Event, Got, sent}
 use Rattle.finished_floor.proofs.Imports.{Contains-none, Script, Loss, count_sent, Waiting, roster_of, MachineState}
-use Rattle.finished_floor.proofs.Imports.{IsFresh, IsMachine, history_there, Post, AreGathered, passes_of, IsCauseOf}
+use Rattle.finished_floor.proofs.Imports.{IsFresh, IsMachine, history_there, Post, AreGathered, passes_of, IsCauseSoFar}
 use Rattle.finished_floor.proofs.Imports.{IsOnWay, IsMachineOf, IsStopOf}
 use Rattle.std.specs.Prelude.{All}
 use Rattle.finished_floor.proofs.Beginnings.{each_push, start_balanced, start_on_way, start_once}
@@ -76,8 +76,8 @@ module _ {B : Type 0} (f : B → List (Option ℕ)) (script : Script) where
     balanced = start_balanced ms losses waits no_losses no_waits (λ k m there. (is.each k m there).1);
     once = start_once ms losses waits no_losses no_waits;
     only = subst (All (IsOnWay ms)) (sym no_losses) (All-nil (IsOnWay ms));
-    causes = subst (λ (l : List Loss). All (λ loss. IsCauseOf script ms l loss loss.why) l) (sym no_losses)
-        (All-nil (λ loss. IsCauseOf script ms [] loss loss.why));
+    causes = subst (λ (l : List Loss). All (λ loss. IsCauseSoFar script ms l loss loss.why) l) (sym no_losses)
+        (All-nil (λ loss. IsCauseSoFar script ms [] loss loss.why));
     scripted = λ from number to lf lt differs low named.
         let none = none_sent from in absurd (omega arith);
     by = zip_from (λ (m : MachineState) row. row ≡ passes_of m.events) f ms by (is.many ∙ sym is.count)

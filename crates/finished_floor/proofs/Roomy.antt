@@ -7,8 +7,8 @@ use Rattle.finished_floor.proofs.Imports.{SealedEntry, Event, Sent, Got, entry_o
 use Rattle.finished_floor.proofs.Imports.{history, sent_in, nth_split, Contains-none, Contains-head}
 use Rattle.finished_floor.proofs.Imports.{Contains-cons_cases, Contains-map_cases, Contains-sent_cases, sent_in_from}
 use Rattle.finished_floor.proofs.Imports.{Cast0, Lose, StopAt, Script, Loss, LossWhy, Scripted, LinkFull, ToStopped}
-use Rattle.finished_floor.proofs.Imports.{LogFull, SameDigest, AreOnce, ArePlaced, is_scripted, Config, MachineState}
-use Rattle.finished_floor.proofs.Imports.{IsMachine, world_of, history_there, AreMachinesOf, IsStopOf, HoldsAnother}
+use Rattle.finished_floor.proofs.Imports.{LogFull, SameDigest, ArePlaced, is_scripted, Config, MachineState}
+use Rattle.finished_floor.proofs.Imports.{IsMachine, world_of, history_there, AreMachinesOf, IsStopOf}
 use Rattle.finished_floor.proofs.Imports.{IsCauseOf, IsGotOrLost, IsOnWay, LosesNothing, is_kept_off, put_before}
 use Rattle.std.specs.Prelude.{All}
 use Rattle.finished_floor.proofs.Handed.{legal_at}
@@ -77,11 +77,9 @@ held_sent ms orderly k m is e c =
     by (Got f) at = orderly.heard k f (there (Got f) at)
 
 module _ (script : Script) (ms : List MachineState) (of : AreMachinesOf script ms)
-    (orderly : IsOrderly node_of_sealed (world_of ms)) (told : List Loss) (once : AreOnce told)
+    (orderly : IsOrderly node_of_sealed (world_of ms)) (told : List Loss)
     (each : IsGotOrLost ms told) (only : All (IsOnWay ms) told)
-    (causes : All (λ loss. IsCauseOf script ms told loss loss.why) told)
-    (others : All (λ loss. loss.why ≡ SameDigest → (m : MachineState) × (slice_get ms loss.to ≡ Some m)
-    × HoldsAnother ms loss.from loss.number m) told) where
+    (causes : All (λ loss. IsCauseOf script ms told loss loss.why) told) where
   -- each of the machines has its place
   placed : ArePlaced ms
   placed = are_placed script ms of
@@ -131,7 +129,7 @@ module _ (script : Script) (ms : List MachineState) (of : AreMachinesOf script m
         | inl (e, within, is_e, _) ↦ (let was_sent : Contains es e =
             (l.number, within, get_or_from_slice_get es l.number e e is_e) in
             let numbered = sent_number ms placed l.from way.from l.number e is_e in
-            let missing = not_held ms placed told once each only l c m is e was_sent numbered in
+            let missing = not_held ms placed told each only l c m is e was_sent numbered in
             let few = different_few (e ∷ held m.events) (sent_in (world_of ms))
             (missing, held_different node_of_sealed m.config.number m.events (placed l.to m is).machine.legal)
             (λ f there. elim (Contains-cons_cases e (held m.events) f there) [
@@ -168,9 +166,7 @@ module _ (script : Script) (ms : List MachineState) (of : AreMachinesOf script m
           (subst (λ (stops : List StopAt). IsStopOf stops l.to m.stop) no_stops
           (of.each l.to m there).stop) stopped
       by LogFull is (m, there, unstopped, full) = not_all logs l c m there full
-      by SameDigest is cause =
-          let (m, there, h) = All-contains (λ (loss : Loss). loss.why ≡ SameDigest → (m : MachineState)
-          × (slice_get ms loss.to ≡ Some m) × HoldsAnother ms loss.from loss.number m) told l others c is in
+      by SameDigest is (m, there, h) =
           h.differs (distinct h.other h.entry (held_sent ms orderly l.to m there h.other h.is_held)
           (sent_in_from (world_of ms) l.from h.entry
           (Contains-sent_cases (history (world_of ms) l.from) h.entry h.was_sent)) h.same)

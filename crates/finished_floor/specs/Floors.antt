@@ -1,5 +1,5 @@
 -- What threads leave, and what a run comes to.
-use Rattle.std.specs.Prelude.{◌≡◌, ℕ, List, ◌++◌, length, map, replicate, All, Option, Some, None}
+use Rattle.std.specs.Prelude.{◌≡◌, ℕ, List, ◌++◌, length, map, replicate, slice_get, All, Option, Some, None}
 use Rattle.std.specs.List.{AllZip}
 use Rattle.entry_format.specs.Nodes.{node_of_sealed}
 use Rattle.entry_format.specs.SealedEntry.{SealedEntry}
@@ -11,10 +11,13 @@ use Rattle.entry_order.specs.World.{World, history}
 use Rattle.roster.specs.declared.post.Post.{Post}
 use Rattle.election_script.specs.declared.script.Script.{Script}
 use Rattle.finished_floor.specs.declared.loss.Loss.{Loss}
+use Rattle.finished_floor.specs.declared.loss.LossWhy.{LossWhy}
+use Rattle.finished_floor.specs.declared.loss.LossWhy.TheVariants.{SameDigest}
 use Rattle.finished_floor.specs.Balance.{IsBalanced}
 use Rattle.finished_floor.specs.Arrivals.{AreOnce}
 use Rattle.finished_floor.specs.declared.sweeping.Waiting.{Waiting}
 use Rattle.finished_floor.specs.Placed.{AreMadeByThese}
+use Rattle.finished_floor.specs.Swept.{HoldsSame}
 use Rattle.finished_floor.specs.Waits.{AreOnWay, waits_of}
 use Rattle.polling_world.specs.Keys.{roster_of}
 use Rattle.polling_world.specs.Machines.{MachineState}
@@ -39,6 +42,13 @@ IsBy events by =
     (done : List (Event SealedEntry)) × (later : List (Event SealedEntry)) × (events ≡ done ++ later)
     × (by ≡ passes_of done ++ replicate (length later) None)
 
+-- why an entry is lost, as it is known while others are still on their way: of what the receiver
+-- holds it isn't known yet that it is another entry
+abbrev pub IsCauseSoFar : Script → List MachineState → List Loss → Loss → LossWhy → Type 0
+IsCauseSoFar script machines losses loss SameDigest =
+    (m : MachineState) × (slice_get machines loss.to ≡ Some m) × HoldsSame machines loss.from loss.number m
+IsCauseSoFar script machines losses loss why = IsCauseOf script machines losses loss why
+
 -- What threads leave: the script's machines; what waits for them; what is lost, with causes; and
 -- who did each event. Each entry that was sent is got, lost or waiting.
 pub record AreGathered (script : Script) (posts : List Post) (states : List MachineState) (waits : List Waiting)
@@ -50,7 +60,7 @@ pub record AreGathered (script : Script) (posts : List Post) (states : List Mach
   pub balanced : IsBalanced node_of_sealed (length states) (history (world_of states)) lost (waits_of waits)
   pub once : AreOnce lost
   pub only : All (IsOnWay states) lost
-  pub causes : All (λ loss. IsCauseOf script states lost loss loss.why) lost
+  pub causes : All (λ loss. IsCauseSoFar script states lost loss loss.why) lost
   pub scripted : AreLostAsScripted script states lost
   pub by : AllZip (λ m row. row ≡ passes_of m.events) states rows
 

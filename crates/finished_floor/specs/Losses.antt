@@ -11,11 +11,9 @@ use Rattle.election_script.specs.declared.script.Script.{Script}
 use Rattle.finished_floor.specs.declared.loss.Loss.{Loss}
 use Rattle.finished_floor.specs.declared.loss.LossWhy.{LossWhy}
 use Rattle.finished_floor.specs.declared.loss.LossWhy.TheVariants.{Scripted, LinkFull, ToStopped, LogFull, SameDigest}
-use Rattle.finished_floor.specs.Arrivals.{got_from, is_of}
-use Rattle.finished_floor.specs.Laws.{times_lost}
+use Rattle.finished_floor.specs.Arrivals.{got_from, is_lost, is_of}
 use Rattle.finished_floor.specs.Placed.{count_sent}
 use Rattle.finished_floor.specs.Scripted.{is_scripted}
-use Rattle.finished_floor.specs.Swept.{HoldsSame}
 use Rattle.polling_world.specs.Machines.{MachineState}
 use Rattle.polling_world.specs.Worlds.{world_of}
 
@@ -23,9 +21,7 @@ use Rattle.polling_world.specs.Worlds.{world_of}
 abbrev pub is_before_link : LossWhy → Bool
 is_before_link Scripted = true
 is_before_link LinkFull = true
-is_before_link ToStopped = false
-is_before_link LogFull = false
-is_before_link SameDigest = false
+is_before_link other = false
 
 -- the entry was never on the link from one machine to another
 abbrev pub is_kept_off : List Loss → ℕ → ℕ → ℕ → Bool
@@ -37,7 +33,7 @@ put_before machines losses from number to =
     filter (λ e. nat_lt e.entry.number number && not (is_kept_off losses from e.entry.number to))
     (sent (history (world_of machines) from))
 
--- the machine holds another entry with the digest of this one
+-- the machine holds another entry with the digest of this one, which is lost where that one is held
 pub record HoldsAnother (machines : List MachineState) (from number : ℕ) (m : MachineState) : Type 0 where
   pub entry : SealedEntry
   pub was_sent : Contains (sent (history (world_of machines) from)) entry
@@ -49,7 +45,7 @@ pub record HoldsAnother (machines : List MachineState) (from number : ℕ) (m : 
 
 -- Why an entry is lost: a line of the script names it; or none does and at least as many entries
 -- with lower numbers were put on the link as it holds; or its receiver has as many events as its
--- stop line says, or, where it hasn't, as its log can have, or holds an entry with its digest.
+-- stop line says, or, where it hasn't, as its log can have, or holds another entry with its digest.
 abbrev pub IsCauseOf : Script → List MachineState → List Loss → Loss → LossWhy → Type 0
 IsCauseOf script machines losses loss Scripted = is_scripted script.loses loss.from loss.number loss.to ≡ true
 IsCauseOf script machines losses loss LinkFull =
@@ -61,7 +57,7 @@ IsCauseOf script machines losses loss LogFull =
     (m : MachineState) × (slice_get machines loss.to ≡ Some m) × (m.stop ≢ Some (length m.events))
     × (length m.events ≡ script.log)
 IsCauseOf script machines losses loss SameDigest =
-    (m : MachineState) × (slice_get machines loss.to ≡ Some m) × HoldsSame machines loss.from loss.number m
+    (m : MachineState) × (slice_get machines loss.to ≡ Some m) × HoldsAnother machines loss.from loss.number m
 
 -- the loss is of an entry that one machine sent, on its way to another
 pub record IsOnWay (machines : List MachineState) (loss : Loss) : Type 0 where
@@ -77,15 +73,15 @@ AreLostAsScripted script machines losses =
     number < count_sent machines from → is_scripted script.loses from number to ≡ true →
     Contains losses (record { from = from; number = number; to = to; why = Scripted })
 
--- Each entry that a machine sent was got by each other machine and isn't lost on its way there, or
--- wasn't got and is lost once.
+-- each entry that a machine sent was got by each other machine and isn't lost on its way there, or
+-- wasn't got and is lost
 abbrev pub IsGotOrLost : List MachineState → List Loss → Type 0
 IsGotOrLost machines losses =
     (from to : ℕ) (e : SealedEntry) → from < length machines → to < length machines → from ≢ to →
     Contains (sent (history (world_of machines) from)) e →
     let got = Contains (got_from node_of_sealed from (history (world_of machines) to)) e in
-    let times = times_lost losses from e.entry.number to in
-    (got × (times ≡ 0)) ⊎ ((got → ⊥) × (times ≡ 1))
+    (got × (is_lost losses from e.entry.number to ≡ false))
+    ⊎ ((got → ⊥) × (is_lost losses from e.entry.number to ≡ true))
 
 -- by sender, then by receiver, then by number
 abbrev pub IsToldBefore : Loss → Loss → Type 0
@@ -99,9 +95,6 @@ pub record AreLosses (script : Script) (machines : List MachineState) (losses : 
   pub each : IsGotOrLost machines losses
   pub only : All (IsOnWay machines) losses
   pub causes : All (λ loss. IsCauseOf script machines losses loss loss.why) losses
-  -- of two entries with one digest, the second is lost where the first is held
-  pub others : All (λ loss. loss.why ≡ SameDigest → (m : MachineState) × (slice_get machines loss.to ≡ Some m)
-      × HoldsAnother machines loss.from loss.number m) losses
   pub scripted : AreLostAsScripted script machines losses
 
 -- Where each link holds as many entries as any machine has actions, each log as many as all have,

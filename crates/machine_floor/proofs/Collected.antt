@@ -14,7 +14,7 @@ use Rattle.machine_floor.proofs.Imports.{Loss, LossWhy, Scripted, LinkFull, ToSt
 use Rattle.machine_floor.proofs.Imports.{got_from, is_lost, is_of, Differ, AreOnce, IsBalanced, is_of_parts, itself}
 use Rattle.machine_floor.proofs.Imports.{other_from, other_to, filter_twice, once_append, differ_sym, is_scripted}
 use Rattle.machine_floor.proofs.Imports.{link_at, Waiting, count_sent, AreOnWay, waits_of, AreGathered, pass_of}
-use Rattle.machine_floor.proofs.Imports.{passes_of, IsCauseOf, IsOnWay, AreLostAsScripted, is_before_link}
+use Rattle.machine_floor.proofs.Imports.{passes_of, IsCauseSoFar, IsOnWay, AreLostAsScripted, is_before_link}
 use Rattle.machine_floor.proofs.Imports.{is_kept_off, put_before, IsMachineOf, IsStopOf, roster_of, MachineState}
 use Rattle.machine_floor.proofs.Imports.{IsFresh, world_of, machine_of, get-map, get-map_from, Post, max_machines}
 use Rattle.machine_floor.proofs.Imports.{StationState, IsStation, IsOfHand, IsOfEar, IsOutCause, IsInCause, made_of}
@@ -516,7 +516,7 @@ module _ (script : Script) (links : List (List LinkView)) (ss : List StationStat
 
     -- the cause of a loss on a link out is one between the machines of the script
     hand_cause : (a : ℕ) (s : StationState) → slice_get ss a ≡ Some s → (x : Loss) (why : LossWhy) → x.from ≡ a →
-        x.to < length ss → x.to ≢ a → IsOutCause s.loses s.link s.outs x why → IsCauseOf script machines lost x why
+        x.to < length ss → x.to ≢ a → IsOutCause s.loses s.link s.outs x why → IsCauseSoFar script machines lost x why
     hand_cause a s p x Scripted from lb apart cause =
         subst (λ n. is_scripted script.loses n x.number x.to ≡ true) (sym from)
         (sym (named a s p x.number x.to) ∙ ap (λ n. is_scripted s.loses n x.number x.to) (sym from) ∙ cause)
@@ -535,7 +535,7 @@ module _ (script : Script) (links : List (List LinkView)) (ss : List StationStat
 
     -- and so is the cause for which an entry wasn't heard
     ear_cause : (b : ℕ) (t : StationState) → slice_get ss b ≡ Some t → (x : Loss) (why : LossWhy) →
-        (off : HeardOff x b t) → IsInCause t.machine off.entry why → IsCauseOf script machines lost x why
+        (off : HeardOff x b t) → IsInCause t.machine off.entry why → IsCauseSoFar script machines lost x why
     ear_cause b t q x Scripted off cause = absurd cause
     ear_cause b t q x LinkFull off cause = absurd cause
     ear_cause b t q x ToStopped off cause =
@@ -564,7 +564,7 @@ module _ (script : Script) (links : List (List LinkView)) (ss : List StationStat
         ]
 
     -- and has its cause between the machines of the script
-    caused : (x : Loss) → Contains lost x → IsCauseOf script machines lost x x.why
+    caused : (x : Loss) → Contains lost x → IsCauseSoFar script machines lost x x.why
     caused x c =
         let (a, s, stands, in_s) = loser x c in
         let number = number_is a s stands in
@@ -607,7 +607,7 @@ module _ (script : Script) (links : List (List LinkView)) (ss : List StationStat
       balanced = balanced;
       once = once;
       only = all_by (IsOnWay machines) lost only;
-      causes = all_by (λ (x : Loss). IsCauseOf script machines lost x x.why) lost caused;
+      causes = all_by (λ (x : Loss). IsCauseSoFar script machines lost x x.why) lost caused;
       scripted = scripted;
       by = zip_maps (λ (m : MachineState) (row : List (Option ℕ)). row ≡ passes_of m.events)
           (λ (s : StationState). s.machine) (λ (s : StationState). by_of s.ticks) ss

@@ -30,7 +30,8 @@ pub use Rattle.finished_floor.proofs.Pushes.{sent-got, sent-push}
 pub use Rattle.finished_floor.specs.Arrivals.{AreOnce, Differ, arriving, got_from, is_lost, is_of}
 pub use Rattle.finished_floor.specs.Balance.{IsBalanced}
 pub use Rattle.finished_floor.specs.Floors.{AreGathered, pass_of, passes_of}
-pub use Rattle.finished_floor.specs.Losses.{AreLostAsScripted, IsCauseOf, IsOnWay, is_before_link, is_kept_off}
+pub use Rattle.finished_floor.specs.Losses.{AreLostAsScripted, IsOnWay, is_before_link, is_kept_off}
+pub use Rattle.finished_floor.specs.Floors.{IsCauseSoFar}
 pub use Rattle.finished_floor.specs.Losses.{put_before}
 pub use Rattle.finished_floor.specs.OfEntries.{loss_of}
 pub use Rattle.finished_floor.specs.Placed.{count_sent}
