@@ -39,7 +39,7 @@ TABLE = "command_parts"
 # What the law on order says, and of which worlds it is proved.
 LAW = ("OrderIsReceiptIn", "Distinct", "OrderIsReceiptInOrderlyWorlds", "OrderIsReceipt")
 # What is said of answers, beside what they are. Only `run` has several right answers, so all of it is read.
-MEANING = ("IsSound", "IsSettled", "IsExact", "IsOrderOfPlaces", "IsAuditOfPlaces", "KeepOrder", "LeaveHonestFiles",
+MEANING = ("IsSound", "IsExact", "IsOrderOfPlaces", "IsAuditOfPlaces", "KeepOrder", "LeaveHonestFiles",
            "HoldsOf", "Completes", "TellsNoneBroken")
 MANY_ANSWERS = "run"
 # What the laws of the top crate say of answers.

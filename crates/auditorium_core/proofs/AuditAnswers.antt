@@ -1,6 +1,6 @@
 -- The answers of `audit`.
 use Rattle.auditorium_core.proofs.Imports.{◌≡◌, ◌≢◌, ◌∙◌, ℕ, List, [], ◌∷◌, map, sym, ap, subst, Ok}
-use Rattle.auditorium_core.proofs.Imports.{IsTrue, AllZip, Completion, GapsAreUnique, Post, SealedEntry}
+use Rattle.auditorium_core.proofs.Imports.{IsTrue, AllZip, Completion, Post, SealedEntry}
 use Rattle.auditorium_core.proofs.Imports.{node_of, node_of_sealed, Plain, plains, plain_rules, entries_of}
 use Rattle.auditorium_core.proofs.Imports.{EntryGraph, IsEntryGraph, parents_of, ragged_of, RuleTree, Holds}
 use Rattle.auditorium_core.proofs.Imports.{RulesAreSettled, UnknownOnlyByGaps, IsJudged, Outcome, row_of}
@@ -69,11 +69,10 @@ some_completion : (report : AuditReport) → IsReport report → (G : List Plain
 some_completion report is =
     some_here report.machines (entries_of report.logs) report.graph is.makers is.graphed
 
--- the verdicts and the gaps of a report mean what they say
+-- the verdicts of a report mean what they say
 pub report_is_sound : (report : AuditReport) → RulesAreSettled node_of_sealed (row_of report.machines) →
-    UnknownOnlyByGaps node_of_sealed (row_of report.machines) → GapsAreUnique node_of_sealed → UnsettledIsExact report →
-    IsReport report → IsSound report
-report_is_sound report settled unknown unique exact is =
+    UnknownOnlyByGaps node_of_sealed (row_of report.machines) → UnsettledIsExact report → IsReport report → IsSound report
+report_is_sound report settled unknown exact is =
     let kept = is.graphed.2.kept in
     record {
       kept = each report.machines report.graph kept settled unknown
@@ -89,7 +88,6 @@ report_is_sound report settled unknown unique exact is =
           (λ rule v. v ≡ verdict.Unsettled → report.graph.gaps ≢ [])
           (unsettled_here report.machines report.graph kept settled unknown) report.rules report.verdicts is.judged;
       exact = exact;
-      gaps = (unique report.graph.survivors report.graph.gaps).0 kept.gaps;
     }
 
 -- the answer of a report

@@ -3,7 +3,7 @@ use Rattle.std.proofs.Common.{length, Bool, true, false}
 use Rattle.std.proofs.Common.{Option}
 use Rattle.auditorium_core.proofs.Imports.{◌≡◌, ◌∙◌, ℕ, ◌+◌, ◌<◌, List, [], ◌∷◌, get_or, drop, sym, subst, ap, inr}
 use Rattle.auditorium_core.proofs.Imports.{refl, Result, drop_more, PutsFile, Failed, with_files, SetsSome, PutsAll}
-use Rattle.auditorium_core.proofs.Imports.{puts, fails, PlacesAll, no_files, finishes, Files, with_file}
+use Rattle.auditorium_core.proofs.Imports.{inl, PlacesAll, StoreGhosts, Files, with_file}
 
 -- the rest of the files begins with the one at its place
 rest_from : (files : List (List ℕ × List ℕ)) (i : ℕ) (file : List ℕ × List ℕ) → i < length files →
@@ -22,24 +22,21 @@ as_put {S} create append old mid (its_name, its_bytes) name bytes done ok same_n
     subst R same (subst Q same_bytes (subst P same_name put))
 
 -- the file at this place is put, and then the rest
-pub put_next : {S : Type 0} (create : List ℕ → S → Bool → S → Type 0)
-    (append : List ℕ → S → List ℕ → Result ℕ Failed → S → Type 0) (old mid end : S) (files : List (List ℕ × List ℕ))
-    (i : ℕ) (file : List ℕ × List ℕ) (ok : Bool) → i < length files → file ≡ get_or files i file →
-    PutsFile (create file.0) (append file.0) old file.1 true mid → PutsAll create append mid
-    (drop (i + 1) files) ok end →
-    PutsAll create append old (drop i files) ok end
-put_next {S} create append old mid end files i file ok within is put rest =
-    let P : List (List ℕ × List ℕ) → Type 0 = λ fs. PutsAll create append old fs ok end in
-    subst P (rest_from files i file within is) (puts old mid end file (drop (i + 1) files) ok put rest)
+pub put_next : {S : Type 0} (of : StoreGhosts S) (old mid end : S) (files : List (List ℕ × List ℕ)) (i : ℕ)
+    (file : List ℕ × List ℕ) (ok : Bool) → i < length files → file ≡ get_or files i file →
+    PutsFile (of.creates file.0) (of.appends file.0) old file.1 true mid → PutsAll of mid (drop (i + 1) files) ok end →
+    PutsAll of old (drop i files) ok end
+put_next {S} of old mid end files i file ok within is put rest =
+    let P : List (List ℕ × List ℕ) → Type 0 = λ fs. PutsAll of old fs ok end in
+    subst P (rest_from files i file within is) (inr (mid, put, rest))
 
 -- the file at this place isn't put whole, so no later one is
-pub put_fails : {S : Type 0} (create : List ℕ → S → Bool → S → Type 0)
-    (append : List ℕ → S → List ℕ → Result ℕ Failed → S → Type 0) (old end : S) (files : List (List ℕ × List ℕ))
-    (i : ℕ) (file : List ℕ × List ℕ) → i < length files → file ≡ get_or files i file →
-    PutsFile (create file.0) (append file.0) old file.1 false end → PutsAll create append old (drop i files) false end
-put_fails {S} create append old end files i file within is put =
-    let P : List (List ℕ × List ℕ) → Type 0 = λ fs. PutsAll create append old fs false end in
-    subst P (rest_from files i file within is) (fails old end file (drop (i + 1) files) put)
+pub put_fails : {S : Type 0} (of : StoreGhosts S) (old end : S) (files : List (List ℕ × List ℕ)) (i : ℕ)
+    (file : List ℕ × List ℕ) → i < length files → file ≡ get_or files i file →
+    PutsFile (of.creates file.0) (of.appends file.0) old file.1 false end → PutsAll of old (drop i files) false end
+put_fails {S} of old end files i file within is put =
+    let P : List (List ℕ × List ℕ) → Type 0 = λ fs. PutsAll of old fs false end in
+    subst P (rest_from files i file within is) (inl (put, refl))
 
 -- the file at this place set, and then the rest, are the files from its place on
 pub set_next : (old mid : Option Files) (files : List (List ℕ × List ℕ)) (i : ℕ) (file : List ℕ × List ℕ) →
@@ -60,17 +57,19 @@ some_next old mid new files i file within is set rest =
     subst P (rest_from files i file within is) (inr (subst Q set rest))
 
 -- where there are no files, no call is made
-pub none_placed : {S : Type 0} (create : List ℕ → S → Bool → S → Type 0)
-    (append : List ℕ → S → List ℕ → Result ℕ Failed → S → Type 0) (finish : S → Bool → S → Type 0) (now : S)
-    (files : List (List ℕ × List ℕ)) → length files ≡ 0 → PlacesAll create append finish now files true now
-none_placed create append finish now [] none = no_files now
-none_placed create append finish now (file ∷ files) none = absurd (let no : ⊥ = cc in no)
+pub none_placed : {S : Type 0} (of : StoreGhosts S) (now : S) (files : List (List ℕ × List ℕ)) → length files ≡ 0 →
+    PlacesAll of now files true now
+none_placed of now [] none = (refl, refl)
+none_placed of now (file ∷ files) none = absurd (let no : ⊥ = cc in no)
+
+-- where one isn't put whole, they aren't placed
+pub not_placed : {S : Type 0} (of : StoreGhosts S) (old new : S) (files : List (List ℕ × List ℕ)) →
+    PutsAll of old files false new → PlacesAll of old files false new
+not_placed of old new [] (same, done) = absurd (let no : false ≡ true = done in cc)
+not_placed of old new (file ∷ files) put = inl (put, refl)
 
 -- where there are some, they are put, and the last call says that they are all
-pub placed : {S : Type 0} (create : List ℕ → S → Bool → S → Type 0)
-    (append : List ℕ → S → List ℕ → Result ℕ Failed → S → Type 0) (finish : S → Bool → S → Type 0)
-    (old mid new : S) (files : List (List ℕ × List ℕ)) (ok : Bool) → (length files ≡ 0 → ⊥) →
-    PutsAll create append old files true mid → finish mid ok new → PlacesAll create append finish old files ok new
-placed create append finish old mid new [] ok some put done = absurd (some refl)
-placed create append finish old mid new (file ∷ files) ok some put done =
-    finishes old mid new file files ok put done
+pub placed : {S : Type 0} (of : StoreGhosts S) (old mid new : S) (files : List (List ℕ × List ℕ)) (ok : Bool) →
+    (length files ≡ 0 → ⊥) → PutsAll of old files true mid → of.finishes mid ok new → PlacesAll of old files ok new
+placed of old mid new [] ok some put done = absurd (some refl)
+placed of old mid new (file ∷ files) ok some put done = inr (mid, put, done)

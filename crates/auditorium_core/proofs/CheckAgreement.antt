@@ -170,11 +170,7 @@ checks_agree order one roster rules proof logs roster_file rules_file log_files 
     let files : List (Option (List ℕ)) = files_read roster_file source rules_file (log_files ++ Some text ∷ []) in
     let here = subst (λ (t : List ℕ). GivesCheck roster source proof logs
     (files_read roster_file source rules_file (log_files ++ Some t ∷ [])) (Ok (check_of report))) same found in
-    record {
-      told = by files here checks;
-      sound =
-          given_is_sound roster source logs (files_read roster_file source rules_file log_files) report audits;
-    }
+    (by files here checks, given_is_sound roster source logs (files_read roster_file source rules_file log_files) report audits)
   where
     -- by what the check answers over files that give this report
     by : (files : List (Option (List ℕ))) →

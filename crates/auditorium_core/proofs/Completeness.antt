@@ -4,7 +4,7 @@ use Rattle.auditorium_core.proofs.Imports.{inl, inr, ℕ, List, refl, sym, subst
 use Rattle.auditorium_core.proofs.Imports.{command_parts, Outside, HasDone, IsGivenSomehow, IsCarriedOut, HasNoFailure}
 use Rattle.auditorium_core.proofs.Imports.{IsAnsweredOver, IsComplete, StoreGhosts, SinkGhosts, IsGivenBy, outside}
 use Rattle.auditorium_core.proofs.Imports.{on_weaker}
-use Rattle.auditorium_core.specs.Complete.{IsAnsweredFor, IsCompleteAsRead}
+use Rattle.auditorium_core.specs.Complete.{IsCompleteAsRead}
 use Rattle.auditorium_core.proofs.CitedLaws.{CitedLaws}
 use Rattle.auditorium_core.proofs.Commands.{are_completed, of_command}
 use Rattle.auditorium_core.proofs.DoneCases.{Giving, WasGiven, done_cases}
@@ -12,7 +12,7 @@ use Rattle.auditorium_core.proofs.Exposed.{exposed_weaker}
 
 -- where no count rose, no write failed
 no_cut : (old new : Outside) → HasNoFailure old new →
-    HasRisen old.store.write_faults new.store.write_faults ⊎ HasRisen old.output_faults new.output_faults → ⊥
+    HasRisen old.write_faults new.write_faults ⊎ HasRisen old.output_faults new.output_faults → ⊥
 no_cut old new fault (inl risen) = fault.writes risen
 no_cut old new fault (inr risen) = fault.output risen
 
@@ -31,7 +31,7 @@ complete laws IsDone words old how new =
         IsComplete IsDone words old how new
     answered how (answer, gives, told, written) command done means fault =
         let parts = command_parts command in
-        inl (exposed_weaker old.store.files parts.files (λ files. parts.IsAnswer files answer)
+        inl (exposed_weaker old.files parts.files (λ files. parts.IsAnswer files answer)
         (λ files. IsAnsweredOver command files old how new)
         (λ files right. record {
           answer = answer;
@@ -39,7 +39,7 @@ complete laws IsDone words old how new =
           told = told;
           carried_out = λ given. subst IsCarriedOut (sym told) (are_completed laws command files answer right given);
           written = written;
-        }) (of_command IsDone words (OnExposed old.store.files) command answer done means gives.answers))
+        }) (of_command IsDone words (OnExposed old.files) command answer done means gives.answers))
 
 module _ (laws : CitedLaws) {S K : Type 0} (of_store : StoreGhosts S) (of_sink : SinkGhosts K)
     (IsDone : Command → Type 0) (words : List (List ℕ)) (store store_after : S) (out out_after : K) where
@@ -69,12 +69,11 @@ module _ (laws : CitedLaws) {S K : Type 0} (of_store : StoreGhosts S) (of_sink :
         told = told;
         read = read;
         right = on_weaker of_store parts.files (λ files. parts.IsAnswer files answer)
-            (IsAnsweredFor command answer how) store read
-            (λ files many right. record {
-              right = right;
-              carried_out = λ accepted. subst IsCarriedOut (sym told)
-                  (are_completed laws command files answer right accepted);
-            }) on;
+            (λ files. parts.IsAnswer files answer × (parts.AreAccepted files → IsCarriedOut how)) store read
+            (λ files many right. (
+              right,
+              λ accepted. subst IsCarriedOut (sym told) (are_completed laws command files answer right accepted),
+            )) on;
         written = calls;
       })
 

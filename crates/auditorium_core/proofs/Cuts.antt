@@ -77,17 +77,17 @@ all_set_where (Err failed) old new files all =
 
 -- the output was cut short after all files
 pub output_cut : (result : Result (Unit {0}) Failed) (answer : Answer) (old new : Outside)
-    → new.store.files ≡ with_files old.store.files answer.files
+    → new.files ≡ with_files old.files answer.files
     → OnErr result (AppendsPrefix old.output answer.output new.output)
     → HasCause old.output_faults new.output_faults (IsErr result)
     → OnErr result (IsCutShort answer old new)
 output_cut (Ok done) answer old new files prefix cause = tt
 output_cut (Err failed) answer old new files prefix cause =
     let risen : HasRisen old.output_faults new.output_faults = cause.only refl in
-    let P : Option Files → Type 0 = λ now. SetsSome old.store.files answer.files now in
+    let P : Option Files → Type 0 = λ now. SetsSome old.files answer.files now in
     record {
       cause = inr risen;
-      files = subst P (sym files) (all_set old.store.files answer.files);
+      files = subst P (sym files) (all_set old.files answer.files);
       output = prefix;
       all_files = λ none. files;
       no_output = λ none. absurd (none risen);

@@ -91,11 +91,11 @@ module _ (script : Script) (lawful : IsLawful script) (session : ℕ) (machines 
   has_left : (bytes : List ℕ) → IsKeptOf session 0 (history (world_of machines) 0) bytes →
       HasLeft script (world_of machines) roster (Some bytes ∷ [])
   has_left bytes kept =
-      let left : IsLeftIn (world_of machines) bytes = record {
-        machine = 0;
-        there = omega (arith, some_machine script lawful machines played, length-map machines machine_of);
-        left = kept_is_left session 0 (history (world_of machines) 0) bytes kept;
-      } in
+      let left : IsLeftIn (world_of machines) bytes = (
+        0,
+        omega (arith, some_machine script lawful machines played, length-map machines machine_of),
+        kept_is_left session 0 (history (world_of machines) 0) bytes kept,
+      ) in
       let P : Option (List ℕ) → Type 0 = λ file. IsSomeAnd file (IsLeftIn (world_of machines)) in
       record {
         roster = record { steps = script.steps; lawful = lawful; comes = played.played; text = refl };

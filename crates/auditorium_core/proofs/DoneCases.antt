@@ -1,7 +1,7 @@
 -- What was done, by the status with which the program ends.
 use Rattle.std.proofs.Common.{Option, Bool, true, false}
 use Rattle.auditorium_core.proofs.Imports.{◌≡◌, ℕ, List, Status, Command, Answer, AnswersWords, IsOfAnswers, Outside}
-use Rattle.auditorium_core.proofs.Imports.{GivesAnswer, IsWritten, HasDone}
+use Rattle.auditorium_core.proofs.Imports.{IsAnswerOf, IsWritten, HasDone}
 use Rattle.auditorium_core.specs.declared.status.Status.TheVariants as status
 
 -- how it is said of an answer that all the calls that give it, or all but the last, did as they
@@ -13,7 +13,7 @@ module _ (IsDone : Command → Type 0) (words : List (List ℕ)) (IsGiven : Givi
   -- an answer was given whole, which has the status
   abbrev pub WasGiven : Status → Type 0
   WasGiven how =
-      (answer : Answer) × GivesAnswer IsDone words (IsGiven answer true) old new answer × (how ≡ answer.status)
+      (answer : Answer) × IsAnswerOf IsDone words (IsGiven answer true) old new answer × (how ≡ answer.status)
       × IsWritten answer old new
 
   -- so the program has done it
@@ -49,6 +49,6 @@ done_as IsDone IsDone' words IsGiven IsGiven' old new step =
     is_done IsDone' words IsGiven' old new how some (answer, given answer true gives, told, written))
   where
     -- the answer is right, and the calls are the same
-    given : (answer : Answer) (ok : Bool) → GivesAnswer IsDone words (IsGiven answer ok) old new answer →
-        GivesAnswer IsDone' words (IsGiven' answer ok) old new answer
+    given : (answer : Answer) (ok : Bool) → IsAnswerOf IsDone words (IsGiven answer ok) old new answer →
+        IsAnswerOf IsDone' words (IsGiven' answer ok) old new answer
     given answer ok gives = record { answers = step answer ok gives.answers; absent = gives.absent }

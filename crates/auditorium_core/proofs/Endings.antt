@@ -5,7 +5,7 @@ use Rattle.auditorium_core.proofs.Imports.{HasRisen, ComesExactly, Files, Answer
 use Rattle.auditorium_core.proofs.Imports.{OnRead, none_read, no_cause, stands, Fault, Status, Answer, usage_answer}
 use Rattle.auditorium_core.proofs.Imports.{[], arith, Command, command_parts, office, run}
 use Rattle.auditorium_core.proofs.Imports.{AreGood, IsAny, IsStill, Means, AnswersWords, IsOfAnswers, TellsAbsence}
-use Rattle.auditorium_core.proofs.Imports.{WordsTellAbsence, Outside, outside, with_files, SetsSome, GivesAnswer}
+use Rattle.auditorium_core.proofs.Imports.{Outside, outside, with_files, SetsSome, IsAnswerOf}
 use Rattle.auditorium_core.proofs.Imports.{IsGivenBy, IsUnwritten, IsWrittenBy, HasDone, IsToldAs, EndsWith}
 use Rattle.auditorium_core.proofs.Imports.{IsAnswerAsRead, IsAnsweredBy, AreAnswered}
 use Rattle.auditorium_core.specs.declared.answer.Fault.TheVariants as fault
@@ -45,11 +45,12 @@ module _ {S : Type 0} (of : StoreGhosts S) (IsDone : Command → Type 0) (words 
 
       -- and it says that a file is absent exactly where it does so for the command, which is the
       -- only one of the words
-      absent : (result : Result Answer Fault) → IfOk result (λ answer. Comes (TellsAbsence command answer)) →
-          IfOk result (λ answer. Comes (WordsTellAbsence words answer))
+      absent : (result : Result Answer Fault) → IfOk result (λ answer. Comes (answer.status ≡ (command_parts command).absence)) →
+          IfOk result (λ answer. Comes (TellsAbsence words answer))
       absent (Ok answer) comes = record {
         only = λ (other, means', is). comes.only
-            (subst (λ (c : Command). TellsAbsence c answer) (same_command words other command means' means) is);
+            (subst (λ (c : Command). answer.status ≡ (command_parts c).absence)
+            (same_command words other command means' means) is);
         always = λ more. (command, means, comes.always more);
       }
       absent (Err why) comes = tt
@@ -90,11 +91,11 @@ module _ {S K : Type 0} (of_store : StoreGhosts S) (of_sink : SinkGhosts K) (IsD
 
   -- the answer was made in this call
   gives : (answer : Answer) (ok : Bool) → AreAnswered of_store IsDone words store (Ok answer) read →
-      new.store.answered ≡ mid.store.answered → IsTold answer ok →
-      GivesAnswer IsDone words (IsGiven answer ok) old new answer
+      new.answered ≡ mid.answered → IsTold answer ok →
+      IsAnswerOf IsDone words (IsGiven answer ok) old new answer
   gives answer ok made same told =
-      let P : Answered → Type 0 = λ a. ComesExactly old.store.answered.absences a.absences
-      (WordsTellAbsence words answer) in
+      let P : Answered → Type 0 = λ a. ComesExactly old.answered.absences a.absences
+      (TellsAbsence words answer) in
       record {
         answers = answers_weaker IsDone words answer (λ names P. OnRead of_store names P store read)
             (IsGiven answer ok) (λ names P on. (read, on, made.files, made.write_faults, told)) made.answer;
@@ -103,11 +104,11 @@ module _ {S K : Type 0} (of_store : StoreGhosts S) (of_sink : SinkGhosts K) (IsD
 
   -- making it changed no file, so what is written is seen against the files as they were
   was_told : (answer : Answer) (how : Status) → AreAnswered of_store IsDone words store (Ok answer) read →
-      new.store.answered ≡ mid.store.answered → IsToldAs answer IsTold mid how new →
+      new.answered ≡ mid.answered → IsToldAs answer IsTold mid how new →
       HasDone IsDone words IsGiven old how new
   was_told answer how made same (inl (is, told, written)) =
       is_done IsDone words IsGiven old new how
-      (subst IsOfAnswers (sym is) (status_words IsDone words old.store.files answer
+      (subst IsOfAnswers (sym is) (status_words IsDone words old.files answer
       (over_exposed of_store IsDone words answer store read made.answer)).some) (
         answer,
         gives answer true made same told,
@@ -122,13 +123,13 @@ module _ {S K : Type 0} (of_store : StoreGhosts S) (of_sink : SinkGhosts K) (IsD
         answer,
         gives answer false made same told,
         record {
-          cause = subst (λ (w : ℕ). HasRisen w new.store.write_faults ⊎ HasRisen old.output_faults new.output_faults)
+          cause = subst (λ (w : ℕ). HasRisen w new.write_faults ⊎ HasRisen old.output_faults new.output_faults)
               made.write_faults cut.cause;
-          files = subst (λ (f : Option Files). SetsSome f answer.files new.store.files) made.files cut.files;
+          files = subst (λ (f : Option Files). SetsSome f answer.files new.files) made.files cut.files;
           output = cut.output;
           all_files = λ none.
               cut.all_files (λ risen. none
-              (subst (λ (w : ℕ). HasRisen w new.store.write_faults) made.write_faults risen))
+              (subst (λ (w : ℕ). HasRisen w new.write_faults) made.write_faults risen))
               ∙ ap (λ (f : Option Files). with_files f answer.files) made.files;
           no_output = cut.no_output;
         },
@@ -138,9 +139,9 @@ module _ {S K : Type 0} (of_store : StoreGhosts S) (of_sink : SinkGhosts K) (IsD
   unwritten : (result : Result Answer Fault) → AreAnswered of_store IsDone words store result read → new ≡ mid →
       IsUnwritten old new
   unwritten result made same = record {
-    files = ap (λ (o : Outside). o.store.files) same ∙ made.files;
+    files = ap (λ (o : Outside). o.files) same ∙ made.files;
     output = ap (λ (o : Outside). o.output) same;
-    write_faults = ap (λ (o : Outside). o.store.write_faults) same ∙ made.write_faults;
+    write_faults = ap (λ (o : Outside). o.write_faults) same ∙ made.write_faults;
     output_faults = ap (λ (o : Outside). o.output_faults) same;
   }
 
@@ -151,15 +152,15 @@ module _ {S K : Type 0} (of_store : StoreGhosts S) (of_sink : SinkGhosts K) (IsD
   was_done (Ok answer) how made (told, same) = was_told answer how made same told
   was_done (Err fault.ReadFault) how made (is, same) =
       subst (λ (s : Status). HasDone IsDone words IsGiven old s new) (sym is) (
-        subst (λ (o : Outside). HasRisen old.store.read_faults o.store.read_faults) (sym same)
+        subst (λ (o : Outside). HasRisen old.read_faults o.read_faults) (sym same)
             (made.read_fault.only refl),
         unwritten (Err fault.ReadFault) made same,
       )
   was_done (Err fault.Memory) how made (is, same) =
       subst (λ (s : Status). HasDone IsDone words IsGiven old s new) (sym is) (
         unwritten (Err fault.Memory) made same,
-        ap (λ (o : Outside). o.store.read_faults) same
-            ∙ stands old.store.read_faults mid.store.read_faults made.read_fault (λ e. cc),
+        ap (λ (o : Outside). o.read_faults) same
+            ∙ stands old.read_faults mid.read_faults made.read_fault (λ e. cc),
       )
 
 -- where the words are no run's, what was done without threads is what is to be done

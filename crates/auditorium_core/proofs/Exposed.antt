@@ -41,5 +41,5 @@ done_over_exposed of_store of_sink IsDone words store store_after out out_after 
     let IsGiven : Giving = IsGivenBy of_store of_sink store out store_after out_after in
     let old : Outside = outside of_store of_sink store out in
     done_as IsDone IsDone words IsGiven (IsGivenSomehow old) old (outside of_store of_sink store_after out_after)
-    (λ answer ok. answers_weaker IsDone words answer (IsGiven answer ok) (OnExposed old.store.files)
+    (λ answer ok. answers_weaker IsDone words answer (IsGiven answer ok) (OnExposed old.files)
     (λ names P (read, on, files, faults, calls). on_exposed of_store names P store read on))

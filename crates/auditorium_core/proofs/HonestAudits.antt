@@ -40,9 +40,9 @@ module _ (script : Script) (w : World SealedEntry) (roster : Option (List ℕ)) 
       let so = λ (apart : Distinct node_of_sealed (sent_in w)).
       audits_are_refused_only_so script w roster files place apart name source rules names refusal gives in
       record {
-        honest = λ apart. inl (refusal, so apart, told);
-        kept = λ apart plain all whole.
-            absurd (subst (λ (s : RuleSource). IsHonestRefusal script w s rules files refusal) plain (so apart));
+        honest = λ apart. inr (refusal, so apart, told);
+        done = λ apart plain all whole.
+            absurd (subst (λ (s : RuleSource). IsHonestRefusal s rules refusal) plain (so apart));
         shown = λ all how.
             absurd (no_report refusal (subst IsOfReport (ap (λ (a : Answer). a.status) told) how));
       }
@@ -71,26 +71,17 @@ module _ (script : Script) (w : World SealedEntry) (roster : Option (List ℕ)) 
     of_report : IsAuditOfPlace script w source rules names files answer
     of_report = record {
       honest = λ apart.
-          inr (record {
+          inl (record {
             report = report;
             told = told;
             honest = accuses_nobody apart;
             none_broken = none_is_broken apart;
-            not_broken = λ plain broken.
-                (none_is_broken apart plain).outcome
-                (only_broken (outcome_of report) (sym (ap (λ (a : Answer). a.status) told) ∙ broken));
             all_kept = all_are_kept;
             unsettled = reports_leave_rules_open script w roster files place apart name source rules names report gives;
           });
-      kept = λ apart plain all whole.
+      done = λ apart plain all whole.
           let says = all_are_kept plain all in
-          record {
-            report = report;
-            honest = accuses_nobody apart;
-            told = told;
-            kept = says;
-            done = ap (λ (a : Answer). a.status) told ∙ ap status_by (says.nothing (says.clean whole));
-          };
+          ap (λ (a : Answer). a.status) told ∙ ap status_by (says.nothing (says.clean whole));
       shown = λ all how.
           whole_reports_show_distinct script w roster place.roster files all name source rules names report gives;
     }

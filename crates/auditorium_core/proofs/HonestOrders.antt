@@ -5,7 +5,7 @@ use Rattle.auditorium_core.proofs.Imports.{sent_in, one_order, EntryGraph, LogRe
 use Rattle.auditorium_core.proofs.Imports.{entries_of, GivesLogs, Refusal, absent, refused, GivesRoster}
 use Rattle.auditorium_core.proofs.Imports.{IsHonestWorld, AreAllFilesOf, IsOfScript, scripts_are_honest}
 use Rattle.auditorium_core.proofs.Imports.{logs_have_makers, survivors_have_makers, Answer, OrRefused, refusal_answer}
-use Rattle.auditorium_core.proofs.Imports.{IsHonestOrder, IsHonestWord, IsOrderOfPlace, no_first, no_second, both}
+use Rattle.auditorium_core.proofs.Imports.{IsHonestlyRead, IsHonestOrder, IsHonestWord, IsOrderOfPlace}
 use Rattle.auditorium_core.proofs.Imports.{IsOrderAmong, IsOrderAnswer, IsOrderOf, IsOrderOver, IsOrderOverLogs}
 use Rattle.auditorium_core.proofs.Imports.{IsOrderUnder}
 use Rattle.std.proofs.Common.{Option, length}
@@ -18,9 +18,9 @@ use Rattle.honest_logs.proofs.RosterTexts.{read_of_script, world_of_script}
 use Rattle.honest_reports.specs.Places.{HasLeft}
 use Rattle.honest_reports.proofs.RosterGiven.{read_same, roster_not_refused}
 use Rattle.auditorium_core.specs.declared.status.Status.TheVariants as status
-use Rattle.auditorium_core.specs.Honest.{AreReadUnder}
 use Rattle.auditorium_core.proofs.PlainSurvivors.{is_exact}
 use Rattle.auditorium_core.proofs.EntryTexts.{named_has}
+use Rattle.auditorium_core.proofs.OrderWords.{word_is_settled}
 use Rattle.auditorium_core.proofs.HonestWords.{word_exact, word_in, word_known}
 
 -- no refusal has the status of a word
@@ -43,16 +43,16 @@ module _ (script : Script) (w : World SealedEntry) (roster : Option (List ℕ)) 
   world = scripts_are_honest script place.roster.lawful place.roster.steps w place.roster.comes
 
   module _ (apart : Distinct node_of_sealed (sent_in w)) (logs : List LogRead) (graph : EntryGraph SealedEntry)
-      (read : AreReadUnder script w names files logs graph) where
+      (read : IsHonestlyRead posts (election_of posts) w names files logs graph) where
     -- survivors were sent
     were_sent : (e : SealedEntry) → Contains graph.survivors e → Contains (sent_in w) e
-    were_sent e c = read.honest.agrees.completed.keeps e c
+    were_sent e c = read.honest.completed.keeps e c
 
     -- what was sent completes the survivors
     completed : Completion node_of_sealed (length posts) graph.survivors (sent_in w)
     completed =
         subst (λ (n : ℕ). Completion node_of_sealed n graph.survivors (sent_in w)) world.one_each
-        read.honest.agrees.completed
+        read.honest.completed
 
     -- of two entries one alone was held before the other, since stamps rise
     no_cycle : (g h : SealedEntry) → HeldBefore w g h → HeldBefore w h g → ⊥
@@ -66,40 +66,35 @@ module _ (script : Script) (w : World SealedEntry) (roster : Option (List ℕ)) 
     -- where all logs are there, there is no gap
     no_gap : AreAllFilesOf w files → gaps node_of_sealed graph.survivors ≡ []
     no_gap whole =
-        (read.honest.agrees.all_known (λ e c. (read.honest.members e).1
-        (all_given w logs (read.all whole) e c))).no_gaps
+        sym read.gives_graph.2.kept.gaps ∙ (read.honest.all_told (read.all whole)).no_gap
 
     -- the word printed of two survivors is an honest one
     honest_word : (e f : SealedEntry) (answer : Answer) → Contains graph.survivors e → Contains graph.survivors f →
-        (order : IsOrderOf posts graph.survivors e f answer) → IsHonestWord w files e f order.word
+        (order : IsOrderOf graph.survivors e f answer) → IsHonestWord w files e f order.word
     honest_word e f answer has_e has_f order =
         let right =
         word_in w e f (one_order node_of_sealed w world.orderly apart) (were_sent e has_e) (were_sent f has_f)
-        (length posts) graph.survivors completed order.word order.settled in
+        (length posts) graph.survivors completed order.word
+        (word_is_settled (length posts) graph.survivors e f order.word has_e has_f order.right) in
         record {
-          first = were_sent e has_e;
-          second = were_sent f has_f;
           right = right;
           exact = λ whole.
               word_exact w e f no_cycle order.word
               (word_known w e f graph.survivors (no_gap whole) order.word order.right) right;
         }
 
-    -- the answer is an honest one over these files
-    abbrev IsHonest : Answer → Type 0
-    IsHonest = IsHonestOrder script w x y names files
-
-    -- the answer is honest where it goes on these survivors: a word means none of them, or the word
-    -- of order is honest
-    honest_among : (answer : Answer) → IsOrderAmong posts graph.survivors x y answer → IsHonest answer
-    honest_among answer (inl (none, told)) = subst IsHonest (sym told) (no_first logs graph read none)
-    honest_among answer (inr (e, means_e, inl (none, told))) =
-        subst IsHonest (sym told) (no_second logs graph read e means_e none)
-    honest_among answer (inr (e, means_e, inr (f, means_f, order))) =
-        let word =
-        honest_word e f answer (named_has posts graph.survivors means_e.0 e means_e.2)
-        (named_has posts graph.survivors means_f.0 f means_f.2) order in
-        subst IsHonest (sym order.told) (both logs graph read e f means_e means_f order.word word)
+    -- so what is answered over these survivors is honest
+    honest_among : (answer : Answer) → IsOrderAmong posts graph.survivors x y answer →
+        IsHonestOrder script w x y names files answer
+    honest_among answer among = record {
+      logs = logs;
+      graph = graph;
+      read = read;
+      among = among;
+      right = λ e f means_e means_f order.
+          honest_word e f answer (named_has posts graph.survivors means_e.0 e means_e.2)
+          (named_has posts graph.survivors means_f.0 f means_f.2) order;
+    }
 
   -- the answer is honest where it goes on the logs' entries, whose graph isn't refused
   honest_over : (answer : Answer) → Distinct node_of_sealed (sent_in w) → (logs : List LogRead) →

@@ -26,7 +26,7 @@ module _ (machines : List MachineState) (w : World SealedEntry) (many : length w
   whole_at place (Some m) at within file is =
       let as_file : file_of m ≡ file = cc in
       subst (λ (f : Option (List ℕ)). IsSomeAnd f (IsWholeIn w)) (sym (file_at place m at) ∙ as_file)
-      (record { machine = place; there = omega (arith, many, within); whole = refl })
+      (place, omega (arith, many, within), refl)
 
   -- each file is one
   whole_files : AreWholeFilesOf w (written_logs machines)

@@ -2,10 +2,11 @@
 use Rattle.auditorium_core.proofs.Imports.{◌≡◌, ◌≢◌, ℕ, List, [], refl, sym, subst, Completion, HeldBefore}
 use Rattle.auditorium_core.proofs.Imports.{OrderIsReceiptIn, World, sent_in, Contains-none, node_of, node_of_sealed}
 use Rattle.auditorium_core.proofs.Imports.{plain_of, plains, order_seen, order_back, completion_seen, SealedEntry}
-use Rattle.auditorium_core.proofs.Imports.{OrderWord, IsExactIn, IsWordIn, AreWhole, IsSettled, IsWordOf}
+use Rattle.auditorium_core.proofs.Imports.{OrderWord, IsExactIn, IsWordIn, AreWhole, IsWordOf}
 use Rattle.std.specs.List.{Contains}
 use Rattle.entry_order.specs.Survivors.{gaps}
 use Rattle.auditorium_core.specs.declared.order_word.OrderWord.TheVariants as says
+use Rattle.auditorium_core.proofs.OrderWords.{IsSettled}
 
 module _ (w : World SealedEntry) (e f : SealedEntry) where
   -- what a word promises of each completion holds of what was sent, and so of what the machines
@@ -22,12 +23,11 @@ module _ (w : World SealedEntry) (e f : SealedEntry) where
       (settled (plains (sent_in w)) (completion_seen node_of plain_of machines S (sent_in w) all)))
   word_in receipt sent_e sent_f machines S all says.Apart (differ, settled) =
       let (not_before, not_after) =
-      settled (plains (sent_in w)) (completion_seen node_of plain_of machines S (sent_in w) all) in
-      record {
-        differ = differ;
-        not_before = λ held. not_before (order_seen node_of plain_of (sent_in w) e f ((receipt e f sent_e sent_f).1 held));
-        not_after = λ held. not_after (order_seen node_of plain_of (sent_in w) f e ((receipt f e sent_f sent_e).1 held));
-      }
+      settled (plains (sent_in w)) (completion_seen node_of plain_of machines S (sent_in w) all) in (
+        differ,
+        λ held. not_before (order_seen node_of plain_of (sent_in w) e f ((receipt e f sent_e sent_f).1 held)),
+        λ held. not_after (order_seen node_of plain_of (sent_in w) f e ((receipt f e sent_f sent_e).1 held)),
+      )
   word_in receipt sent_e sent_f machines S all says.Unknown settled = tt
 
   -- where there is no gap, all is whole
@@ -59,49 +59,35 @@ module _ (w : World SealedEntry) (e f : SealedEntry) where
 
   -- a word that is right and known is exact
   pub word_exact : HasNoCycle → (word : OrderWord) → word ≢ says.Unknown → IsWordIn w e f word → IsExactIn w e f word
-  word_exact acyclic says.Same known is =
-      let no = none_of_itself acyclic is in
-      record {
-        same = (λ this. is, λ this. refl);
-        before = (λ other. absurd (let no : says.Same ≡ says.Before = other in cc), λ held. absurd (no.0 held));
-        after = (λ other. absurd (let no : says.Same ≡ says.After = other in cc), λ held. absurd (no.1 held));
-        apart = (λ other. absurd (let no : says.Same ≡ says.Apart = other in cc), λ apart. absurd (apart.differ is));
-        known = known;
-      }
-  word_exact acyclic says.Before known is = record {
-    same = (
-      λ other. absurd (let no : says.Before ≡ says.Same = other in cc),
-      λ same. absurd ((none_of_itself acyclic same).0 is),
-    );
-    before = (λ this. is, λ this. refl);
-    after = (λ other. absurd (let no : says.Before ≡ says.After = other in cc), λ held. absurd (acyclic e f is held));
-    apart = (
-      λ other. absurd (let no : says.Before ≡ says.Apart = other in cc),
-      λ apart. absurd (apart.not_before is),
-    );
+  word_exact acyclic word known is = record {
     known = known;
-  }
-  word_exact acyclic says.After known is = record {
-    same = (
-      λ other. absurd (let no : says.After ≡ says.Same = other in cc),
-      λ same. absurd ((none_of_itself acyclic same).1 is),
+    each = λ other named. (
+      λ same. subst (λ (this : OrderWord). IsWordIn w e f this) same is,
+      λ holds. one word other known named is holds,
     );
-    before = (λ other. absurd (let no : says.After ≡ says.Before = other in cc), λ held. absurd (acyclic e f held is));
-    after = (λ this. is, λ this. refl);
-    apart = (
-      λ other. absurd (let no : says.After ≡ says.Apart = other in cc),
-      λ apart. absurd (apart.not_after is),
-    );
-    known = known;
   }
-  word_exact acyclic says.Apart known is = record {
-    same = (λ other. absurd (let no : says.Apart ≡ says.Same = other in cc), λ same. absurd (is.differ same));
-    before = (
-      λ other. absurd (let no : says.Apart ≡ says.Before = other in cc),
-      λ held. absurd (is.not_before held),
-    );
-    after = (λ other. absurd (let no : says.Apart ≡ says.After = other in cc), λ held. absurd (is.not_after held));
-    apart = (λ this. is, λ this. refl);
-    known = known;
-  }
-  word_exact acyclic says.Unknown known is = absurd (known refl)
+    where
+      -- of the words that are known one alone is right
+      one : (word other : OrderWord) → word ≢ says.Unknown → other ≢ says.Unknown → IsWordIn w e f word →
+          IsWordIn w e f other → word ≡ other
+      one says.Same says.Same known named is holds = refl
+      one says.Same says.Before known named is holds = absurd ((none_of_itself acyclic is).0 holds)
+      one says.Same says.After known named is holds = absurd ((none_of_itself acyclic is).1 holds)
+      one says.Same says.Apart known named is (differ, not_before, not_after) = absurd (differ is)
+      one says.Same says.Unknown known named is holds = absurd (named refl)
+      one says.Before says.Same known named is holds = absurd ((none_of_itself acyclic holds).0 is)
+      one says.Before says.Before known named is holds = refl
+      one says.Before says.After known named is holds = absurd (acyclic e f is holds)
+      one says.Before says.Apart known named is (differ, not_before, not_after) = absurd (not_before is)
+      one says.Before says.Unknown known named is holds = absurd (named refl)
+      one says.After says.Same known named is holds = absurd ((none_of_itself acyclic holds).1 is)
+      one says.After says.Before known named is holds = absurd (acyclic e f holds is)
+      one says.After says.After known named is holds = refl
+      one says.After says.Apart known named is (differ, not_before, not_after) = absurd (not_after is)
+      one says.After says.Unknown known named is holds = absurd (named refl)
+      one says.Apart says.Same known named (differ, not_before, not_after) holds = absurd (differ holds)
+      one says.Apart says.Before known named (differ, not_before, not_after) holds = absurd (not_before holds)
+      one says.Apart says.After known named (differ, not_before, not_after) holds = absurd (not_after holds)
+      one says.Apart says.Apart known named is holds = refl
+      one says.Apart says.Unknown known named is holds = absurd (named refl)
+      one says.Unknown other known named is holds = absurd (known refl)

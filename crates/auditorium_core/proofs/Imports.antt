@@ -36,8 +36,8 @@ pub use Rattle.auditor.specs.Sources.{GivesRules, RuleSource, in_file, max_rules
 pub use Rattle.auditor.specs.Sources.{standard}
 pub use Rattle.auditor.specs.declared.outcome.Outcome.{Outcome}
 pub use Rattle.auditor.specs.inside.Begun.{WithRoster, WithRules}
-pub use Rattle.auditorium_core.specs.Answer.{AnswersWords, HasItsWords, IsAnswerTo, IsOfAnswers, TellsAbsence}
-pub use Rattle.auditorium_core.specs.Answer.{WordsTellAbsence}
+pub use Rattle.auditorium_core.specs.Answer.{AnswersWords, HasItsWords, IsAnswerOf, IsAnswerTo, IsOfAnswers}
+pub use Rattle.auditorium_core.specs.Answer.{TellsAbsence}
 pub use Rattle.auditorium_core.specs.Audit.{Completes, HoldsOf, IsAuditAnswer, IsAuditOf, IsAuditOver, audit_parts}
 pub use Rattle.auditorium_core.specs.Audit.{source_named}
 pub use Rattle.auditorium_core.specs.Check.{AreChecked, CheckReport, GivesCheck, GivesChecked, IsCheckOf}
@@ -58,8 +58,7 @@ pub use Rattle.auditorium_core.specs.EntryWords.{EntryName, IsEntryWord, IsNamed
 pub use Rattle.auditorium_core.specs.EntryWords.{MeansNone, by_digest, by_number}
 pub use Rattle.auditorium_core.specs.Gaps.{IsGapsAnswer, IsRefusal, findings_answer, gaps_log_lines, gaps_parts}
 pub use Rattle.auditorium_core.specs.Gaps.{status_of}
-pub use Rattle.auditorium_core.specs.Honest.{IsExactIn, IsHonestOrder, IsHonestWord, IsOrderOfPlace, IsWordIn, both}
-pub use Rattle.auditorium_core.specs.Honest.{no_first, no_second}
+pub use Rattle.auditorium_core.specs.Honest.{IsExactIn, IsHonestOrder, IsHonestWord, IsOrderOfPlace, IsWordIn}
 pub use Rattle.auditorium_core.specs.HonestAudit.{IsAuditOfPlace, IsOfReport}
 pub use Rattle.auditorium_core.specs.HonestPlace.{LeaveHonestFiles}
 pub use Rattle.auditorium_core.specs.Lines.{Answer, OrRefused, absent_answer, line_answer, no_entry, order_word}
@@ -71,15 +70,14 @@ pub use Rattle.auditorium_core.specs.OfficeCalls.{AreCallsOn, Call, IsCall, IsCa
 pub use Rattle.auditorium_core.specs.OfficeCalls.{IsOfficeIn, IsSignedByNumber, IsUsedUp, NumbersRise, ReadsUnsigned}
 pub use Rattle.auditorium_core.specs.OfficeCalls.{IsSignedInTurn, SignsInTurn, UsesNumber, with_next}
 pub use Rattle.auditorium_core.specs.OfficeFile.{GivesOffice, GivesOfficeOf, GivesUnspent, office_file}
-pub use Rattle.auditorium_core.specs.Order.{AreWhole, ComesFirst, GiveEntries, InEach, IsBefore, IsExact}
-pub use Rattle.auditorium_core.specs.Order.{IsOrderAmong, IsOrderAnswer, IsOrderOf, IsOrderOver, IsOrderOverLogs}
-pub use Rattle.auditorium_core.specs.Order.{IsOrderUnder, IsSettled, IsWordOf, order_parts}
-pub use Rattle.auditorium_core.specs.Outcome.{GivesAnswer, HasDone, IsCutShort, IsGivenBy, IsGivenSomehow, IsWritten}
+pub use Rattle.auditorium_core.specs.Order.{ComesFirst, GiveEntries, InEach, IsExact, IsOrderAnswer, IsOrderOver}
+pub use Rattle.auditorium_core.specs.Order.{IsOrderOverLogs, IsOrderUnder, order_parts}
+pub use Rattle.auditorium_core.specs.TwoEntries.{AreWhole, IsBefore, IsOrderAmong, IsOrderOf, IsWordOf}
+pub use Rattle.auditorium_core.specs.Outcome.{HasDone, IsCutShort, IsGivenBy, IsGivenSomehow, IsWritten}
 pub use Rattle.auditorium_core.specs.Outcome.{IsUnwritten}
-pub use Rattle.auditorium_core.specs.Outcome.{IsWrittenBy, PlacesAll, PlacesInTurn, PutsAll, SetsSome, all_put, fails}
-pub use Rattle.auditorium_core.specs.Outcome.{finishes}
-pub use Rattle.auditorium_core.specs.Outcome.{no_files, not_put, puts, with_files}
-pub use Rattle.auditorium_core.specs.Outside.{Outside, StoreSeen, outside, seen}
+pub use Rattle.auditorium_core.specs.Outcome.{IsWrittenBy, PlacesAll, PlacesInTurn, PutsAll, SetsSome}
+pub use Rattle.auditorium_core.specs.Outcome.{with_files}
+pub use Rattle.auditorium_core.specs.Outside.{Outside, outside}
 pub use Rattle.auditorium_core.specs.Play.{IsPlayAnswer, IsPlayOf, SayUndone, log_file, machine_lines, play_answer}
 pub use Rattle.auditorium_core.specs.Play.{play_files, play_parts, play_statuses, status_of_undone, undone_line}
 pub use Rattle.auditorium_core.specs.ProofFile.{GivesProof, max_proof}
@@ -167,7 +165,7 @@ pub use Rattle.entry_order.specs.Node.{Node}
 pub use Rattle.entry_order.specs.Precedes.{IsPath, Precedes}
 pub use Rattle.entry_order.specs.Receipt.{OrderIsReceiptIn, OrderIsReceiptInOrderlyWorlds, StampsRise}
 pub use Rattle.entry_order.specs.Settled.{GraphsAreExact, IsGraphOf, IsWhole, PathsAreSettled}
-pub use Rattle.entry_order.specs.Survivors.{GapsAreUnique, is_stray}
+pub use Rattle.entry_order.specs.Survivors.{is_stray}
 pub use Rattle.entry_order.specs.World.{World, happens, history, sent_in, start}
 pub use Rattle.entry_order.specs.declared.event.Event.{Event}
 pub use Rattle.entry_order.specs.declared.step.Step.{Step}
@@ -225,7 +223,7 @@ pub use Rattle.honest_reports.proofs.Judged.{none_broken}
 pub use Rattle.honest_reports.proofs.RosterGiven.{is_honest, of_script}
 pub use Rattle.honest_reports.specs.Kept.{SaysAllKept, SaysNoneBroken}
 pub use Rattle.honest_reports.specs.Places.{AreWholeFilesOf, IsRosterOf, IsWholeIn, files_read}
-pub use Rattle.honest_reports.specs.Refusals.{IsHonestRefusal, IsTooWideFor}
+pub use Rattle.honest_reports.specs.Refusals.{IsHonestRefusal}
 pub use Rattle.honest_reports.specs.Reports.{IsHonestReport}
 pub use Rattle.honest_rules.proofs.Audits.{honest_audits_never_say_broken}
 pub use Rattle.honest_rules.specs.Honest.{IsHonest}

@@ -55,21 +55,21 @@ set_whole old new (file ∷ files) e = inr (set_whole (with_file old file.0 file
 -- what follows where no file changed, and of the files that an answer of the command sets, follows
 -- of what was done
 pub of_sets : (IsDone : Command → Type 0) (words : List (List ℕ)) (command : Command) (old new : Outside) (L : Type 0) →
-    IsDone command → Means words command → (new.store.files ≡ old.store.files → L) →
-    ((answer : Answer) → IsAnswerTo command old.store.files answer →
-    SetsSome old.store.files answer.files new.store.files → L) →
+    IsDone command → Means words command → (new.files ≡ old.files → L) →
+    ((answer : Answer) → IsAnswerTo command old.files answer →
+    SetsSome old.files answer.files new.files → L) →
     (how : Status) → HasDone IsDone words (IsGivenSomehow old) old how new → L
 of_sets IsDone words command old new L done means kept sets =
     done_cases IsDone words (IsGivenSomehow old) old new (λ how. L) (λ (risen, unwritten). kept unwritten.files)
     (λ (answer, gives, cut). sets answer (right answer gives.answers) cut.files)
     (λ (unwritten, same). kept unwritten.files)
     (λ how some (answer, gives, told, written). sets answer (right answer gives.answers)
-    (set_whole old.store.files new.store.files answer.files written.files))
+    (set_whole old.files new.files answer.files written.files))
   where
     -- an answer to the words is the command's
-    right : (answer : Answer) → AnswersWords IsDone words (OnExposed old.store.files) answer →
-        IsAnswerTo command old.store.files answer
-    right answer is = of_command IsDone words (OnExposed old.store.files) command answer done means is
+    right : (answer : Answer) → AnswersWords IsDone words (OnExposed old.files) answer →
+        IsAnswerTo command old.files answer
+    right answer is = of_command IsDone words (OnExposed old.files) command answer done means is
 
 -- a refusal writes no file
 pub refusal_writes_none : (refusal : Refusal) → (refusal_answer refusal).files ≡ []

@@ -137,31 +137,31 @@ module _ (IsDone : Command → Type 0) (call : Call) (is : IsCall IsDone call) w
   after = call.after
 
   -- those of an answer were set up to some place
-  sets_of : (answer other : Answer) → answer ≡ other → SetsSome is.old.store.files answer.files is.new.store.files →
+  sets_of : (answer other : Answer) → answer ≡ other → SetsSome is.old.files answer.files is.new.files →
       SetsSome (Some before) other.files (Some after)
   sets_of answer other e sets =
-      told_sets is.old.store.files is.new.store.files before after other.files is.told is.left
-      (same_sets is.old.store.files is.new.store.files answer other e sets)
+      told_sets is.old.files is.new.files before after other.files is.told is.left
+      (same_sets is.old.files is.new.files answer other e sets)
 
   -- so nothing was, where the answer is one without files
   none_of : (answer other : Answer) → answer ≡ other → other.files ≡ [] →
-      SetsSome is.old.store.files answer.files is.new.store.files → after ≡ before
+      SetsSome is.old.files answer.files is.new.files → after ≡ before
   none_of answer other e none sets = none_set before after other.files none (sets_of answer other e sets)
 
   -- what follows where no file changed, and of the files that an answer of the command sets,
   -- follows of the call
   of_call : (command : Command) (L : Type 0) → IsDone command → Means call.words command → (after ≡ before → L) →
       ((answer : Answer) → IsAnswerTo command (Some before) answer →
-      SetsSome is.old.store.files answer.files is.new.store.files → L) → L
+      SetsSome is.old.files answer.files is.new.files → L) → L
   of_call command L done means kept sets =
       of_sets IsDone call.words command is.old is.new L done means
-      (λ e. kept (as_before is.old.store.files is.new.store.files before after is.told is.left e))
+      (λ e. kept (as_before is.old.files is.new.files before after is.told is.left e))
       (λ answer right. sets answer (subst (λ (f : Option Files). IsAnswerTo command f answer) is.told right))
       call.how is.done
 
   -- what an answer of `endorse` leaves
   endorse_sets : (name file : List ℕ) (answer : Answer) → IsAnswerTo (endorse name file) (Some before) answer →
-      SetsSome is.old.store.files answer.files is.new.store.files → IsLeftSo name file before after
+      SetsSome is.old.files answer.files is.new.files → IsLeftSo name file before after
   endorse_sets name file answer (inl (refusal, gives, told)) sets =
       inl (none_of answer (refusal_answer refusal) told (refusal_writes_none refusal) sets)
   endorse_sets name file answer (inr (read, gives, of)) sets =
@@ -178,7 +178,7 @@ module _ (IsDone : Command → Type 0) (call : Call) (is : IsCall IsDone call) w
   -- an answer of `endorsed` writes no file
   endorsed_sets : (key file signature : List ℕ) (answer : Answer) →
       IsAnswerTo (endorsed key file signature) (Some before) answer →
-      SetsSome is.old.store.files answer.files is.new.store.files → after ≡ before
+      SetsSome is.old.files answer.files is.new.files → after ≡ before
   endorsed_sets key file signature answer (inl (refusal, gives, told)) sets =
       none_of answer (refusal_answer refusal) told (refusal_writes_none refusal) sets
   endorsed_sets key file signature answer (inr (read, gives, inl (well, told))) sets =
@@ -200,7 +200,7 @@ module _ (IsDone : Command → Type 0) (call : Call) (is : IsCall IsDone call) w
       after)
 
   office_sets : (name seed : List ℕ) (answer : Answer) (this : Option (List ℕ)) → before (office_file name) ≡ this →
-      IsOfficeAnswer name seed this answer → SetsSome is.old.store.files answer.files is.new.store.files →
+      IsOfficeAnswer name seed this answer → SetsSome is.old.files answer.files is.new.files →
       IsLeftByOffice name seed
   office_sets name seed answer None e told sets =
       inr (

@@ -55,7 +55,7 @@ module _ (one : PlayOne) (prefix : List ℕ) (script : Script) (a b : Answer) (p
       subst (λ (ms : List MachineState). SayUndone ms p.undone) same p.left in
       let undone : p.undone ≡ q.undone = same_undone one q.machines p.undone q.undone left q.left in
       let losses : AreLosses script q.machines p.losses =
-      subst (λ (ms : List MachineState). AreLosses script ms p.losses) same p.floor.losses in
+      subst (λ (ms : List MachineState). AreLosses script ms p.losses) same p.lost in
       let told : a ≡ told_so q.machines p.losses q.undone =
       p.told ∙ ap (λ (ms : List MachineState). told_so ms p.losses p.undone) same
       ∙ ap (told_so q.machines p.losses) undone in
@@ -68,7 +68,7 @@ module _ (one : PlayOne) (prefix : List ℕ) (script : Script) (a b : Answer) (p
         others = q.losses;
         front = machine_lines q.machines;
         rest = q.undone;
-        causes = same_losses script q.machines q.floor.orderly p.losses q.losses losses q.floor.losses;
+        causes = same_losses script q.machines q.orderly p.losses q.losses losses q.lost;
         output = ap (λ (x : Answer). x.output) told;
         other_output = ap (λ (x : Answer). x.output) q.told;
       }
@@ -77,7 +77,7 @@ module _ (one : PlayOne) (prefix : List ℕ) (script : Script) (a b : Answer) (p
   same_by : ((place : ℕ) (m n : MachineState) → slice_get p.machines place ≡ Some m →
       slice_get q.machines place ≡ Some n → m.events ≡ n.events) → p.machines ≡ q.machines
   same_by =
-      same_machines script p.honest.roster.lawful p.machines q.machines p.floor.machines q.floor.machines
+      same_machines script p.honest.roster.lawful p.machines q.machines p.made q.made
 
   -- the events of a machine
   abbrev events_of : MachineState → List (Event SealedEntry)
@@ -124,8 +124,8 @@ module _ (one : PlayOne) (prefix : List ℕ) (script : Script) (a b : Answer) (p
   numbers : (place : ℕ) (m n : MachineState) → slice_get p.machines place ≡ Some m →
       slice_get q.machines place ≡ Some n → n.config.number ≡ m.config.number
   numbers place m n at there =
-      ap (λ (u : MachineState). u.config.number) (q.floor.machines.each place n there).made.2
-      ∙ sym (ap (λ (u : MachineState). u.config.number) (p.floor.machines.each place m at).made.2)
+      ap (λ (u : MachineState). u.config.number) (q.made.each place n there).made.2
+      ∙ sym (ap (λ (u : MachineState). u.config.number) (p.made.each place m at).made.2)
 
   -- machines that wrote the same files are the same
   by_files : p.machines ≡ q.machines

@@ -1,15 +1,14 @@
 -- The answers of `order`.
 use Rattle.auditorium_core.proofs.Imports.{◌≡◌, ◌∙◌, ℕ, List, [], ◌∷◌, None, inl, inr, ap, subst, Result, Ok, Err}
-use Rattle.auditorium_core.proofs.Imports.{IfOk, PathsAreSettled, member_at, Post, SealedEntry, node_of_sealed}
+use Rattle.auditorium_core.proofs.Imports.{IfOk, Post, SealedEntry}
 use Rattle.auditorium_core.proofs.Imports.{LogRead, RosterRead, Refusal, GivesRoster, GivesLogs, entries_of, AndThen}
 use Rattle.auditorium_core.proofs.Imports.{FileThen, OrderWord, Answer, no_entry, order_word, line_answer}
 use Rattle.auditorium_core.proofs.Imports.{refusal_answer, MeansEntry, MeansNone, IsOrderAmong, IsOrderOver}
 use Rattle.auditorium_core.proofs.Imports.{order_parts, IsPlaceOf, IsWordAt}
-use Rattle.std.proofs.Common.{Option, Some, length}
+use Rattle.std.proofs.Common.{Option, Some}
 use Rattle.auditorium_core.specs.declared.status.Status.TheVariants as status
 use Rattle.auditorium_core.proofs.EntryTexts.{named_has}
 use Rattle.auditorium_core.proofs.HonestOrders.{order_right}
-use Rattle.auditorium_core.proofs.OrderWords.{word_is_settled}
 
 module _ (machines : List Post) (S : List SealedEntry) where
   -- where no entry of S is what a word means, it means none
@@ -32,28 +31,20 @@ module _ {E : Type 0} (machines : List Post) (S : List SealedEntry) (x y : List 
   second_refused (Err fault) at some none told = tt
 
   -- both mean an entry
-  pub both_told : PathsAreSettled node_of_sealed → (result : Result Answer E) (at other : ℕ) (word : OrderWord)
-      (text : List ℕ) → IsPlaceOf (MeansEntry machines S x) S (Some at) →
+  pub both_told : (result : Result Answer E) (at other : ℕ) (word : OrderWord) (text : List ℕ) → IsPlaceOf (MeansEntry machines S x) S (Some at) →
       IsPlaceOf (MeansEntry machines S y) S (Some other) → IsWordAt S at other word → text ≡ order_word word →
       IfOk result (λ answer. answer ≡ line_answer status.Done text) → IfOk result (IsOrderAmong machines S x y)
-  both_told paths (Ok answer) at other word text (e, at_e, means_e) (f, at_f, means_f) right shown told =
-      let is = right e f at_e at_f in
+  both_told (Ok answer) at other word text (e, at_e, means_e) (f, at_f, means_f) right shown told =
       inr (
         e,
         means_e,
         inr (
           f,
           means_f,
-          record {
-            word = word;
-            right = is;
-            settled = word_is_settled paths (length machines) S e f word (member_at S at e at_e)
-                (member_at S other f at_f) is;
-            told = told ∙ ap (line_answer status.Done) shown;
-          },
+          record { word = word; right = right e f at_e at_f; told = told ∙ ap (line_answer status.Done) shown },
         ),
       )
-  both_told paths (Err fault) at other word text some more right shown told = tt
+  both_told (Err fault) at other word text some more right shown told = tt
 
 module _ (roster x y : List ℕ) (logs : List (List ℕ)) where
   -- what the files of the logs give under the roster

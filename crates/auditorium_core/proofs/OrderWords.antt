@@ -4,9 +4,9 @@ use Rattle.std.specs.Prelude.{◌↔◌}
 use Rattle.std.specs.List.{Contains}
 use Rattle.auditorium_core.proofs.Imports.{◌≡◌, ◌≢◌, ℕ, List, refl, slice_get, if◌then◌else◌, false≢true, Three}
 use Rattle.auditorium_core.proofs.Imports.{False, Unknown, True, reaches, is_whole, before, IsWhole, IsGraphOf}
-use Rattle.auditorium_core.proofs.Imports.{GraphsAreExact, PathsAreSettled, SealedEntry, node_of, node_of_sealed}
+use Rattle.auditorium_core.proofs.Imports.{GraphsAreExact, SealedEntry, node_of, node_of_sealed}
 use Rattle.auditorium_core.proofs.Imports.{Contains-map, paths_are_settled, plain_of, plains, order_seen, order_back}
-use Rattle.auditorium_core.proofs.Imports.{whole_seen, OrderWord, IsBefore, IsWordOf, IsSettled, word_by}
+use Rattle.auditorium_core.proofs.Imports.{whole_seen, OrderWord, IsBefore, IsWordOf, AreWhole, InEach, ComesFirst, word_by}
 use Rattle.auditorium_core.specs.declared.order_word.OrderWord.TheVariants as says
 
 -- what is said of e before f
@@ -44,17 +44,27 @@ word_is_right S e f Unknown False differ (not_before, f_lacks) (not_after, _) =
 word_is_right S e f Unknown Unknown differ (not_before, f_lacks) (not_after, _) =
     (record { differ = differ; not_before = not_before; not_after = not_after }, λ (_, f_whole). f_lacks f_whole)
 
+-- What the word promises of all that the entries may have been of which S survives: `before` and
+-- `after` hold in each completion, of `apart` neither holds in any, and `unknown` is printed only
+-- where one of the two isn't whole.
+abbrev pub IsSettled : ℕ → List SealedEntry → SealedEntry → SealedEntry → OrderWord → Type 0
+IsSettled machines S e f says.Same = e ≡ f
+IsSettled machines S e f says.Before = InEach machines S (λ G. ComesFirst G e f)
+IsSettled machines S e f says.After = InEach machines S (λ G. ComesFirst G f e)
+IsSettled machines S e f says.Apart =
+    (e ≢ f) × InEach machines S (λ G. (¬ ComesFirst G e f) × (¬ ComesFirst G f e))
+IsSettled machines S e f says.Unknown = ¬ AreWhole S e f
+
 -- a right word promises what it says of every completion
-pub word_is_settled : PathsAreSettled node_of_sealed → (machines : ℕ) (S : List SealedEntry) (e f : SealedEntry)
-    (word : OrderWord) → Contains S e → Contains S f → IsWordOf S e f word → IsSettled machines S e f word
-word_is_settled paths machines S e f says.Same has_e has_f right = right
-word_is_settled paths machines S e f says.Before has_e has_f right =
+pub word_is_settled : (machines : ℕ) (S : List SealedEntry) (e f : SealedEntry) (word : OrderWord) → Contains S e → Contains S f → IsWordOf S e f word → IsSettled machines S e f word
+word_is_settled machines S e f says.Same has_e has_f right = right
+word_is_settled machines S e f says.Before has_e has_f right =
     λ G all. (paths_are_settled node_of machines (plains S) G all (plain_of e) (plain_of f)).0
     (order_seen node_of plain_of S e f right)
-word_is_settled paths machines S e f says.After has_e has_f right =
+word_is_settled machines S e f says.After has_e has_f right =
     λ G all. (paths_are_settled node_of machines (plains S) G all (plain_of f) (plain_of e)).0
     (order_seen node_of plain_of S f e right)
-word_is_settled paths machines S e f says.Apart has_e has_f (apart, (e_whole, f_whole)) = (
+word_is_settled machines S e f says.Apart has_e has_f (apart, (e_whole, f_whole)) = (
   apart.differ,
   λ G all. (
     λ path.
@@ -67,4 +77,4 @@ word_is_settled paths machines S e f says.Apart has_e has_f (apart, (e_whole, f_
         (Contains-map plain_of S e has_e) (whole_seen node_of plain_of S e has_e e_whole) path)),
   ),
 )
-word_is_settled paths machines S e f says.Unknown has_e has_f (_, not_whole) = not_whole
+word_is_settled machines S e f says.Unknown has_e has_f (_, not_whole) = not_whole

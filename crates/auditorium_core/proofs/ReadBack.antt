@@ -21,7 +21,9 @@ use Rattle.auditorium_core.proofs.Imports.{AreRunMachines}
 use Rattle.honest_logs.specs.WhatIsLeft.{IsLeftOf}
 use Rattle.honest_logs.proofs.ReadLogs.{whole_is_left}
 use Rattle.honest_reports.specs.Places.{HasLeft}
-use Rattle.auditorium_core.specs.HonestAudit.{TellsAllKept}
+use Rattle.auditorium_core.proofs.Imports.{standard}
+use Rattle.auditorium_core.specs.declared.status.Status.TheVariants as status
+use Rattle.auditorium_core.specs.HonestAudit.{IsAuditOfPlace, TellsHonestReport}
 use Rattle.auditorium_core.specs.Play.{machine_log_name, roster_file, roster_name}
 use Rattle.auditorium_core.specs.ReadBack.{AreReadBack, PlaysAreReadBack, RepairsAreReadBack, RunsAreReadBack}
 use Rattle.auditorium_core.specs.ReadBack.{log_names}
@@ -204,12 +206,11 @@ logs_back at prefix (m ∷ machines) has =
 whole_left : (w : World SealedEntry) (file : Option (List ℕ)) → IsSomeAnd file (IsWholeIn w) →
     IsSomeAnd file (IsLeftIn w)
 whole_left w None whole = whole
-whole_left w (Some bytes) whole = record {
-  machine = whole.machine;
-  there = whole.there;
-  left = subst (IsLeftOf whole.machine (history w whole.machine)) (sym whole.whole)
-      (whole_is_left whole.machine (history w whole.machine));
-}
+whole_left w (Some bytes) (machine, there, whole) = (
+  machine,
+  there,
+  subst (IsLeftOf machine (history w machine)) (sym whole) (whole_is_left machine (history w machine)),
+)
 
 module _ (prefix : List ℕ) (script : Script) (machines : List MachineState) (w : World SealedEntry)
     (honest : LeaveHonestFiles script machines w) (own : HaveOwnNames machines)
@@ -256,12 +257,17 @@ module _ (prefix : List ℕ) (script : Script) (machines : List MachineState) (w
   -- `audit` of them says of each rule that it is kept
   audit_back : (answer : Answer) →
       IsAnswerTo (audit (roster_name prefix) (codes "standard") (log_names prefix machines)) (Some now) answer →
-      TellsAllKept script w (log_names prefix machines) (written_logs machines) answer
+      TellsHonestReport script w standard (log_names prefix machines) (written_logs machines) answer
+      × (answer.status ≡ status.Done)
   audit_back answer is =
-      (is.honest (Some text) None (written_logs machines)
+      let right : IsAuditOfPlace script w standard None (log_names prefix machines) (written_logs machines) answer =
+      is.honest (Some text) None (written_logs machines)
       (ap (λ (f : Option (List ℕ)). f ∷ map now (log_names prefix machines)) has_roster
-      ∙ ap (λ (fs : List (Option (List ℕ))). Some text ∷ fs) logs_are) script w place).kept apart refl honest.all
-      honest.whole
+      ∙ ap (λ (fs : List (Option (List ℕ))). Some text ∷ fs) logs_are) script w place in
+      elim (right.honest apart) [
+        | inl told ↦ (told, right.done apart refl honest.all honest.whole)
+        | inr (refusal, never, told) ↦ absurd never
+      ]
 
   -- `order` of them says what the machines held
   order_back : (x y : List ℕ) (answer : Answer) →
@@ -324,5 +330,5 @@ runs_are_read_back prefix script answer is apart before =
     (with_files (Some before) files))
     (sym (ap (λ (a : Answer). a.files) is.told))
     (read_back prefix script is.machines is.w is.honest
-    (own_names script is.honest.roster.lawful is.machines (named_of_run script is.machines is.floor.machines)) apart
+    (own_names script is.honest.roster.lawful is.machines (named_of_run script is.machines is.made)) apart
     before)

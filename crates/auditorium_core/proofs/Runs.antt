@@ -1,6 +1,7 @@
 -- What a run of a script in threads comes to is an answer.
-use Rattle.std.proofs.Common.{length, Some}
-use Rattle.std.specs.Prelude.{All}
+use Rattle.std.proofs.Common.{length, Option, Some, None}
+use Rattle.std.specs.Prelude.{All, IfSome, ◌≤◌}
+use Rattle.polling_world.specs.Machines.{IsWithinStop}
 use Rattle.auditorium_core.proofs.Imports.{◌≡◌, ◌∙◌, ℕ, List, map, refl, sym, ap, subst, arith, slice_get, length-map}
 use Rattle.auditorium_core.proofs.Imports.{node_of_sealed, SealedEntry, Step, PlacedEvent, IsMergedOf, step_of, World}
 use Rattle.auditorium_core.proofs.Imports.{history, start, length_play, length_start, worlds_have_one_merged_order}
@@ -9,6 +10,11 @@ use Rattle.auditorium_core.proofs.Imports.{MachineState, ComesTo, world_of, next
 use Rattle.auditorium_core.proofs.Imports.{IsFloorOf, Answer, SayUndone, IsBetween, IsRunMachine, IsRunOf, run_answer}
 use Rattle.entry_order.specs.World.{play}
 use Rattle.auditorium_core.proofs.HonestPlaces.{leave_honest_files}
+
+-- a machine with no more events than it may have has no more than the number to stop at
+within_stop : (stop : Option ℕ) (count : ℕ) → IsWithinStop stop count → IfSome stop (λ most. count ≤ most)
+within_stop None count is = tt
+within_stop (Some most) count is = is
 
 module _ (prefix : List ℕ) (script : Script) (lawful : IsLawful script) (posts : List Post)
     (machines : List MachineState) (losses : List Loss) (floor : IsFloorOf script posts machines losses)
@@ -58,7 +64,12 @@ module _ (prefix : List ℕ) (script : Script) (lawful : IsLawful script) (posts
   run_machine : (place : ℕ) (m : MachineState) → slice_get machines place ≡ Some m → IsRunMachine script place m
   run_machine place m at =
       let is = floor.machines.each place m at in
-      record { stop = is.stop; made = is.made; within = is.machine.stop }
+      let (cast, there, made) = is.made in
+      record {
+        stop = is.stop;
+        made = (cast, there, ap (λ (u : MachineState). record u { events = m.events }) made);
+        within = within_stop m.stop (length m.events) is.machine.stop;
+      }
 
   -- the answer is that of the run
   pub is_run : (undone : List ℕ) (answer : Answer) → SayUndone machines undone →
@@ -69,13 +80,11 @@ module _ (prefix : List ℕ) (script : Script) (lawful : IsLawful script) (posts
     steps = steps;
     w = again;
     undone = undone;
-    floor = record {
-      machines = record { count = floor.machines.count; each = run_machine };
-      orderly = floor.orderly;
-      losses = floor.losses;
-      roomy = floor.roomy;
-      at_end = floor.at_end;
-    };
+    made = record { count = floor.machines.count; each = run_machine };
+    orderly = floor.orderly;
+    lost = floor.losses;
+    roomy = floor.roomy;
+    at_end = floor.at_end;
     again = record { merged = (merged.0, merged.1, refl); comes = comes; same = same };
     order = one_order node_of_sealed (world_of machines) floor.orderly;
     honest = leave_honest_files machines again many numbered same script lawful steps comes;

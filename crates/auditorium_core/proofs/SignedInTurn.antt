@@ -6,8 +6,7 @@ use Rattle.auditorium_core.proofs.Imports.{SinkGhosts}
 use Rattle.auditorium_core.proofs.Imports.{OnRead, OnExposed, on_exposed, Refusal, refusal_answer, absent, refused}
 use Rattle.auditorium_core.proofs.Imports.{Status, Command, Means, AnswersWords, Answer, OrRefused, Outside, outside}
 use Rattle.auditorium_core.proofs.Imports.{GivesUnsigned, IsEndorsement, Unsigned, endorse_answer, office_file, endorse}
-use Rattle.auditorium_core.proofs.Imports.{HasDone, IsGivenBy, IsWrittenBy, PlacesAll, PlacesInTurn, PutsAll}
-use Rattle.auditorium_core.proofs.Imports.{all_put, fails, finishes, no_files, not_put, puts}
+use Rattle.auditorium_core.proofs.Imports.{HasDone, IsGivenBy, IsWrittenBy, PlacesAll, PlacesInTurn}
 use Rattle.auditorium_core.proofs.Imports.{IsSignedInTurn, SignsInTurn}
 use Rattle.std.proofs.Math.Seq.{drop-nil, take-nil}
 use Rattle.auditorium_core.specs.declared.status.Status.TheVariants as status
@@ -15,25 +14,11 @@ use Rattle.auditorium_core.proofs.Commands.{of_command}
 use Rattle.auditorium_core.proofs.DoneCases.{Giving, done_cases}
 use Rattle.auditorium_core.proofs.OfficeCallsLeave.{refusal_writes_none}
 
--- where there is no file none is put, and no call is made
-none_put : {S : Type 0} (create : List ℕ → S → Bool → S → Type 0)
-    (append : List ℕ → S → List ℕ → Result ℕ Failed → S → Type 0) (old new : S)
-    (files : List (List ℕ × List ℕ)) (ok : Bool) → files ≡ [] → PutsAll create append old files ok new → ok ≡ true
-none_put create append old new files ok none (all_put now) = refl
-none_put create append old new files ok none (fails first last file more put) = absurd (let no : ⊥ = cc in no)
-none_put create append old new files ok none (puts first mid last file more way put rest) =
-    absurd (let no : ⊥ = cc in no)
-
-no_call : {S : Type 0} (create : List ℕ → S → Bool → S → Type 0)
-    (append : List ℕ → S → List ℕ → Result ℕ Failed → S → Type 0) (finish : S → Bool → S → Type 0) (old new : S)
-    (files : List (List ℕ × List ℕ)) (ok : Bool) → files ≡ [] → PlacesAll create append finish old files ok new →
-    new ≡ old
-no_call create append finish old new files ok none (no_files now) = refl
-no_call create append finish old new files ok none (not_put first last some put) =
-    absurd (let no : false ≡ true = none_put create append first last some false none put in
-    let never : ⊥ = cc in never)
-no_call create append finish old new files ok none (finishes first mid last file more way put done) =
-    absurd (let no : ⊥ = cc in no)
+-- where there is no file, no call is made
+no_call : {S : Type 0} (of : StoreGhosts S) (old new : S) (files : List (List ℕ × List ℕ)) (ok : Bool) → files ≡ [] →
+    PlacesAll of old files ok new → new ≡ old
+no_call of old new [] ok none (same, done) = same
+no_call of old new (file ∷ files) ok none calls = absurd (let no : ⊥ = cc in no)
 
 -- a part of no files is none
 none_taken : (n : ℕ) (files : List (List ℕ × List ℕ)) → files ≡ [] → take n files ≡ []
@@ -46,12 +31,12 @@ none_dropped n files none = ap (drop n) none ∙ drop-nil n
 none_in_turn : {S : Type 0} (of : StoreGhosts S) (answer : Answer) (old new : S) (ok : Bool) → answer.files ≡ [] →
     PlacesInTurn of answer old ok new → new ≡ old
 none_in_turn of answer old new ok none (inl (calls, failed)) =
-    no_call of.creates of.appends of.finishes old new (take answer.ahead answer.files) false
+    no_call of old new (take answer.ahead answer.files) false
     (none_taken answer.ahead answer.files none) calls
 none_in_turn of answer old new ok none (inr (mid, calls, same, others)) =
-    no_call of.creates of.appends of.finishes mid new (drop answer.ahead answer.files) ok
+    no_call of mid new (drop answer.ahead answer.files) ok
     (none_dropped answer.ahead answer.files none) others
-    ∙ no_call of.creates of.appends of.finishes old mid (take answer.ahead answer.files) true
+    ∙ no_call of old mid (take answer.ahead answer.files) true
     (none_taken answer.ahead answer.files none) calls
 
 -- a refusal isn't done

@@ -1,7 +1,6 @@
 -- What files give as a report is sound.
 use Rattle.auditorium_core.proofs.Imports.{ℕ, List, Ok, node_of_sealed, GivesReport, AuditReport, RuleSource, row_of}
 use Rattle.std.proofs.Common.{Option}
-use Rattle.entry_order.proofs.Completions.{gaps_are_unique}
 use Rattle.rule_meaning.proofs.Sounds.{rules_are_settled}
 use Rattle.rule_meaning.proofs.Unknowns.{unknown_only_by_gaps}
 use Rattle.report_exactness.proofs.Given.{given}
@@ -14,5 +13,5 @@ pub given_is_sound : (roster : List ℕ) (source : RuleSource) (names : List (Li
     (report : AuditReport) → GivesReport roster source names files (Ok report) → IsSound report
 given_is_sound roster source names files report gives =
     report_is_sound report (rules_are_settled node_of_sealed (row_of report.machines))
-    (unknown_only_by_gaps node_of_sealed (row_of report.machines)) (gaps_are_unique node_of_sealed)
+    (unknown_only_by_gaps node_of_sealed (row_of report.machines))
     (reports_are_exact roster source names files report gives) (given roster names report source files gives).is

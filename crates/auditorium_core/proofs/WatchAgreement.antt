@@ -145,8 +145,10 @@ watches_agree graphs reports roster rules logs files watched audited (inr (told,
         record {
           report = of.report;
           given = given;
-          sound = given_is_sound roster (source_named rules) logs files of.report given;
-          audit = answer;
+          audit = record {
+            sound = given_is_sound roster (source_named rules) logs files of.report given;
+            told = answer;
+          };
           status = status_is watched told e ∙ status_is told (watch_answer of.summaries of.report) of.is
               ∙ sym (status_is audited (report_answer of.report) answer);
           last = λ some.

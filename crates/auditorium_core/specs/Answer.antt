@@ -6,6 +6,7 @@ use Rattle.hall_outside.specs.Files.{Files}
 use Rattle.evidence.specs.NamedFiles.{OnExposed}
 use Rattle.auditorium_core.specs.declared.status.Status.{Status}
 use Rattle.auditorium_core.specs.declared.status.Status.TheVariants as status
+use Rattle.auditorium_core.specs.Outside.{Outside}
 use Rattle.auditorium_core.specs.Words.{Command, command_parts, Means, AreGood}
 use Rattle.auditorium_core.specs.Lines.{Answer, usage_answer}
 
@@ -24,21 +25,18 @@ AnswersWords IsDone words OnFiles answer =
     × OnFiles (command_parts command).files (λ files. (command_parts command).IsAnswer files answer))
     ⊎ ((¬ AreGood IsDone words) × (answer ≡ usage_answer) × OnFiles [] (λ files. ⊤))
 
--- the answer of a command says that a file is absent
-abbrev pub TellsAbsence : Command → Answer → Type 0
-TellsAbsence command answer = answer.status ≡ (command_parts command).absence
-
 -- the answer says that a file is absent, for a command that the words mean
-abbrev pub WordsTellAbsence : List (List ℕ) → Answer → Type 0
-WordsTellAbsence words answer = (command : Command) × Means words command × TellsAbsence command answer
+abbrev pub TellsAbsence : List (List ℕ) → Answer → Type 0
+TellsAbsence words answer =
+    (command : Command) × Means words command × (answer.status ≡ (command_parts command).absence)
 
 -- The answer is right for the files. It says that a file is absent exactly where the store said so
 -- in the call.
 pub record IsAnswerOf (IsDone : Command → Type 0) (words : List (List ℕ))
-    (OnFiles : List (List ℕ) → (List (Option (List ℕ)) → Type 0) → Type 0) (absences_before absences_now : ℕ)
-    (answer : Answer) : Type 0 where
+    (OnFiles : List (List ℕ) → (List (Option (List ℕ)) → Type 0) → Type 0) (old new : Outside) (answer : Answer)
+    : Type 0 where
   pub answers : AnswersWords IsDone words OnFiles answer
-  pub absent : ComesExactly absences_before absences_now (WordsTellAbsence words answer)
+  pub absent : ComesExactly old.answered.absences new.answered.absences (TellsAbsence words answer)
 
 -- the statuses that an answer can have
 abbrev pub IsOfAnswers : Status → Type 0

@@ -3,7 +3,6 @@ use Rattle.std.specs.Prelude.{◌≡◌, ◌≢◌, ℕ, List, [], ◌∷◌, le
 use Rattle.std.specs.List.{AllZip}
 use Rattle.std.specs.Str.{bytes_eq}
 use Rattle.entry_order.specs.Completion.{Completion}
-use Rattle.entry_order.specs.Survivors.{IsGaps}
 use Rattle.roster.specs.declared.post.Post.{Post}
 use Rattle.entry_format.specs.SealedEntry.{SealedEntry}
 use Rattle.entry_format.specs.Nodes.{node_of, node_of_sealed}
@@ -16,7 +15,7 @@ use Rattle.auditor.specs.Rows.{row_said}
 use Rattle.auditor.specs.Report.{AuditReport}
 use Rattle.auditor.specs.Outcomes.{is_broken}
 use Rattle.auditor.specs.Audits.{GivesReport, audit_files}
-use Rattle.report_exactness.specs.ReportExact.{UnsettledIsExact}
+use Rattle.report_exactness.specs.ReportExact.{MayBeEither}
 use Rattle.auditor.specs.Sources.{RuleSource, standard, in_file}
 use Rattle.auditorium_core.specs.declared.status.Status.TheVariants as status
 use Rattle.auditorium_core.specs.Lines.{Answer, OrRefused}
@@ -39,12 +38,11 @@ HoldsOf machines survivors G rule =
 abbrev pub Completes : List Post → List SealedEntry → List Plain → Type 0
 Completes machines survivors G = Completion node_of (length machines) (plains survivors) G
 
--- What the verdicts and the gaps of a report mean: a rule that is reported kept holds whatever was
+-- What the verdicts of a report mean: a rule that is reported kept holds whatever was
 -- lost, and one that is reported broken holds in no case. There is such a case. A rule is unsettled
 -- only where there is a gap. A standard rule that is unsettled holds in some case and doesn't hold in
 -- another, so nobody can settle it by the same survivors (of P3 under a condition); and so it is of
--- rules of one's own of a class. The gaps are exactly the digests that a survivor names and none has,
--- each once, ascending.
+-- rules of one's own of a class.
 pub record IsSound (report : AuditReport) : Type 0 where
   pub kept : AllZip
       (λ rule is. is ≡ verdict.Kept → (G : List Plain) → Completes report.machines report.graph.survivors G →
@@ -56,10 +54,9 @@ pub record IsSound (report : AuditReport) : Type 0 where
       report.rules report.verdicts
   pub some : (G : List Plain) × Completes report.machines report.graph.survivors G
   pub unsettled : AllZip (λ rule is. is ≡ verdict.Unsettled → report.graph.gaps ≢ []) report.rules report.verdicts
-  pub exact : UnsettledIsExact report
-  pub gaps : IsGaps node_of_sealed report.graph.survivors report.graph.gaps
+  pub exact : AllZip (λ rule is. is ≡ verdict.Unsettled → MayBeEither report rule) report.rules report.verdicts
 
--- the answer is that of the report, whose verdicts and gaps mean what they say
+-- the answer is that of the report, whose verdicts mean what they say
 pub record IsAuditOf (report : AuditReport) (answer : Answer) : Type 0 where
   pub sound : IsSound report
   pub told : answer ≡ report_answer report

@@ -20,14 +20,9 @@ without_entries audited.Kept = Kept
 without_entries (audited.Broken places) = Broken
 without_entries audited.Unsettled = Unsettled
 
--- The answer has the verdicts of the report, rule for rule, and these mean what they say: so what is
--- unsettled by a whole proof is really open.
-pub record HasVerdictsOf (report : AuditReport) (checked : Answer) : Type 0 where
-  pub told : checked ≡ check_answer report.rules (map without_entries report.verdicts)
-  pub sound : IsSound report
-
 -- The proof's file holds what `prove` writes for the same roster and logs, and the files give an
--- audit a report. Then `check` answers with the verdicts of that report, rule for rule.
+-- audit a report. Then `check` answers with the verdicts of that report, rule for rule, and these
+-- mean what they say: so what is unsettled by a whole proof is really open.
 abbrev pub ChecksAgreeWithAudits : Type 0
 ChecksAgreeWithAudits =
     (roster rules proof : List ℕ) (logs : List (List ℕ)) (roster_file rules_file : Option (List ℕ))
@@ -38,7 +33,7 @@ ChecksAgreeWithAudits =
     (files_read roster_file (source_named rules) rules_file log_files) (Ok report) →
     IsCheckOver roster rules proof logs
     (files_read roster_file (source_named rules) rules_file (log_files ++ Some text ∷ [])) checked →
-    HasVerdictsOf report checked
+    (checked ≡ check_answer report.rules (map without_entries report.verdicts)) × IsSound report
 
 -- a verdict by a proof is the audit's, or unsettled
 abbrev pub SaysNoMore : AuditVerdict → Verdict → Type 0

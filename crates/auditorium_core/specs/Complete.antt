@@ -6,6 +6,7 @@ use Rattle.hall_outside.specs.declared.stores.Store.{Ghosts as StoreGhosts}
 use Rattle.evidence.specs.NamedFiles.{OnExposed, OnRead}
 use Rattle.auditorium_core.specs.declared.status.Status.{Status}
 use Rattle.auditorium_core.specs.declared.status.Status.TheVariants as status
+use Rattle.auditorium_core.specs.HonestAudit.{IsOfReport}
 use Rattle.auditorium_core.specs.Words.{Command, command_parts, Means}
 use Rattle.auditorium_core.specs.Lines.{Answer}
 use Rattle.auditorium_core.specs.Outside.{Outside, outside}
@@ -13,17 +14,13 @@ use Rattle.auditorium_core.specs.Outcome.{IsUnwritten, IsWritten, IsWrittenBy}
 
 -- the statuses of a command that was carried out: 0, 1, 2, 3 and 7
 abbrev pub IsCarriedOut : Status → Type 0
-IsCarriedOut status.Done = ⊤
-IsCarriedOut status.Findings = ⊤
-IsCarriedOut status.Unsettled = ⊤
-IsCarriedOut status.Broken = ⊤
 IsCarriedOut status.Undone = ⊤
-IsCarriedOut other = ⊥
+IsCarriedOut other = IsOfReport other
 
 -- no count of faults rose
 pub record HasNoFailure (old new : Outside) : Type 0 where
-  pub reads : ¬ HasRisen old.store.read_faults new.store.read_faults
-  pub writes : ¬ HasRisen old.store.write_faults new.store.write_faults
+  pub reads : ¬ HasRisen old.read_faults new.read_faults
+  pub writes : ¬ HasRisen old.write_faults new.write_faults
   pub output : ¬ HasRisen old.output_faults new.output_faults
 
 -- The answer is the command's over these files, and all of it was written. Where the files are
@@ -41,24 +38,21 @@ pub record IsAnsweredOver (command : Command) (files : List (Option (List ℕ)))
 abbrev pub IsComplete : (Command → Type 0) → List (List ℕ) → Outside → Status → Outside → Type 0
 IsComplete IsDone words old how new =
     (command : Command) → IsDone command → Means words command → HasNoFailure old new →
-    OnExposed old.store.files (command_parts command).files (λ files. IsAnsweredOver command files old how new)
+    OnExposed old.files (command_parts command).files (λ files. IsAnsweredOver command files old how new)
     ⊎ ((how ≡ status.Memory) × IsUnwritten old new)
 
--- The answer is the command's over these files; where they are accepted, the command was carried out.
-pub record IsAnsweredFor (command : Command) (answer : Answer) (how : Status) (files : List (Option (List ℕ)))
-    : Type 0 where
-  pub right : (command_parts command).IsAnswer files answer
-  pub carried_out : (command_parts command).AreAccepted files → IsCarriedOut how
-
 module _ {S K : Type 0} (of_store : StoreGhosts S) (of_sink : SinkGhosts K) where
-  -- The command's files were read, and the answer is its over all files that are such as was found.
-  -- Then all of the answer was written, by calls that each did as it was asked.
+  -- The command's files were read, and the answer is its over all files that are such as was found;
+  -- where these are accepted, it was carried out. Then all of the answer was written, by calls that
+  -- each did as it was asked.
   pub record IsAnsweredAsRead (command : Command) (store : S) (out : K) (how : Status) (store_after : S) (out_after : K)
       : Type 0 where
     pub answer : Answer
     pub told : how ≡ answer.status
     pub read : S
-    pub right : OnRead of_store (command_parts command).files (IsAnsweredFor command answer how) store read
+    pub right : OnRead of_store (command_parts command).files
+        (λ files. (command_parts command).IsAnswer files answer
+        × ((command_parts command).AreAccepted files → IsCarriedOut how)) store read
     pub written : IsWrittenBy of_store of_sink answer read out true store_after out_after
 
   -- The same of any store and sink, whether or not they expose anything: where no count of faults

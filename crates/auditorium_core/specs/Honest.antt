@@ -16,60 +16,42 @@ use Rattle.honest_logs.specs.LeftFiles.{AreAllFilesOf}
 use Rattle.auditorium_core.specs.declared.order_word.OrderWord.{OrderWord}
 use Rattle.auditorium_core.specs.declared.order_word.OrderWord.TheVariants.{Same, Before, After, Apart, Unknown}
 use Rattle.auditorium_core.specs.declared.status.Status.TheVariants.{Done}
-use Rattle.auditorium_core.specs.Lines.{Answer, line_answer, no_entry, order_word}
-use Rattle.auditorium_core.specs.EntryWords.{MeansEntry, MeansNone}
+use Rattle.auditorium_core.specs.Lines.{Answer}
+use Rattle.auditorium_core.specs.EntryWords.{MeansEntry}
 use Rattle.auditorium_core.specs.HonestPlace.{OnEachPlace}
-
--- two different entries, neither of which was held before the other in w
-pub record WereApart (w : World SealedEntry) (e f : SealedEntry) : Type 0 where
-  pub differ : e ≢ f
-  pub not_before : ¬ HeldBefore w e f
-  pub not_after : ¬ HeldBefore w f e
+use Rattle.auditorium_core.specs.TwoEntries.{IsOrderAmong, IsOrderOf}
 
 -- what the word says of two entries by what the machines of w held; `unknown` says nothing
 abbrev pub IsWordIn : World SealedEntry → SealedEntry → SealedEntry → OrderWord → Type 0
 IsWordIn w e f Same = e ≡ f
 IsWordIn w e f Before = HeldBefore w e f
 IsWordIn w e f After = HeldBefore w f e
-IsWordIn w e f Apart = WereApart w e f
+IsWordIn w e f Apart = (e ≢ f) × (¬ HeldBefore w e f) × (¬ HeldBefore w f e)
 IsWordIn w e f Unknown = ⊤
 
 -- each word is printed exactly where it is true in w, and `unknown` never
 pub record IsExactIn (w : World SealedEntry) (e f : SealedEntry) (word : OrderWord) : Type 0 where
-  pub same : (word ≡ Same) ↔ (e ≡ f)
-  pub before : (word ≡ Before) ↔ HeldBefore w e f
-  pub after : (word ≡ After) ↔ HeldBefore w f e
-  pub apart : (word ≡ Apart) ↔ WereApart w e f
   pub known : word ≢ Unknown
+  pub each : (other : OrderWord) → other ≢ Unknown → (word ≡ other) ↔ IsWordIn w e f other
 
--- Both entries were sent in w, and the word is right of them there. Where the whole logs of w are
--- among the files, it is exact (Lamport 1978).
+-- The word is right of both entries in w. Where the whole logs of w are among the files, it is exact
+-- (Lamport 1978).
 pub record IsHonestWord (w : World SealedEntry) (files : List (Option (List ℕ))) (e f : SealedEntry) (word : OrderWord)
     : Type 0 where
-  pub first : Contains (sent_in w) e
-  pub second : Contains (sent_in w) f
   pub right : IsWordIn w e f word
   pub exact : AreAllFilesOf w files → IsExactIn w e f word
 
--- these files give the logs and their graph under the script's roster, in its election
-abbrev pub AreReadUnder : Script → World SealedEntry → List (List ℕ) → List (Option (List ℕ)) → List LogRead
-    → EntryGraph SealedEntry → Type 0
-AreReadUnder script w names files logs graph =
-    IsHonestlyRead (roster_of script) (election_of (roster_of script)) w names files logs graph
-
--- What is answered over such files of w: a refusal, because a word means no survivor; or a word
--- that is right in w. The roster is accepted, and the logs and their graph accuse nobody.
-pub data IsHonestOrder (script : Script) (w : World SealedEntry) (x y : List ℕ) (names : List (List ℕ))
-    (files : List (Option (List ℕ))) : Answer → Type 0 where
-  no_first : (logs : List LogRead) (graph : EntryGraph SealedEntry) → AreReadUnder script w names files logs graph →
-      MeansNone (roster_of script) graph.survivors x → IsHonestOrder script w x y names files (no_entry x)
-  no_second : (logs : List LogRead) (graph : EntryGraph SealedEntry) → AreReadUnder script w names files logs graph →
-      (e : SealedEntry) → MeansEntry (roster_of script) graph.survivors x e →
-      MeansNone (roster_of script) graph.survivors y → IsHonestOrder script w x y names files (no_entry y)
-  both : (logs : List LogRead) (graph : EntryGraph SealedEntry) → AreReadUnder script w names files logs graph →
-      (e f : SealedEntry) → MeansEntry (roster_of script) graph.survivors x e →
-      MeansEntry (roster_of script) graph.survivors y f → (word : OrderWord) → IsHonestWord w files e f word →
-      IsHonestOrder script w x y names files (line_answer Done (order_word word))
+-- What is answered over such files of w. The roster is accepted, and the logs and their graph accuse
+-- nobody. The answer is a refusal, because a word means no survivor; or a word that is right in w.
+pub record IsHonestOrder (script : Script) (w : World SealedEntry) (x y : List ℕ) (names : List (List ℕ))
+    (files : List (Option (List ℕ))) (answer : Answer) : Type 0 where
+  pub logs : List LogRead
+  pub graph : EntryGraph SealedEntry
+  pub read : IsHonestlyRead (roster_of script) (election_of (roster_of script)) w names files logs graph
+  pub among : IsOrderAmong (roster_of script) graph.survivors x y answer
+  pub right : (e f : SealedEntry) → MeansEntry (roster_of script) graph.survivors x e →
+      MeansEntry (roster_of script) graph.survivors y f →
+      (order : IsOrderOf graph.survivors e f answer) → IsHonestWord w files e f order.word
 
 -- The answer is such a one where different entries of w have different digests. A word over all
 -- logs of w, whole, shows that they have.

@@ -8,6 +8,7 @@ pub mod ScriptFile
 pub mod NamedBytes
 pub mod OfficeFile
 pub mod HonestPlace
+pub mod TwoEntries
 pub mod Honest
 pub mod HonestAudit
 pub mod Audit

@@ -85,8 +85,8 @@ pub record Call : Type 0 where
 pub record IsCall (IsDone : Command → Type 0) (call : Call) : Type 0 where
   pub old : Outside
   pub new : Outside
-  pub told : old.store.files ≡ Some call.before
-  pub left : new.store.files ≡ Some call.after
+  pub told : old.files ≡ Some call.before
+  pub left : new.files ≡ Some call.after
   pub done : HasDone IsDone call.words (IsGivenSomehow old) old call.how new
 
 -- the words are those of `office`, `endorse` or `endorsed`
@@ -113,8 +113,8 @@ AreCallsOn IsDone name files (call ∷ calls) =
 pub record UsesNumber (name : List ℕ) (call : Call) (read : Unsigned) : Type 0 where
   pub file : List ℕ
   pub means : Means call.words (endorse name file)
-  pub read_so : ReadsUnsigned call.before name file read
-  pub next : IsOfficeIn call.after name (next_office read.office)
+  pub read_so : GivesUnsigned name file (call.before (office_file name) ∷ call.before file ∷ []) (Ok read)
+  pub next : IsSomeAnd (call.after (office_file name)) (λ bytes. IsOffice bytes (next_office read.office))
 
 -- the numbers that calls use rise, so that each is used once
 abbrev pub NumbersRise : List ℕ → List Call → Type 0

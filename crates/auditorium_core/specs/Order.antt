@@ -1,5 +1,5 @@
 -- The command `order`.
-use Rattle.std.specs.Prelude.{◌≡◌, ◌≢◌, ◌⊎◌, ℕ, List, [], ◌∷◌, length, Option, ◌↔◌, Ok, codes}
+use Rattle.std.specs.Prelude.{ℕ, List, [], ◌∷◌, length, Option, ◌↔◌, Ok, codes}
 use Rattle.std.specs.List.{Contains}
 use Rattle.entry_order.specs.Precedes.{Precedes}
 use Rattle.entry_order.specs.Settled.{IsWhole}
@@ -15,36 +15,13 @@ use Rattle.evidence.specs.declared.roster_file.RosterRead.{RosterRead}
 use Rattle.evidence.specs.RosterFile.{GivesRoster}
 use Rattle.evidence.specs.Logs.{GivesLogs}
 use Rattle.evidence.specs.Graphs.{entries_of, GivesGraph}
-use Rattle.auditorium_core.specs.declared.order_word.OrderWord.{OrderWord}
-use Rattle.auditorium_core.specs.declared.order_word.OrderWord.TheVariants.{Same, Before, After, Apart, Unknown}
 use Rattle.auditorium_core.specs.declared.status.Status.TheVariants as status
-use Rattle.auditorium_core.specs.Lines.{Answer, OrRefused, line_answer, no_entry, order_word}
-use Rattle.auditorium_core.specs.EntryWords.{IsEntryWord, MeansEntry, MeansNone}
+use Rattle.auditorium_core.specs.Lines.{Answer, OrRefused}
+use Rattle.auditorium_core.specs.EntryWords.{IsEntryWord, MeansEntry}
 use Rattle.auditorium_core.specs.Honest.{IsOrderOfPlaces}
+use Rattle.auditorium_core.specs.TwoEntries.{IsBefore, IsOrderAmong}
 use Rattle.auditorium_core.specs.WordForms.{AreLogs}
 use Rattle.auditorium_core.specs.CommandParts.{CommandParts, OnFirstFile}
-
--- e before f in G, by a path of names
-abbrev pub IsBefore : List SealedEntry → SealedEntry → SealedEntry → Type 0
-IsBefore G e f = Precedes node_of_sealed G e f
-
--- two different entries, neither of which is before the other in G
-pub record AreApart (G : List SealedEntry) (e f : SealedEntry) : Type 0 where
-  pub differ : e ≢ f
-  pub not_before : ¬ IsBefore G e f
-  pub not_after : ¬ IsBefore G f e
-
--- neither e nor f, nor an ancestor of them among S, names an entry that S lacks
-abbrev pub AreWhole : List SealedEntry → SealedEntry → SealedEntry → Type 0
-AreWhole S e f = IsWhole node_of_sealed S e × IsWhole node_of_sealed S f
-
--- what the word says of e and f among the survivors S
-abbrev pub IsWordOf : List SealedEntry → SealedEntry → SealedEntry → OrderWord → Type 0
-IsWordOf S e f Same = e ≡ f
-IsWordOf S e f Before = IsBefore S e f
-IsWordOf S e f After = IsBefore S f e
-IsWordOf S e f Apart = AreApart S e f × AreWhole S e f
-IsWordOf S e f Unknown = AreApart S e f × (¬ AreWhole S e f)
 
 -- what e says comes before what f says, in entries of which nothing else is known than what they
 -- say
@@ -55,32 +32,6 @@ ComesFirst G e f = Precedes node_of G (plain_of e) (plain_of f)
 -- survives
 abbrev pub InEach : ℕ → List SealedEntry → (List Plain → Type 0) → Type 0
 InEach machines S P = (G : List Plain) → Completion node_of machines (plains S) G → P G
-
--- What the word promises of all that the entries may have been of which S survives: `before` and
--- `after` hold in each completion, of `apart` neither holds in any, and `unknown` is printed only
--- where one of the two isn't whole.
-abbrev pub IsSettled : ℕ → List SealedEntry → SealedEntry → SealedEntry → OrderWord → Type 0
-IsSettled machines S e f Same = e ≡ f
-IsSettled machines S e f Before = InEach machines S (λ G. ComesFirst G e f)
-IsSettled machines S e f After = InEach machines S (λ G. ComesFirst G f e)
-IsSettled machines S e f Apart =
-    (e ≢ f) × InEach machines S (λ G. (¬ ComesFirst G e f) × (¬ ComesFirst G f e))
-IsSettled machines S e f Unknown = ¬ AreWhole S e f
-
--- the answer of two survivors (Auditorium, EVT 2007; Querifier, SADFE 2008)
-pub record IsOrderOf (machines : List Post) (S : List SealedEntry) (e f : SealedEntry) (answer : Answer) : Type 0 where
-  pub word : OrderWord
-  pub right : IsWordOf S e f word
-  pub settled : IsSettled (length machines) S e f word
-  pub told : answer ≡ line_answer status.Done (order_word word)
-
--- the answer of two words among the survivors S
-abbrev pub IsOrderAmong : List Post → List SealedEntry → List ℕ → List ℕ → Answer → Type 0
-IsOrderAmong machines S x y answer =
-    (MeansNone machines S x × (answer ≡ no_entry x))
-    ⊎ ((e : SealedEntry) × MeansEntry machines S x e
-    × ((MeansNone machines S y × (answer ≡ no_entry y))
-    ⊎ ((f : SealedEntry) × MeansEntry machines S y f × IsOrderOf machines S e f answer)))
 
 -- the answer over given entries
 abbrev pub IsOrderOver : List Post → List ℕ → List ℕ → List SealedEntry → Answer → Type 0

@@ -27,37 +27,28 @@ SetsSome old (file ∷ files) new =
     SetsPrefix old file.0 file.1 new ⊎ SetsSome (with_file old file.0 file.1) files new
 
 -- files put one after another, up to the first that fails
-pub data PutsAll {S : Type 0} (create : List ℕ → S → Bool → S → Type 0)
-    (append : List ℕ → S → List ℕ → Result ℕ Failed → S → Type 0) : S → List (List ℕ × List ℕ) → Bool → S
-    → Type 0 where
-  all_put : (now : S) → PutsAll create append now [] true now
-  fails : (old new : S) (file : List ℕ × List ℕ) (files : List (List ℕ × List ℕ))
-      → PutsFile (create file.0) (append file.0) old file.1 false new → PutsAll create append old
-      (file ∷ files) false new
-  puts : (old mid new : S) (file : List ℕ × List ℕ) (files : List (List ℕ × List ℕ)) (ok : Bool)
-      → PutsFile (create file.0) (append file.0) old file.1 true mid → PutsAll create append mid files ok new
-      → PutsAll create append old (file ∷ files) ok new
+abbrev pub PutsAll : {S : Type 0} → StoreGhosts S → S → List (List ℕ × List ℕ) → Bool → S → Type 0
+PutsAll of old [] ok new = (new ≡ old) × (ok ≡ true)
+PutsAll {S} of old (file ∷ files) ok new =
+    (PutsFile (of.creates file.0) (of.appends file.0) old file.1 false new × (ok ≡ false))
+    ⊎ ((mid : S) × PutsFile (of.creates file.0) (of.appends file.0) old file.1 true mid × PutsAll of mid files ok new)
 
 -- files put one after another, and one call that says that they are all; without files there is no
 -- call
-pub data PlacesAll {S : Type 0} (create : List ℕ → S → Bool → S → Type 0)
-    (append : List ℕ → S → List ℕ → Result ℕ Failed → S → Type 0) (finish : S → Bool → S → Type 0)
-    : S → List (List ℕ × List ℕ) → Bool → S → Type 0 where
-  no_files : (now : S) → PlacesAll create append finish now [] true now
-  not_put : (old new : S) (files : List (List ℕ × List ℕ)) → PutsAll create append old files false new
-      → PlacesAll create append finish old files false new
-  finishes : (old mid new : S) (file : List ℕ × List ℕ) (files : List (List ℕ × List ℕ)) (ok : Bool)
-      → PutsAll create append old (file ∷ files) true mid → finish mid ok new
-      → PlacesAll create append finish old (file ∷ files) ok new
+abbrev pub PlacesAll : {S : Type 0} → StoreGhosts S → S → List (List ℕ × List ℕ) → Bool → S → Type 0
+PlacesAll of old [] ok new = (new ≡ old) × (ok ≡ true)
+PlacesAll {S} of old (file ∷ files) ok new =
+    (PutsAll of old (file ∷ files) false new × (ok ≡ false))
+    ⊎ ((mid : S) × PutsAll of old (file ∷ files) true mid × of.finishes mid ok new)
 
 -- The calls by which an answer's files are put in place: those that are ahead, and once the store
 -- has them, and nothing else has changed, the others. The first call that fails is the last.
 abbrev pub PlacesInTurn : {S : Type 0} → StoreGhosts S → Answer → S → Bool → S → Type 0
 PlacesInTurn {S} of answer old ok new =
-    (PlacesAll of.creates of.appends of.finishes old (take answer.ahead answer.files) false new × (ok ≡ false))
-    ⊎ ((mid : S) × PlacesAll of.creates of.appends of.finishes old (take answer.ahead answer.files) true mid
+    (PlacesAll of old (take answer.ahead answer.files) false new × (ok ≡ false))
+    ⊎ ((mid : S) × PlacesAll of old (take answer.ahead answer.files) true mid
     × (of.files mid ≡ with_files (of.files old) (take answer.ahead answer.files))
-    × PlacesAll of.creates of.appends of.finishes mid (drop answer.ahead answer.files) ok new)
+    × PlacesAll of mid (drop answer.ahead answer.files) ok new)
 
 -- The calls by which an answer is written: each file by one create and by appends, one finish after
 -- the files that are ahead and one after the others, if there are any, and then the output by
@@ -81,36 +72,29 @@ IsGivenBy {S} of_store of_sink store out store_after out_after answer ok names P
 
 -- an answer is given by whatever calls; this holds of the exposed files of these names
 abbrev pub IsGivenSomehow : Outside → Answer → Bool → List (List ℕ) → (List (Option (List ℕ)) → Type 0) → Type 0
-IsGivenSomehow old answer ok = OnExposed old.store.files
+IsGivenSomehow old answer ok = OnExposed old.files
 
 -- nothing was written, and no write failed
 pub record IsUnwritten (old new : Outside) : Type 0 where
-  pub files : new.store.files ≡ old.store.files
+  pub files : new.files ≡ old.files
   pub output : new.output ≡ old.output
-  pub write_faults : new.store.write_faults ≡ old.store.write_faults
+  pub write_faults : new.write_faults ≡ old.write_faults
   pub output_faults : new.output_faults ≡ old.output_faults
 
 -- all of the answer was written
 pub record IsWritten (answer : Answer) (old new : Outside) : Type 0 where
-  pub files : new.store.files ≡ with_files old.store.files answer.files
+  pub files : new.files ≡ with_files old.files answer.files
   pub output : new.output ≡ appended old.output answer.output
 
 -- a write failed: the files were written up to some place, and a prefix of the output
 pub record IsCutShort (answer : Answer) (old new : Outside) : Type 0 where
-  pub cause : HasRisen old.store.write_faults new.store.write_faults ⊎ HasRisen old.output_faults new.output_faults
-  pub files : SetsSome old.store.files answer.files new.store.files
+  pub cause : HasRisen old.write_faults new.write_faults ⊎ HasRisen old.output_faults new.output_faults
+  pub files : SetsSome old.files answer.files new.files
   pub output : AppendsPrefix old.output answer.output new.output
   -- each file is whole unless the store failed, and the output is empty unless the sink did
-  pub all_files : ¬ HasRisen old.store.write_faults new.store.write_faults
-      → new.store.files ≡ with_files old.store.files answer.files
+  pub all_files : ¬ HasRisen old.write_faults new.write_faults
+      → new.files ≡ with_files old.files answer.files
   pub no_output : ¬ HasRisen old.output_faults new.output_faults → new.output ≡ old.output
-
--- an answer to the words that is right, in this call
-abbrev pub GivesAnswer : (Command → Type 0) → List (List ℕ) →
-    (List (List ℕ) → (List (Option (List ℕ)) → Type 0) → Type 0)
-    → Outside → Outside → Answer → Type 0
-GivesAnswer IsDone words OnFiles old new answer =
-    IsAnswerOf IsDone words OnFiles old.store.answered.absences new.store.answered.absences answer
 
 -- What was done for words where these are the commands. Where it ran out of memory, no read and no
 -- write failed. A status other than that and the faults of the outside is that of the answer. An
@@ -119,11 +103,11 @@ GivesAnswer IsDone words OnFiles old new answer =
 abbrev pub HasDone : (Command → Type 0) → List (List ℕ)
     → (Answer → Bool → List (List ℕ) → (List (Option (List ℕ)) → Type 0) → Type 0) → Outside → Status → Outside → Type 0
 HasDone IsDone words IsGiven old ReadFault new =
-    HasRisen old.store.read_faults new.store.read_faults × IsUnwritten old new
+    HasRisen old.read_faults new.read_faults × IsUnwritten old new
 HasDone IsDone words IsGiven old WriteFault new =
-    (answer : Answer) × GivesAnswer IsDone words (IsGiven answer false) old new answer × IsCutShort answer old new
+    (answer : Answer) × IsAnswerOf IsDone words (IsGiven answer false) old new answer × IsCutShort answer old new
 HasDone IsDone words IsGiven old Memory new =
-    IsUnwritten old new × (new.store.read_faults ≡ old.store.read_faults)
+    IsUnwritten old new × (new.read_faults ≡ old.read_faults)
 HasDone IsDone words IsGiven old status new =
-    (answer : Answer) × GivesAnswer IsDone words (IsGiven answer true) old new answer × (status ≡ answer.status)
+    (answer : Answer) × IsAnswerOf IsDone words (IsGiven answer true) old new answer × (status ≡ answer.status)
     × IsWritten answer old new

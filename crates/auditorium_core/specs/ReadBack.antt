@@ -1,6 +1,6 @@
 -- What `audit` and `order` answer over the files that `play`, `repair` or `run` wrote, read back by
 -- their names.
-use Rattle.std.specs.Prelude.{ℕ, List, map, codes, Option, Some}
+use Rattle.std.specs.Prelude.{◌≡◌, ℕ, List, map, codes, Option, Some}
 use Rattle.hall_outside.specs.Files.{Files}
 use Rattle.entry_format.specs.Nodes.{node_of_sealed}
 use Rattle.entry_format.specs.SealedEntry.{SealedEntry}
@@ -10,9 +10,11 @@ use Rattle.election_script.specs.declared.script.Script.{Script}
 use Rattle.polling_world.specs.Machines.{MachineState}
 use Rattle.polling_world.specs.Worlds.{world_of}
 use Rattle.honest_logs.specs.LeftFiles.{AreAllFilesOf, written_logs}
+use Rattle.auditor.specs.Sources.{standard}
+use Rattle.auditorium_core.specs.declared.status.Status.TheVariants as status
 use Rattle.auditorium_core.specs.Answer.{IsAnswerTo}
 use Rattle.auditorium_core.specs.Honest.{IsHonestOrder}
-use Rattle.auditorium_core.specs.HonestAudit.{TellsAllKept}
+use Rattle.auditorium_core.specs.HonestAudit.{TellsHonestReport}
 use Rattle.auditorium_core.specs.Lines.{Answer}
 use Rattle.auditorium_core.specs.Outcome.{with_files}
 use Rattle.auditorium_core.specs.Play.{IsPlayOf, machine_log_name, roster_name}
@@ -31,7 +33,8 @@ pub record AreReadBack (prefix : List ℕ) (script : Script) (machines : List Ma
     (now : Option Files) : Type 0 where
   pub audit : (answer : Answer) →
       IsAnswerTo (audit (roster_name prefix) (codes "standard") (log_names prefix machines)) now answer →
-      TellsAllKept script w (log_names prefix machines) (written_logs machines) answer
+      TellsHonestReport script w standard (log_names prefix machines) (written_logs machines) answer
+      × (answer.status ≡ status.Done)
   pub order : (x y : List ℕ) (answer : Answer) →
       IsAnswerTo (order (roster_name prefix) x y (log_names prefix machines)) now answer →
       IsHonestOrder script w x y (log_names prefix machines) (written_logs machines) answer

@@ -1,5 +1,5 @@
 -- The command `run`.
-use Rattle.std.specs.Prelude.{◌≡◌, ℕ, List, [], ◌∷◌, ◌++◌, All, Option, Some, codes, length, slice_get, ⊤}
+use Rattle.std.specs.Prelude.{◌≡◌, ℕ, List, [], ◌∷◌, ◌++◌, ◌≤◌, All, Option, Some, IfSome, false, codes, length, slice_get, ⊤}
 use Rattle.std.specs.List.{flat_map}
 use Rattle.std.specs.Fmt.{decimal}
 use Rattle.entry_format.specs.Nodes.{node_of_sealed}
@@ -8,9 +8,11 @@ use Rattle.entry_order.specs.Receipt.{IsOrderly}
 use Rattle.entry_order.specs.declared.step.Step.{Step}
 use Rattle.entry_order.specs.World.{World, history}
 use Rattle.roster.specs.declared.post.Post.{Post}
+use Rattle.election_script.specs.declared.script.Cast0.{Cast0}
 use Rattle.election_script.specs.declared.script.Script.{Script}
 use Rattle.polling_world.specs.Keys.{roster_of}
-use Rattle.polling_world.specs.Machines.{IsFresh, IsWithinStop, MachineState}
+use Rattle.polling_world.specs.Configs.{config_of}
+use Rattle.polling_world.specs.Machines.{MachineState}
 use Rattle.polling_world.specs.Merging.{IsMerged}
 use Rattle.polling_world.specs.Playing.{ComesTo}
 use Rattle.polling_world.specs.Worlds.{world_of}
@@ -57,36 +59,34 @@ pub record ArePlayedAgainBy (script : Script) (machines : List MachineState) (st
   pub comes : ComesTo script steps w
   pub same : (m : ℕ) → history w m ≡ history (world_of machines) m
 
--- The script's machine at this place, as it was made, with its stop line, and no event after that.
--- That its history is legal and that each entry could be sent follows from the replay.
+-- The script's machine at this place, as it was made but for its events, with its stop line, and no
+-- event after that. That its history is legal and that each entry could be sent follows from the
+-- replay.
 pub record IsRunMachine (script : Script) (place : ℕ) (m : MachineState) : Type 0 where
   pub stop : IsStopOf script.stops place m.stop
-  pub made : IsFresh script place m.stop (record m { events = [] })
-  pub within : IsWithinStop m.stop (length m.events)
+  pub made : (cast : Cast0) × (slice_get script.machines place ≡ Some cast)
+      × (m ≡ record { config = config_of script place cast; stop = m.stop; marked = false; events = m.events })
+  pub within : IfSome m.stop (λ stop. length m.events ≤ stop)
 
 -- the machines of the script, in its order
 pub record AreRunMachines (script : Script) (machines : List MachineState) : Type 0 where
   pub count : length machines ≡ length script.machines
   pub each : (place : ℕ) (m : MachineState) → slice_get machines place ≡ Some m → IsRunMachine script place m
 
--- What a run comes to: the script's machines, whose histories are orderly; what is lost, with causes;
--- and nothing that could be done was left.
-pub record IsRunFloor (script : Script) (states : List MachineState) (lost : List Loss) : Type 0 where
-  pub machines : AreRunMachines script states
-  pub orderly : IsOrderly node_of_sealed (world_of states)
-  pub losses : AreLosses script states lost
-  pub roomy : LosesNothing script states lost
-  pub at_end : All IsAtEnd states
-
--- The answer of a run of the script's machines: they did what a play on one thread does, each entry
--- arrived or is reported as lost, once and with its cause, and nothing that could be done was left.
+-- The answer of a run of the script's machines, whose histories are orderly: they did what a play on
+-- one thread does, each entry arrived or is reported as lost, once and with its cause, and nothing
+-- that could be done was left.
 pub record IsRunOf (prefix : List ℕ) (script : Script) (answer : Answer) : Type 0 where
   pub machines : List MachineState
   pub losses : List Loss
   pub steps : List Step
   pub w : World SealedEntry
   pub undone : List ℕ
-  pub floor : IsRunFloor script machines losses
+  pub made : AreRunMachines script machines
+  pub orderly : IsOrderly node_of_sealed (world_of machines)
+  pub lost : AreLosses script machines losses
+  pub roomy : LosesNothing script machines losses
+  pub at_end : All IsAtEnd machines
   pub again : ArePlayedAgainBy script machines steps w
   pub order : KeepOrder machines
   pub honest : LeaveHonestFiles script machines w

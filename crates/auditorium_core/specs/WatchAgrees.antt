@@ -15,9 +15,8 @@ use Rattle.live_auditor.specs.Summary.{Summary}
 use Rattle.auditorium_core.specs.declared.status.Status.TheVariants as status
 use Rattle.auditorium_core.specs.HonestPlace.{OnEachPlace}
 use Rattle.auditorium_core.specs.Lines.{Answer, refused_answer}
-use Rattle.auditorium_core.specs.Audit.{source_named, IsAuditOver, IsSound}
+use Rattle.auditorium_core.specs.Audit.{source_named, IsAuditOf, IsAuditOver}
 use Rattle.auditorium_core.specs.HonestAudit.{IsOfReport}
-use Rattle.auditorium_core.specs.ReportAnswers.{report_answer}
 use Rattle.auditorium_core.specs.Watch.{IsWatchOver, watch_line, watch_lines}
 
 -- what a report says, as `watch` says it of entries
@@ -37,8 +36,7 @@ pub record AgreesWithAudit (roster rules : List ℕ) (logs : List (List ℕ))
     (files : List (Option (List ℕ))) (watched audited : Answer) : Type 0 where
   pub report : AuditReport
   pub given : GivesReport roster (source_named rules) logs files (Ok report)
-  pub sound : IsSound report
-  pub audit : audited ≡ report_answer report
+  pub audit : IsAuditOf report audited
   pub status : watched.status ≡ audited.status
   pub last : entries_of report.logs ≢ [] → (earlier : List ℕ)
       × (watched.output
@@ -92,18 +90,12 @@ pub record BreaksNoRule (watched : Answer) : Type 0 where
   pub unbroken : All (λ (summary : Summary). count_by is_broken summary.verdicts ≡ 0) summaries
   pub status : watched.status ≢ status.Broken
 
--- `watch` is refused because more than 1,024 different entries are in the logs, or it says of no
--- rule that it is broken
-abbrev pub IsHonestWatch : Answer → Type 0
-IsHonestWatch watched =
-    (watched ≡ refused_answer (codes "entries") 0 (codes "TooMany")) ⊎ BreaksNoRule watched
-
 -- The law: over what is left of an honest place, and where different entries have different
--- digests, `watch` by the standard rules is refused only because of too many entries, and otherwise
--- says of no rule that it is broken.
+-- digests, `watch` by the standard rules is refused only because more than 1,024 different entries
+-- are in the logs, and otherwise says of no rule that it is broken.
 abbrev pub HonestWatchesBreakNoRule : Type 0
 HonestWatchesBreakNoRule =
     (roster : Option (List ℕ)) (logs : List (Option (List ℕ))) →
     OnEachPlace (λ script w. Distinct node_of_sealed (sent_in w) → (name : List ℕ) (names : List (List ℕ))
-    (watched : Answer) → IsWatchOver name (codes "standard") names (roster ∷ logs) watched → IsHonestWatch watched)
-    roster logs
+    (watched : Answer) → IsWatchOver name (codes "standard") names (roster ∷ logs) watched →
+    (watched ≡ refused_answer (codes "entries") 0 (codes "TooMany")) ⊎ BreaksNoRule watched) roster logs

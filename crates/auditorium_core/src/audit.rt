@@ -16,7 +16,6 @@ use crate::word_forms::are_logs;
 use crate::words::Request;
 use auditor::{Outcome, Report, RulesFrom, write_report};
 use entry_format::Sealed;
-use entry_order::gaps_are_unique;
 use evidence::AuditFault;
 use hall_outside::Store;
 use rule_meaning::rules_are_settled;
@@ -69,7 +68,6 @@ fn answer_of(alloc: Global, report: &Report) -> Result<Answer, AllocError>
     let text = write_report(alloc, report)?;
     let outcome = report.outcome();
     rules_are_settled::<Sealed>();
-    gaps_are_unique::<Sealed>();
     Ok(Answer::of_text(alloc, status_by(outcome), text))
 }
 

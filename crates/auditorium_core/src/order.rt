@@ -27,7 +27,8 @@ ghost use Rattle.evidence.specs.Reading.{IsReadFrom, IsReadFromFile};
 ghost use Rattle.evidence.specs.RosterFile.{GivesRoster};
 ghost use Rattle.auditorium_core.specs.Words.{order};
 ghost use Rattle.auditorium_core.specs.EntryWords.{IsNamedBy, IsNumbered, MeansEntry, by_number};
-ghost use Rattle.auditorium_core.specs.Order.{AreOrderWords, IsOrderAmong, IsOrderOver};
+ghost use Rattle.auditorium_core.specs.Order.{AreOrderWords, IsOrderOver};
+ghost use Rattle.auditorium_core.specs.TwoEntries.{IsOrderAmong};
 ghost use Rattle.auditorium_core.specs.inside.EntryNames.{IsLowerAt, IsPlaceOf, IsWordAt, word_by};
 ghost use Rattle.auditorium_core.specs.inside.Meaning.{IsReadAs};
 ghost use Rattle.auditorium_core.specs.inside.Promise.{IsAnsweredBy};
@@ -170,7 +171,6 @@ fn order_among(
         return Answer::refused(alloc, y, 0, "NoEntry");
     };
     let word = word_at(alloc, graph, first, second)?;
-    order_is_settled::<Sealed>();
     Answer::line(alloc, word.word())
 }
 

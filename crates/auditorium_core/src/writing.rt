@@ -16,7 +16,7 @@ fn put_files<S: Store>(store: &mut S, files: &[OutputFile]) -> Result<(), Failed
     ensures cause { HasCause (S.write_faults store.old) (S.write_faults store.new) (IsErr result) }
     ensures answered { S.answered store.new ≡ S.answered store.old }
     ensures read_faults { S.read_faults store.new ≡ S.read_faults store.old }
-    ensures calls { PutsAll S.creates S.appends store.old files.now (is_ok result) store.new }
+    ensures calls { PutsAll S.Store store.old files.now (is_ok result) store.new }
 {
     for file in files {
         put_file(store, file.name(), file.bytes())?;
@@ -31,7 +31,7 @@ fn place_files<S: Store>(store: &mut S, files: &[OutputFile]) -> Result<(), Fail
     ensures cause { HasCause (S.write_faults store.old) (S.write_faults store.new) (IsErr result) }
     ensures answered { S.answered store.new ≡ S.answered store.old }
     ensures read_faults { S.read_faults store.new ≡ S.read_faults store.old }
-    ensures calls { PlacesAll S.creates S.appends S.finishes store.old files.now (is_ok result)
+    ensures calls { PlacesAll S.Store store.old files.now (is_ok result)
         store.new }
 {
     if files.is_empty() {

@@ -1,8 +1,8 @@
 -- What is given by what is left of an honest world's logs.
-use Rattle.honest_logs.proofs.Imports.{◌≡◌, ◌≢◌, ◌∙◌, ℕ, zero, suc, ◌<◌, inl, inr, List, [], ◌∷◌, length, map, take}
+use Rattle.honest_logs.proofs.Imports.{◌≡◌, ◌∙◌, ℕ, zero, suc, ◌<◌, inl, inr, List, [], ◌∷◌, length, map, take}
 use Rattle.honest_logs.proofs.Imports.{refl, ap, sym, subst, ◌≤◌, arith, ◌↔◌, Contains, All-contains}
-use Rattle.honest_logs.proofs.Imports.{Contains-append_left, Contains-append_right, Event, Sent, Got, Three, False}
-use Rattle.honest_logs.proofs.Imports.{Unknown, True, before, HeldBefore, entry_of, AgreesWith, Distinct, IsOrderly}
+use Rattle.honest_logs.proofs.Imports.{Contains-append_left, Contains-append_right, Event, Sent, Got}
+use Rattle.honest_logs.proofs.Imports.{slice_get, entry_of, AgreesWith, Distinct, IsOrderly}
 use Rattle.honest_logs.proofs.Imports.{IsStray, survivors, World, history, sent_in}
 use Rattle.honest_logs.proofs.Imports.{honest_entries_agree_in_orderly_worlds, Contains-none, Contains-at}
 use Rattle.honest_logs.proofs.Imports.{Contains-head, Contains-cons_cases, Contains-later, Contains-map}
@@ -14,15 +14,14 @@ use Rattle.honest_logs.proofs.Imports.{distinct_bears, Post, node_of_sealed, Sea
 use Rattle.honest_logs.proofs.Imports.{election_of, Kept, LogRead, event_of, entries_of, HaveAll, IsAllGiven}
 use Rattle.honest_logs.proofs.Imports.{IsAllTold, IsHonestGraph, IsHonestlyGiven, IsHonestWorld, IsPrefixRead}
 use Rattle.honest_logs.proofs.Imports.{IsReadIn, AreReadIn, none_inside, entry_is, max_actions}
-use Rattle.std.proofs.Common.{Ok, Err}
+use Rattle.std.proofs.Common.{Ok, Err, Some}
 use Rattle.honest_logs.proofs.Few.{few_distinct}
 
--- an order that is never unknown is reported exactly
-told_exactly : (told : Three) (P : Type 0) → (told ≡ True → P) → (told ≡ False → ¬ P) → told ≢ Unknown →
-    ((told ≡ True) ↔ P) × ((told ≡ False) ↔ (¬ P))
-told_exactly True P held free known = ((held, λ p. refl), (free, λ none. absurd (none (held refl))))
-told_exactly False P held free known = ((held, λ p. absurd (free refl p)), (free, λ none. refl))
-told_exactly Unknown P held free known = absurd (known refl)
+-- within a list there is an item at a place
+item_at : {X : Type 0} (xs : List X) (i : ℕ) → i < length xs → (x : X) × (slice_get xs i ≡ Some x)
+item_at [] i within = absurd (omega arith)
+item_at (x ∷ xs) zero within = (x, refl)
+item_at (x ∷ xs) (suc i) within = item_at xs i (omega arith)
 
 -- what is among the first is among all
 Contains-take : {X : Type 0} (xs : List X) (k : ℕ) (x : X) → Contains (take k xs) x → Contains xs x
@@ -110,17 +109,16 @@ module _ (w : World SealedEntry) (orderly : IsOrderly node_of_sealed w) where
           (λ e c. sent e ((members e).0 c))
 
       -- where all that was sent is given, all is reported
-      all_told : IsAllGiven w given → IsAllTold w graph
+      all_told : IsAllGiven w given → IsAllTold graph
       all_told all =
-          let known = agrees.all_known (λ e c. (members e).1 (all e c)) in
-          let arrows = is.kept.linked.arrows in
+          let told = agrees.all_known (λ e c. (members e).1 (all e c)) in
           record {
-            no_gap = is.kept.gaps ∙ known.no_gaps;
-            order = λ y x f e at there.
-                let order = agrees.order (parents_of graph.links) (ragged_of graph.links) arrows y x f e at there in
-                told_exactly (before (parents_of graph.links) (ragged_of graph.links) y x) (HeldBefore w f e) order.0
-                order.1
-                (known.no_unknown (parents_of graph.links) (ragged_of graph.links) arrows y x f e at there);
+            no_gap = is.kept.gaps ∙ told.no_gaps;
+            known = λ y x at there.
+                let (f, is_f) = item_at graph.survivors y at in
+                let (e, is_e) = item_at graph.survivors x there in
+                told.no_unknown (parents_of graph.links) (ragged_of graph.links) is.kept.linked.arrows y x f e is_f
+                is_e;
           }
 
       -- so the graph is an honest one
@@ -133,7 +131,8 @@ module _ (w : World SealedEntry) (orderly : IsOrderly node_of_sealed w) where
                 let (e, f, ce, cf, differ, me, ne, mf, nf) = (is.kept.forks.members p.0 p.1).0 c in
                 differ (agrees.no_fork e f ce cf (me ∙ sym mf) (ne ∙ sym nf)));
             members = members;
-            agrees = agrees;
+            completed = agrees.completed;
+            order = agrees.order (parents_of graph.links) (ragged_of graph.links) is.kept.linked.arrows;
             all_told = all_told;
           }
 

@@ -7,6 +7,7 @@ use Rattle.honest_logs.proofs.Imports.{IsOfScript}
 use Rattle.std.specs.Prelude.{Result, Ok, Err}
 use Rattle.honest_logs.proofs.HonestGraphs.{graph_is_given, graph_is_honest, graph_shows_distinct, of_script_election}
 use Rattle.honest_logs.proofs.HonestGraphs.{of_script_is_honest}
+use Rattle.honest_logs.proofs.Given.{all_given}
 use Rattle.honest_logs.proofs.LeftFileFacts.{each_is_read, files_are_given, files_are_read, files_have_all}
 
 module _ (machines : List Post) (election : List ℕ) (w : World SealedEntry) (is : IsOfScript machines election w) where
@@ -32,7 +33,7 @@ module _ (machines : List Post) (election : List ℕ) (w : World SealedEntry) (i
         gives_logs = gives;
         gives_graph = made;
         each = each_is_read machines w honest names files left logs here;
-        all = λ whole. files_have_all machines w honest names files whole logs here;
+        all = λ whole. all_given w logs (files_have_all machines w honest names files whole logs here);
         honest = graph_is_honest machines w honest apart logs
             (files_are_read machines w honest names files left logs here) graph made;
       }

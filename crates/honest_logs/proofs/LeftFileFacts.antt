@@ -1,5 +1,5 @@
 -- What the files that are left of an honest world's logs give.
-use Rattle.honest_logs.proofs.Imports.{◌≡◌, ℕ, ◌<◌, ◌≤◌, inl, inr, List, [], ◌∷◌, Option, Some, None, length, refl, ap}
+use Rattle.honest_logs.proofs.Imports.{ℕ, ◌≤◌, inl, inr, List, [], ◌∷◌, Option, Some, None, length, refl, ap}
 use Rattle.honest_logs.proofs.Imports.{subst, arith, IsSomeAnd, Contains, All-nil, All-cons, All-head, All-tail, World}
 use Rattle.honest_logs.proofs.Imports.{history, Contains-none, Contains-head, Contains-later, Contains-cons_cases, Post}
 use Rattle.honest_logs.proofs.Imports.{SealedEntry, election_of, LogRead, max_bytes, IsSealedLogOf, HasHeader, log_text}
@@ -25,7 +25,7 @@ not_refused name bytes refusal header short (fault.ReadFault, why, told) = cc
 not_refused name bytes refusal header short (fault.Memory, why, told) = cc
 
 -- what files are read as are logs of the world
-read_of_read : (w : World SealedEntry) (files : List (Option (List ℕ))) (logs : List LogRead) → AreReadOf w files logs →
+pub read_of_read : (w : World SealedEntry) (files : List (Option (List ℕ))) (logs : List LogRead) → AreReadOf w files logs →
     AreReadIn w logs
 read_of_read w [] [] read = All-nil (IsReadIn w)
 read_of_read w [] (log ∷ logs) read = absurd read
@@ -41,12 +41,12 @@ module _ (posts : List Post) (w : World SealedEntry) (honest : IsHonestWorld pos
       IsSealedLogOf posts (election_of posts) log file → IsReadOf w file log
   file_is_read None log left said = absurd left
   file_is_read (Some bytes) log left said = record {
-    machine = left.machine;
+    machine = left.0;
     bytes = bytes;
-    there = left.there;
+    there = left.1;
     has = refl;
-    left = left.left;
-    read = read_in posts w honest left.machine left.there bytes left.left log said.1;
+    left = left.2;
+    read = read_in posts w honest left.0 left.1 bytes left.2 log said.1;
   }
 
   -- file by file a log is read of what is left
@@ -99,19 +99,19 @@ module _ (posts : List Post) (w : World SealedEntry) (honest : IsHonestWorld pos
   -- log is
   within_limit : (bytes : List ℕ) → IsLeftIn w bytes → length bytes ≤ max_bytes
   within_limit bytes left =
-      let text = log_text left.machine (history w left.machine) in
+      let text = log_text left.0 (history w left.0) in
       let short =
       logs_are_short posts (election_of posts) w honest.orderly
-      (omega (arith, honest.one_each, honest.few_machines)) honest.few_sent honest.valid left.machine
-      (omega (arith, left.there, honest.one_each, honest.few_machines)) in
-      omega (arith, short, ap length left.left.cut, length-take left.left.place text)
+      (omega (arith, honest.one_each, honest.few_machines)) honest.few_sent honest.valid left.0
+      (omega (arith, left.1, honest.one_each, honest.few_machines)) in
+      omega (arith, short, ap length left.2.cut, length-take left.2.place text)
 
   -- no file that is left of a log of an honest world is refused
   file_given : (name : List ℕ) (file : Option (List ℕ)) (refusal : Refusal) → IsFileOf w file →
       ¬ IsLogRefusal name file refusal
   file_given name None refusal left why = left
   file_given name (Some bytes) refusal left why =
-      not_refused name bytes refusal (header_in posts w honest left.machine left.there bytes left.left)
+      not_refused name bytes refusal (header_in posts w honest left.0 left.1 bytes left.2)
       (within_limit bytes left) why
 
   -- files that are left of the logs of an honest world are never refused

@@ -52,10 +52,10 @@ module _ (posts : List Post) (w : World SealedEntry) (honest : IsHonestWorld pos
   pub left_in_is_read : (bytes : List ℕ) → IsLeftIn w bytes → (log : LogRead) →
       SaysSealed posts (election_of posts) bytes log → IsReadIn w log
   left_in_is_read bytes is log said = record {
-    machine = is.machine;
+    machine = is.0;
     bytes = bytes;
-    there = is.there;
-    read = read_in is.machine is.there bytes is.left log said;
+    there = is.1;
+    read = read_in is.0 is.1 bytes is.2 log said;
   }
 
   -- files that are left are read one by one as logs of the world

@@ -23,13 +23,12 @@ module _ (script : Script) (machines : List MachineState) (are : AreOf script ma
   left_at : (place : ℕ) (m : MachineState) → slice_get machines place ≡ Some m
       → IsFileOf (world_of machines) (file_of m)
   left_at place m at =
-      subst (IsFileOf (world_of machines)) (sym (file_at place m at))
-      (record {
-        machine = place;
-        there = (let within = slice_get_within machines place m at in
-            omega (arith, within, length-map machines machine_of));
-        left = whole_is_left place (history (world_of machines) place);
-      })
+      subst (IsFileOf (world_of machines)) (sym (file_at place m at)) (
+        place,
+        (let within = slice_get_within machines place m at in
+            omega (arith, within, length-map machines machine_of)),
+        whole_is_left place (history (world_of machines) place),
+      )
 
   -- and so is whatever file is found there
   left_from : (place : ℕ) (file : Option (List ℕ)) (found : Option MachineState) → slice_get machines place ≡ found →

@@ -1,12 +1,12 @@
 -- What an auditor learns from what is left of an honest place.
-use Rattle.std.specs.Prelude.{◌≡◌, ◌↔◌, ℕ, ◌<◌, List, [], length, slice_get, Some, Err}
+use Rattle.std.specs.Prelude.{◌≡◌, ◌≢◌, ◌↔◌, ℕ, ◌<◌, List, [], length, slice_get, Some, Err}
 use Rattle.std.specs.List.{Contains}
 use Rattle.entry_format.specs.Nodes.{node_of_sealed}
 use Rattle.entry_format.specs.SealedEntry.{SealedEntry}
-use Rattle.entry_order.specs.declared.three.Three.TheVariants.{False, True}
+use Rattle.entry_order.specs.declared.three.Three.TheVariants.{False, Unknown, True}
 use Rattle.entry_order.specs.Ancestors.{before}
 use Rattle.entry_order.specs.HeldBefore.{HeldBefore}
-use Rattle.entry_order.specs.Honest.{AgreesWith}
+use Rattle.entry_order.specs.Completion.{Completion}
 use Rattle.entry_order.specs.World.{World, history, sent_in}
 use Rattle.entry_graph.specs.declared.fault.GraphFault.{GraphFault}
 use Rattle.entry_graph.specs.declared.fault.GraphFault.TheVariants.{Memory}
@@ -25,25 +25,30 @@ HaveAll w logs =
 abbrev pub IsAllGiven : World SealedEntry → List SealedEntry → Type 0
 IsAllGiven w given = (e : SealedEntry) → Contains (sent_in w) e → Contains given e
 
--- nothing is unknown in the graph: it has no gap, and of any two survivors the one is reported to
--- be before the other exactly when it was held before it in w, and not to be exactly when it wasn't
-pub record IsAllTold (w : World SealedEntry) (graph : EntryGraph SealedEntry) : Type 0 where
+-- what the graph says of the order of two survivors is what the machines of w held
+abbrev pub GraphOrderIsHeld : World SealedEntry → EntryGraph SealedEntry → Type 0
+GraphOrderIsHeld w graph =
+    (y x : ℕ) (f e : SealedEntry) → slice_get graph.survivors y ≡ Some f → slice_get graph.survivors x ≡ Some e →
+    (before (parents_of graph.links) (ragged_of graph.links) y x ≡ True → HeldBefore w f e)
+    × (before (parents_of graph.links) (ragged_of graph.links) y x ≡ False → ¬ (HeldBefore w f e))
+
+-- nothing is unknown in the graph: it has no gap, and the order of any two survivors is said
+pub record IsAllTold (graph : EntryGraph SealedEntry) : Type 0 where
   pub no_gap : graph.gaps ≡ []
-  pub order : (y x : ℕ) (f e : SealedEntry) →
-      slice_get graph.survivors y ≡ Some f → slice_get graph.survivors x ≡ Some e →
-      ((before (parents_of graph.links) (ragged_of graph.links) y x ≡ True) ↔ HeldBefore w f e)
-      × ((before (parents_of graph.links) (ragged_of graph.links) y x ≡ False) ↔ (¬ (HeldBefore w f e)))
+  pub known : (y x : ℕ) → y < length graph.survivors → x < length graph.survivors →
+      before (parents_of graph.links) (ragged_of graph.links) y x ≢ Unknown
 
 -- The graph of what is given accuses nobody: it has no stray and no fork, its survivors are the
--- entries given, and they agree with w. Where all that was sent is given, all is reported
--- (Auditorium, EVT 2007).
+-- entries given, what w sent completes them, and what it says of their order is what the machines
+-- held. Where all that was sent is given, nothing is unknown (Auditorium, EVT 2007).
 pub record IsHonestGraph (w : World SealedEntry) (given : List SealedEntry) (graph : EntryGraph SealedEntry)
     : Type 0 where
   pub no_stray : graph.strays ≡ []
   pub no_fork : graph.forks ≡ []
   pub members : (e : SealedEntry) → Contains graph.survivors e ↔ Contains given e
-  pub agrees : AgreesWith node_of_sealed (length w) w graph.survivors
-  pub all_told : IsAllGiven w given → IsAllTold w graph
+  pub completed : Completion node_of_sealed (length w) graph.survivors (sent_in w)
+  pub order : GraphOrderIsHeld w graph
+  pub all_told : IsAllGiven w given → IsAllTold graph
 
 -- each of the entries given was sent in w, no two of them collide, and their graph is an honest
 -- one, which isn't refused unless memory runs out (Auditorium, EVT 2007)

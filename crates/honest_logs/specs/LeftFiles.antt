@@ -1,5 +1,5 @@
 -- The files that are left of the logs of an honest place.
-use Rattle.std.specs.Prelude.{◌≡◌, ℕ, ◌<◌, List, length, map, All, Option, Some, IsSomeAnd, slice_get}
+use Rattle.std.specs.Prelude.{◌≡◌, ℕ, ◌<◌, List, length, map, All, Option, Some, IsSomeAnd}
 use Rattle.std.specs.List.{AllZip, Contains}
 use Rattle.entry_format.specs.SealedEntry.{SealedEntry}
 use Rattle.entry_order.specs.World.{World, history}

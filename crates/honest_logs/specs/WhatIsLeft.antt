@@ -66,10 +66,8 @@ pub record IsUnbrokenLog (posts : List Post) (owner : ℕ) (bytes : List ℕ) : 
   pub no_break : BreaksAt owner kept None
 
 -- the bytes are what is left of the log of a machine of w
-pub record IsLeftIn (w : World SealedEntry) (bytes : List ℕ) : Type 0 where
-  pub machine : ℕ
-  pub there : machine < length w
-  pub left : IsLeftOf machine (history w machine) bytes
+abbrev pub IsLeftIn : World SealedEntry → List ℕ → Type 0
+IsLeftIn w bytes = (machine : ℕ) × (machine < length w) × IsLeftOf machine (history w machine) bytes
 
 -- each of the files is; any machine's log may be there once, several times or not at all
 abbrev pub AreLeftOf : World SealedEntry → List (List ℕ) → Type 0

@@ -8,7 +8,9 @@ use Rattle.honest_reports.proofs.Imports.{script_distinct, script_read, of_scrip
 use Rattle.honest_reports.proofs.Imports.{files_are_read, GivesReport, GivesVerdicts, WithGraph, WithLogs, AreJudged}
 use Rattle.honest_reports.proofs.Imports.{nodes_of, AuditReport, report_on, break_line, fork_lines}
 use Rattle.honest_reports.proofs.Imports.{stray_lines, row_of, RuleSource, IsRosterOf, files_read}
-use Rattle.honest_reports.proofs.Imports.{AccusesNobody, End, Clean, Torn, Malformed, IsCutAt, IsCleanOrTorn, IsHonestReport}
+use Rattle.std.specs.Prelude.{◌≢◌}
+use Rattle.canonical_sexp.specs.declared.read.Why.{Why}
+use Rattle.honest_reports.proofs.Imports.{AccusesNobody, End, Malformed, IsCutAt, IsHonestReport}
 use Rattle.honest_reports.proofs.Found.{AreRulesOf, both_found, report_read}
 use Rattle.honest_reports.proofs.RosterGiven.{machines_same, of_script}
 
@@ -65,10 +67,8 @@ found_in name roster source rules_file names files report gives =
     }
 
 -- where bytes are cut no end is malformed
-not_malformed : (place size : ℕ) (end : End) → IsCutAt place size end → IsCleanOrTorn end
-not_malformed place size Clean is = tt
-not_malformed place size (Torn at) is = tt
-not_malformed place size (Malformed at why) is = is
+not_malformed : (place size : ℕ) (end : End) → IsCutAt place size end → (at : ℕ) (why : Why) → end ≢ Malformed at why
+not_malformed place size end cut at why is = subst (IsCutAt place size) is cut
 
 -- logs and a graph of an honest place accuse nobody
 accuses_nobody : (w : World SealedEntry) (machines : List Post) (names : List (List ℕ)) (logs : List LogRead)
@@ -121,7 +121,6 @@ module _ (script : Script) (w : World SealedEntry) (roster : Option (List ℕ)) 
       machines = machines_same script w roster is name found.read found.given;
       named = refl;
       each = found_read.each;
-      logs = found_logs;
       all = found_read.all;
       graph = found_read.honest;
       accuses_nobody = accuses_nobody w found.read.roster.machines names found.logs found.graph found.rules

@@ -32,7 +32,7 @@ pub use Rattle.evidence.specs.declared.roster_file.RosterRead.{RosterRead}
 pub use Rattle.honest_logs.proofs.Given.{all_given, left_agrees}
 pub use Rattle.honest_logs.proofs.HonestFiles.{script_distinct, script_not_refused, script_read}
 pub use Rattle.honest_logs.proofs.HonestGraphs.{of_script_election, of_script_is_honest}
-pub use Rattle.honest_logs.proofs.LeftFileFacts.{files_are_read}
+pub use Rattle.honest_logs.proofs.LeftFileFacts.{files_are_read, read_of_read}
 pub use Rattle.honest_logs.proofs.LeftInWorlds.{whole_in}
 pub use Rattle.honest_logs.specs.Agreement.{IsAllGiven, IsHonestGraph}
 pub use Rattle.honest_logs.specs.HonestReading.{IsHonestlyRead}
@@ -43,7 +43,7 @@ pub use Rattle.honest_logs.specs.WhatIsLeft.{AreReadIn, IsCutAt, IsReadIn}
 pub use Rattle.honest_reports.specs.Kept.{EndClean, SaysAllKept, SaysNoneBroken}
 pub use Rattle.honest_reports.specs.Places.{AreWholeFilesOf, IsRosterOf, IsWholeIn, files_read}
 pub use Rattle.honest_reports.specs.Refusals.{IsHonestRefusal}
-pub use Rattle.honest_reports.specs.Reports.{AccusesNobody, IsCleanOrTorn, IsHonestReport}
+pub use Rattle.honest_reports.specs.Reports.{AccusesNobody, IsHonestReport}
 pub use Rattle.honest_rules.proofs.Audits.{honest_audits_never_say_broken, honest_audits_say_kept}
 pub use Rattle.honest_rules.proofs.Scripts.{scripts_lead_to_honest_places}
 pub use Rattle.honest_rules.specs.Honest.{IsHonest}

@@ -1,11 +1,11 @@
 -- What a report on an honest place says of the standard rules.
-use Rattle.honest_reports.proofs.Imports.{◌≡◌, ◌≢◌, ◌∙◌, ℕ, ◌++◌, inl, inr, Bool, true, false, List, [], ◌∷◌, map}
-use Rattle.honest_reports.proofs.Imports.{length, refl, sym, ap, subst, arith, Ok, ◌||◌, AllZip, Contains, flat_map}
-use Rattle.honest_reports.proofs.Imports.{list_any, zip, node_of_sealed, SealedEntry, Three, Contains-none}
+use Rattle.honest_reports.proofs.Imports.{◌≡◌, ◌≢◌, ◌∙◌, inl, inr, Bool, true, false, List, [], ◌∷◌, map}
+use Rattle.honest_reports.proofs.Imports.{length, refl, sym, ap, subst, arith, Ok, ◌||◌, AllZip, Contains}
+use Rattle.honest_reports.proofs.Imports.{list_any, node_of_sealed, SealedEntry, Three, Contains-none}
 use Rattle.honest_reports.proofs.Imports.{Contains-head, Contains-later, Contains-cons_cases, EntryGraph}
 use Rattle.honest_reports.proofs.Imports.{IsEntryGraph, parents_of, ragged_of, Post, Row, RuleTree, Verdict, three_in}
 use Rattle.honest_reports.proofs.Imports.{IsJudged, unknown_only_by_gaps, AreJudged, nodes_of, has_finding, is_broken}
-use Rattle.honest_reports.proofs.Imports.{is_unsettled, outcome_by, outcome_of, AuditReport, rule_line, row_of}
+use Rattle.honest_reports.proofs.Imports.{is_unsettled, outcome_by, outcome_of, AuditReport, row_of}
 use Rattle.entry_order.specs.declared.three.Three.TheVariants as known
 use Rattle.rule_engine.specs.declared.verdict.Verdict.TheVariants as verdict
 use Rattle.auditor.specs.declared.outcome.Outcome.TheVariants as outcome

@@ -1,13 +1,13 @@
 -- Where each rule is kept and each log ends after a whole record, nothing is found.
-use Rattle.honest_reports.proofs.Imports.{◌≡◌, ◌∙◌, ℕ, Bool, true, false, List, [], ◌∷◌, ◌++◌, map, length, Option}
-use Rattle.honest_reports.proofs.Imports.{Some, None, inl, inr, refl, sym, ap, subst, Ok, ◌||◌, not, is_some, codes}
-use Rattle.honest_reports.proofs.Imports.{IsSomeAnd, Contains, flat_map, list_any, zip, append-nil, All-contains}
+use Rattle.honest_reports.proofs.Imports.{◌≡◌, ◌∙◌, ℕ, Bool, true, false, List, [], ◌∷◌, map, Option}
+use Rattle.honest_reports.proofs.Imports.{Some, None, inl, inr, refl, sym, ap, subst, Ok, ◌||◌, not, is_some}
+use Rattle.honest_reports.proofs.Imports.{IsSomeAnd, Contains, list_any, All-contains}
 use Rattle.honest_reports.proofs.Imports.{All-head, All-tail, or_parts, false_from_ne_true, false≢true, SealedEntry}
-use Rattle.honest_reports.proofs.Imports.{EntryFault, World, Contains-none, Contains-head, Contains-later}
+use Rattle.honest_reports.proofs.Imports.{EntryFault, World, Contains-none}
 use Rattle.honest_reports.proofs.Imports.{Contains-cons_cases, list_any_of, End, Clean, Torn, Malformed, LogRead}
-use Rattle.honest_reports.proofs.Imports.{IsSealedLogOf, SaysSealed, line, gap_lines, Post, RuleTree, standard_rules}
+use Rattle.honest_reports.proofs.Imports.{IsSealedLogOf, SaysSealed, Post, RuleTree, standard_rules}
 use Rattle.honest_reports.proofs.Imports.{Verdict, election_of, entries_of, GivesLogs, IsHonestGraph, IsHonestWorld}
-use Rattle.honest_reports.proofs.Imports.{IsReadIn, AreReadIn, whole_in, Outcome, graph_has_finding, has_finding}
+use Rattle.honest_reports.proofs.Imports.{IsReadIn, AreReadIn, whole_in, graph_has_finding, has_finding}
 use Rattle.honest_reports.proofs.Imports.{has_some, is_broken, is_clean, is_unsettled, log_has_finding, outcome_by}
 use Rattle.honest_reports.proofs.Imports.{outcome_of, AuditReport}
 use Rattle.honest_reports.proofs.Imports.{EndClean, AreWholeFilesOf, IsWholeIn}
@@ -26,8 +26,8 @@ module _ (posts : List Post) (w : World SealedEntry) (honest : IsHonestWorld pos
       IsSealedLogOf posts (election_of posts) log file → log.end ≡ Clean
   one_clean None log whole said = absurd whole
   one_clean (Some bytes) log whole said =
-      (whole_in posts w honest whole.machine whole.there log
-      (subst (λ (bs : List ℕ). SaysSealed posts (election_of posts) bs log) whole.whole said.1)).ends
+      (whole_in posts w honest whole.0 whole.1 log
+      (subst (λ (bs : List ℕ). SaysSealed posts (election_of posts) bs log) whole.2 said.1)).ends
 
   -- where all files are whole logs, each log ends clean
   pub whole_clean : (names : List (List ℕ)) (files : List (Option (List ℕ))) → AreWholeFilesOf w files →

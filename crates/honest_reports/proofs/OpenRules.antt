@@ -107,7 +107,7 @@ standard_rules_are_open script w roster is apart files left name source rules_fi
     let S = report.graph.survivors in
     let free : NoEarlyEnd node_of_sealed (row_of report.machines) S =
     subst (λ (machines : List Post). NoEarlyEnd node_of_sealed (row_of machines) S) (sym honest.machines)
-    (scripts_have_no_early_end script is.steps w is.lawful is.comes apart S honest.graph.agrees.completed.keeps) in
+    (scripts_have_no_early_end script is.steps w is.lawful is.comes apart S honest.graph.completed.keeps) in
     each_follows (λ rule v. v ≡ verdict.Unsettled → MayBeEither report rule) _
     (λ rule v either unsettled there.
     open_rule report (plain_no_early_end report.machines S free) rule there (either unsettled))

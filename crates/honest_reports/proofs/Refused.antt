@@ -10,7 +10,6 @@ use Rattle.std.specs.Prelude.{slice_get}
 use Rattle.entry_order.proofs.Places.{member_at}
 use Rattle.rule_meaning.specs.Sound.{HasNoDouble}
 use Rattle.evidence.specs.Refusal.{refused}
-use Rattle.honest_logs.specs.LeftFiles.{AreReadOf}
 use Rattle.honest_logs.proofs.HonestFiles.{script_given}
 use Rattle.auditor.specs.Sources.{source_word}
 use Rattle.honest_rules.proofs.Scripts.{scripts_are_never_too_wide}
@@ -18,41 +17,28 @@ use Rattle.honest_reports.proofs.Found.{AreRulesOf, IsRefusalOfRules, IsOneRefus
 use Rattle.honest_reports.proofs.RosterGiven.{machines_same, of_script, roster_not_refused}
 
 module _ (script : Script) (w : World SealedEntry) (roster : Option (List ℕ)) (is : IsRosterOf script w roster)
-    (apart : Distinct node_of_sealed (sent_in w)) (files : List (Option (List ℕ))) (rules_file : Option (List ℕ))
-    (refusal : Refusal) where
+    (apart : Distinct node_of_sealed (sent_in w)) (rules_file : Option (List ℕ)) (refusal : Refusal) where
   -- over survivors of an honest place no standard rule is too wide, so one that is stands in a file
   too_wide : (source : RuleSource) (rules : List RuleTree) → AreRulesOf source rules_file rules →
-      (logs : List LogRead) (graph : EntryGraph SealedEntry) → AreReadOf w files logs →
-      IsHonestGraph w (entries_of logs) graph → HasNoDouble graph.survivors → (place : ℕ) →
+      (logs : List LogRead) (graph : EntryGraph SealedEntry) → IsHonestGraph w (entries_of logs) graph → HasNoDouble graph.survivors → (place : ℕ) →
       IsFirstTooWide (map (row_of (roster_of script)) graph.survivors) rules place →
       refusal ≡ refused (source_word source) place (codes "TooWide") →
-      IsHonestRefusal script w source rules_file files refusal
-  too_wide standard rules same logs graph each honest single place first told =
+      IsHonestRefusal source rules_file refusal
+  too_wide standard rules same logs graph honest single place first told =
       let stands = subst (λ (rs : List RuleTree). slice_get rs place ≡ Some first.rule) same first.stands in
       let narrow =
       scripts_are_never_too_wide script is.steps w is.lawful is.comes apart graph.survivors
-      (λ e inside. honest.agrees.completed.keeps e inside) single first.rule
+      (λ e inside. honest.completed.keeps e inside) single first.rule
       (member_at standard_rules place first.rule stands) in
       let wide = first.too_wide in
       cc
-  too_wide (in_file name) rules given logs graph each honest single place first told = inr (record {
-    rules = rules;
-    logs = logs;
-    graph = graph;
-    place = place;
-    of_file = given;
-    each = each;
-    honest = honest;
-    first = first;
-    told = told;
-  })
+  too_wide (in_file name) rules given logs graph honest single place first told = inr (rules, place, given, told)
 
 -- rules that are refused are in a file
-rules_refused : (script : Script) (w : World SealedEntry) (rules_file : Option (List ℕ))
-    (files : List (Option (List ℕ))) (refusal : Refusal) (source : RuleSource) →
-    IsRefusalOfRules source rules_file refusal → IsHonestRefusal script w source rules_file files refusal
-rules_refused script w rules_file files refusal standard why = why
-rules_refused script w rules_file files refusal (in_file name) why = inl why
+rules_refused : (rules_file : Option (List ℕ)) (refusal : Refusal) (source : RuleSource) →
+    IsRefusalOfRules source rules_file refusal → IsHonestRefusal source rules_file refusal
+rules_refused rules_file refusal standard why = why
+rules_refused rules_file refusal (in_file name) why = inl why
 
 module _ (script : Script) (w : World SealedEntry) (roster : Option (List ℕ)) (is : IsRosterOf script w roster)
     (apart : Distinct node_of_sealed (sent_in w)) (files : List (Option (List ℕ))) (left : AreFilesOf w files)
@@ -60,7 +46,7 @@ module _ (script : Script) (w : World SealedEntry) (roster : Option (List ℕ)) 
     (refusal : Refusal) where
   -- what is to be shown of the refusal
   abbrev IsSo : Type 0
-  IsSo = IsHonestRefusal script w source rules_file files refusal
+  IsSo = IsHonestRefusal source rules_file refusal
 
   module _ (read : RosterRead) (given : GivesRoster name roster (Ok read)) (rules : List RuleTree)
       (of_source : AreRulesOf source rules_file rules) where
@@ -83,7 +69,7 @@ module _ (script : Script) (w : World SealedEntry) (roster : Option (List ℕ)) 
         by_verdicts (inl (at, first, told)) =
             let honestly =
             script_read machines read.election w of apart names files left logs gives_logs graph gives_graph in
-            too_wide script w roster is apart files rules_file refusal source rules of_source logs graph honestly.each
+            too_wide script w roster is apart rules_file refusal source rules of_source logs graph
             honestly.honest gives_graph.2.kept.single at
             (subst (λ (ms : List Post). IsFirstTooWide (map (row_of ms) graph.survivors) rules at)
             (machines_same script w roster is name read given) first) told
@@ -113,7 +99,7 @@ module _ (script : Script) (w : World SealedEntry) (roster : Option (List ℕ)) 
   -- the roster isn't refused, so the rules of a file are, or what follows them
   by_files : IsOneRefused name roster rules_file names files source refusal → IsSo
   by_files (inl why) = absurd (roster_not_refused script w roster is name refusal why)
-  by_files (inr (inl why)) = rules_refused script w rules_file files refusal source why
+  by_files (inr (inl why)) = rules_refused rules_file refusal source why
   by_files (inr (inr (read, given, rules, of_source, rest))) =
       by_logs read given rules of_source
       (one_refused (GivesLogs read.roster.machines read.election names files)

@@ -4,8 +4,8 @@ use Rattle.honest_reports.proofs.Imports.{◌≡◌, ◌≢◌, ◌∙◌, ℕ, 
 use Rattle.honest_reports.proofs.Imports.{Contains, Script, node_of_sealed, SealedEntry, Distinct}
 use Rattle.honest_reports.proofs.Imports.{World, sent_in, IsEntryGraph, parents_of, ragged_of, Post, Row, RuleTree}
 use Rattle.honest_reports.proofs.Imports.{standard_rules, Verdict, three_in, election_of, entries_of, GivesLogs}
-use Rattle.honest_reports.proofs.Imports.{IsAllGiven, IsHonestlyRead, IsHonestWorld, AreAllFilesOf, AreFilesOf}
-use Rattle.honest_reports.proofs.Imports.{IsOfScript, all_given, left_agrees, of_script_election, of_script_is_honest}
+use Rattle.honest_reports.proofs.Imports.{read_of_read, IsAllGiven, IsHonestlyRead, IsHonestWorld, AreAllFilesOf, AreFilesOf}
+use Rattle.honest_reports.proofs.Imports.{IsOfScript, left_agrees, of_script_election, of_script_is_honest}
 use Rattle.honest_reports.proofs.Imports.{IsHonest, WereSentIn, honest_audits_never_say_broken}
 use Rattle.honest_reports.proofs.Imports.{honest_audits_say_kept, is_broken, AuditReport, report_on, row_of, standard}
 use Rattle.honest_reports.proofs.Imports.{EndClean, SaysAllKept, SaysNoneBroken, AreWholeFilesOf}
@@ -105,7 +105,7 @@ module _ (script : Script) (w : World SealedEntry) (roster : Option (List ℕ)) 
   module _ (whole : AreAllFilesOf w files) where
     -- where all whole logs are there, all that was sent is given
     given : IsAllGiven w (entries_of found.logs)
-    given = all_given w found.logs (known.all whole)
+    given = known.all whole
 
     -- and so survives
     all_sent : (e : SealedEntry) → Contains (sent_in w) e → Contains survivors e
@@ -132,7 +132,7 @@ module _ (script : Script) (w : World SealedEntry) (roster : Option (List ℕ)) 
 
     -- it has no gap
     no_gap : report.graph.gaps ≡ []
-    no_gap = (honest.graph.all_told (all_given w report.logs (honest.all whole))).no_gap
+    no_gap = (honest.graph.all_told (honest.all whole)).no_gap
 
     -- where the files are whole logs and nothing else, each log ends clean
     clean : AreWholeFilesOf w files → EndClean report.logs
@@ -148,7 +148,7 @@ module _ (script : Script) (w : World SealedEntry) (roster : Option (List ℕ)) 
       verdicts = verdicts_kept;
       no_gap = no_gap;
       clean = clean;
-      nothing = comes_to w report honest.logs honest.graph verdicts_kept no_gap;
+      nothing = comes_to w report (read_of_read w files report.logs honest.each) honest.graph verdicts_kept no_gap;
       torn = torn_found report verdicts_kept;
     }
 

@@ -62,7 +62,7 @@ AuditsAreRefusedOnlySo =
     HasLeft script w roster files → Distinct node_of_sealed (sent_in w) →
     (name : List ℕ) (source : RuleSource) (rules : Option (List ℕ)) (names : List (List ℕ)) (refusal : Refusal) →
     GivesReport name source names (files_read roster source rules files) (Err refusal) →
-    IsHonestRefusal script w source rules files refusal
+    IsHonestRefusal source rules refusal
 
 -- where the whole logs are all among the files, whatever else is, a report shows that different
 -- entries have different digests

@@ -10,7 +10,7 @@ use Rattle.entry_order.specs.World.{World, history}
 use Rattle.polling_world.specs.Keys.{roster_of}
 use Rattle.polling_world.specs.Playing.{ComesTo}
 use Rattle.log_files.specs.Written.{log_text}
-use Rattle.honest_logs.specs.LeftFiles.{AreFilesOf}
+use Rattle.honest_logs.specs.WhatIsLeft.{IsLeftIn}
 use Rattle.auditor.specs.Sources.{RuleSource, standard, in_file}
 
 -- The script is lawful, its machines come to w by some steps, and the file has the text of its
@@ -26,7 +26,7 @@ pub record IsRosterOf (script : Script) (w : World SealedEntry) (file : Option (
 pub record HasLeft (script : Script) (w : World SealedEntry) (roster_file : Option (List ℕ))
     (log_files : List (Option (List ℕ))) : Type 0 where
   pub roster : IsRosterOf script w roster_file
-  pub logs : AreFilesOf w log_files
+  pub logs : All (λ file. IsSomeAnd file (IsLeftIn w)) log_files
 
 -- what an audit reads: the roster's file, that of the rules if they are in one, and those of the
 -- logs
@@ -36,10 +36,8 @@ files_read roster standard rules logs = roster ∷ logs
 files_read roster (in_file name) rules logs = roster ∷ rules ∷ logs
 
 -- the bytes are the whole log of a machine of w
-pub record IsWholeIn (w : World SealedEntry) (bytes : List ℕ) : Type 0 where
-  pub machine : ℕ
-  pub there : machine < length w
-  pub whole : bytes ≡ log_text machine (history w machine)
+abbrev pub IsWholeIn : World SealedEntry → List ℕ → Type 0
+IsWholeIn w bytes = (machine : ℕ) × (machine < length w) × (bytes ≡ log_text machine (history w machine))
 
 -- each of the files is there and is the whole log of a machine of w
 abbrev pub AreWholeFilesOf : World SealedEntry → List (Option (List ℕ)) → Type 0

@@ -18,6 +18,6 @@ IsToldAs answer is_written_by old how new =
 -- says why, and nothing changes.
 abbrev pub EndsWith : Result Answer Fault → (Answer → Bool → Type 0) → Outside → Status → Outside → Type 0
 EndsWith (Ok answer) is_written_by old how new =
-    IsToldAs answer is_written_by old how new × (new.store.answered ≡ old.store.answered)
+    IsToldAs answer is_written_by old how new × (new.answered ≡ old.answered)
 EndsWith (Err fault.ReadFault) is_written_by old how new = (how ≡ status.ReadFault) × (new ≡ old)
 EndsWith (Err fault.Memory) is_written_by old how new = (how ≡ status.Memory) × (new ≡ old)

@@ -12,7 +12,7 @@ use Rattle.auditorium_core.specs.declared.entry_word.Read.TheVariants.{Digest, N
 use Rattle.auditorium_core.specs.declared.order_word.OrderWord.{OrderWord}
 use Rattle.auditorium_core.specs.declared.order_word.OrderWord.TheVariants as says
 use Rattle.auditorium_core.specs.EntryWords.{EntryName, by_digest, by_number}
-use Rattle.auditorium_core.specs.Order.{IsWordOf}
+use Rattle.auditorium_core.specs.TwoEntries.{IsWordOf}
 
 -- what was read of a word
 abbrev pub name_of : Read → EntryName

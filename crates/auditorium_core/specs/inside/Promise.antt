@@ -7,7 +7,7 @@ use Rattle.auditorium_core.specs.declared.answer.Fault.{Fault}
 use Rattle.auditorium_core.specs.declared.answer.Fault.TheVariants.{ReadFault}
 use Rattle.auditorium_core.specs.Words.{Command, command_parts}
 use Rattle.auditorium_core.specs.Lines.{Answer}
-use Rattle.auditorium_core.specs.Answer.{AnswersWords, TellsAbsence, WordsTellAbsence}
+use Rattle.auditorium_core.specs.Answer.{AnswersWords, TellsAbsence}
 
 module _ {S : Type 0} (of : StoreGhosts S) where
   -- The answer is right for what was read between these states. It says that a file is absent
@@ -29,10 +29,11 @@ module _ {S : Type 0} (of : StoreGhosts S) where
 
   -- the result of a call is right for a command
   abbrev pub IsAnsweredBy : Command → S → Result Answer Fault → S → Type 0
-  IsAnsweredBy command = IsAnswered (IsAnswerAsRead command) (TellsAbsence command)
+  IsAnsweredBy command =
+      IsAnswered (IsAnswerAsRead command) (λ answer. answer.status ≡ (command_parts command).absence)
 
   -- the result of a call is right for words, where these are the commands
   abbrev pub AreAnswered : (Command → Type 0) → List (List ℕ) → S → Result Answer Fault → S → Type 0
   AreAnswered IsDone words =
       IsAnswered (λ old answer new. AnswersWords IsDone words (λ names P. OnRead of names P old new) answer)
-      (WordsTellAbsence words)
+      (TellsAbsence words)

@@ -26,5 +26,5 @@ word_at-requires-clause-second c =
 pub returns-clause-told : goal.returns-clause-told
 returns-clause-told c =
     both_told c.args.roster.now.machines c.args.graph.now.survivors c.args.x.now c.args.y.now
-    c.order_is_settled.ensures.paths c.line.result c.in-Some.first c.in-Some-place_of.second c.in_ok-word.word
+    c.line.result c.in-Some.first c.in-Some-place_of.second c.in_ok-word.word
     c.word.result.now c.in-Some.ensures c.in-Some-place_of.ensures c.in_ok-word.ensures c.word.ensures c.line.ensures

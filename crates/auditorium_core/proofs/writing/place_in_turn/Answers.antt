@@ -23,8 +23,8 @@ returns-in_err-place_files-clause-calls g c =
     let answer = c.args.answer.now in
     let failed : is_ok c.from_residual.result ≡ false = search rules in
     let P : List (List ℕ × List ℕ) → Type 0 = λ files.
-    PlacesAll store.creates store.appends store.finishes now files false end in
-    let calls : PlacesAll store.creates store.appends store.finishes now c.files_ahead.result.now false end =
+    PlacesAll store now files false end in
+    let calls : PlacesAll store now c.files_ahead.result.now false end =
     search rules in
     inl (subst P c.files_ahead.ensures calls, failed)
 
@@ -62,10 +62,10 @@ returns-clause-calls g c =
     let new = c.place_files-2.new.store in
     let ok : Bool = is_ok c.place_files-2.result in
     let first : List (List ℕ × List ℕ) → Type 0 = λ files.
-    PlacesAll store.creates store.appends store.finishes now files true mid in
+    PlacesAll store now files true mid in
     let others : List (List ℕ × List ℕ) → Type 0 = λ files.
-    PlacesAll store.creates store.appends store.finishes mid files ok new in
-    let calls : PlacesAll store.creates store.appends store.finishes now c.files_ahead.result.now true mid =
+    PlacesAll store mid files ok new in
+    let calls : PlacesAll store now c.files_ahead.result.now true mid =
     search rules in
     inr (
       mid,

@@ -1,6 +1,6 @@
 use Rattle.std.proofs.Common.{Bool, true, false}
 use Rattle.auditorium_core.proofs.Imports.{◌≡◌, ◌∙◌, List, ℕ, ap, sym, subst, rules, is_ok, with_file, unrisen}
-use Rattle.auditorium_core.proofs.Imports.{PutsAll, all_put, drop_all}
+use Rattle.auditorium_core.proofs.Imports.{PutsAll, drop_all, refl}
 use Rattle.auditorium_core.proofs.Calls.{as_put, put_next, put_fails, set_next, some_next}
 use Rattle.auditorium_core.proofs.writing.put_files.Goals as goal
 
@@ -12,9 +12,9 @@ returns-in_err-put_file-clause-calls g c =
     let failed : is_ok c.from_residual.result ≡ false = search rules in
     let put = as_put store.creates store.appends c.loop-file.store end file c.name.result.now c.bytes.result.now
     (is_ok c.put_file.result) false c.name.ensures c.bytes.ensures (search rules) c.put_file.ensures.offers in
-    let P : Bool → Type 0 = λ ok. PutsAll store.creates store.appends c.args.store.now c.args.files.now ok end in
+    let P : Bool → Type 0 = λ ok. PutsAll store c.args.store.now c.args.files.now ok end in
     subst P (sym failed) (c.loop-file.invariant.calls end false
-    (put_fails store.creates store.appends c.loop-file.store end c.args.files.now c.loop-file.file-index file
+    (put_fails store c.loop-file.store end c.args.files.now c.loop-file.file-index file
     c.loop-file-test.true c.file-item.is put))
 
 pub loop-file-preserved : goal.loop-file-preserved
@@ -37,7 +37,7 @@ loop-file-preserved g c =
       answered = search rules;
       read_faults = search rules;
       calls = λ end ok rest. c.loop-file.invariant.calls end ok
-          (put_next store.creates store.appends c.loop-file.store mid end c.args.files.now c.loop-file.file-index file
+          (put_next store c.loop-file.store mid end c.args.files.now c.loop-file.file-index file
           ok c.loop-file-test.true c.file-item.is put rest);
     }
 
@@ -45,6 +45,6 @@ pub returns-clause-calls : goal.returns-clause-calls
 returns-clause-calls g c =
     let store = g.S.Store in
     let now = c.loop-file.store in
-    let P : List (List ℕ × List ℕ) → Type 0 = λ files. PutsAll store.creates store.appends now files true now in
+    let P : List (List ℕ × List ℕ) → Type 0 = λ files. PutsAll store now files true now in
     c.loop-file.invariant.calls now true
-    (subst P (sym (drop_all c.loop-file.file-index c.args.files.now c.loop-file-test.false)) (all_put now))
+    (subst P (sym (drop_all c.loop-file.file-index c.args.files.now c.loop-file-test.false)) (refl, refl))

@@ -15,6 +15,6 @@ invariant-loop-file g l =
       answered : store.answered l.store ≡ store.answered l.fn.store;
       read_faults : store.read_faults l.store ≡ store.read_faults l.fn.store;
       calls : (end : g.row.S.Denot) (ok : Bool)
-          → PutsAll store.creates store.appends l.store (drop l.file-index l.files) ok end
-          → PutsAll store.creates store.appends l.fn.store l.files ok end;
+          → PutsAll store l.store (drop l.file-index l.files) ok end
+          → PutsAll store l.fn.store l.files ok end;
     }
