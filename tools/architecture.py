@@ -26,6 +26,7 @@ USED_FROM_BELOW = "entry_order"
 # ways go straight up there are empty places.
 PLACES = """
 command_hints  auditorium_cli  auditorium_core  demonstration   auditorium_view
+.              command_line    .                .               .
 entangled_picture auditor      report_exactness honest_reports  honest_rules
 evidence       live_auditor    report_page      counterexamples honest_logs
 -----

@@ -1,8 +1,8 @@
 //! The program as a function over stores and sinks.
 ghost use Rattle.std.specs.Prelude.{◌≡◌, drop, map, string_bytes};
-ghost use Rattle.auditorium_core.specs.ExitStatus.{exit_status_of};
+ghost use Rattle.command_line.specs.ExitStatus.{exit_status_of};
 ghost use Rattle.auditorium_core.specs.Outcome.{HasDone, IsGivenBy};
-ghost use Rattle.auditorium_core.specs.Outside.{outside};
+ghost use Rattle.command_line.specs.Outside.{outside};
 ghost use Rattle.auditorium_core.specs.Words.{IsAny};
 
 use auditorium_core::{Status, auditorium};

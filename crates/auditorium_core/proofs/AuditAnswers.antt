@@ -15,7 +15,7 @@ use Rattle.auditorium_core.proofs.PlainSurvivors.{some_completion as some_here}
 use Rattle.rule_engine.specs.declared.verdict.Verdict.{Verdict}
 use Rattle.rule_engine.specs.declared.verdict.Verdict.TheVariants as verdict
 use Rattle.auditor.specs.declared.outcome.Outcome.TheVariants as outcome
-use Rattle.auditorium_core.specs.declared.status.Status.TheVariants as status
+use Rattle.command_line.specs.declared.status.Status.TheVariants as status
 
 module _ (machines : List Post) (graph : EntryGraph SealedEntry) (is : IsEntryGraph node_of_sealed graph)
     (settled : RulesAreSettled node_of_sealed (row_of machines))

@@ -4,7 +4,7 @@ use Rattle.auditorium_core.proofs.Imports.{◌≡◌, List, ℕ, inl, inr, ap, s
 use Rattle.auditorium_core.proofs.Imports.{absent, refused, Status, Answer, OrRefused, refusal_answer, CommandParts}
 use Rattle.auditorium_core.proofs.Imports.{IsCarriedOut}
 use Rattle.std.specs.List.{All, Contains}
-use Rattle.auditorium_core.specs.declared.status.Status.TheVariants as status
+use Rattle.command_line.specs.declared.status.Status.TheVariants as status
 
 -- the statuses that the answer of a command can have
 abbrev pub IsOfCommands : Status → Type 0

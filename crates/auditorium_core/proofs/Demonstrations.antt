@@ -17,7 +17,7 @@ use Rattle.std.proofs.Common.{Contains, Option, Some}
 use Rattle.std.specs.Prelude.{codes}
 use Rattle.rule_engine.specs.declared.verdict.Verdict.{Verdict}
 use Rattle.rule_engine.specs.declared.verdict.Verdict.TheVariants as verdict
-use Rattle.auditorium_core.specs.declared.status.Status.TheVariants as status
+use Rattle.command_line.specs.declared.status.Status.TheVariants as status
 use Rattle.polling_world.proofs.OnePlay.{one_play}
 use Rattle.honest_reports.specs.Places.{HasLeft}
 use Rattle.honest_reports.proofs.AuditLaws.{audits_are_refused_only_so, reports_say_none_broken}
@@ -25,7 +25,7 @@ use Rattle.auditorium_core.specs.Audit.{IsSound}
 use Rattle.auditorium_core.specs.Play.{KeepOrder}
 use Rattle.auditorium_core.proofs.AuditAnswers.{not_absent}
 use Rattle.auditorium_core.proofs.SoundReports.{given_is_sound}
-use Rattle.auditorium_core.proofs.Faults.{IsAnswerOfFault, refused_or}
+use Rattle.command_line.proofs.Faults.{IsAnswerOfFault, refused_or}
 use Rattle.auditorium_core.proofs.HonestAudits.{only_broken}
 
 -- what no verdict is, none is counted as

@@ -2,7 +2,7 @@
 use Rattle.std.proofs.Common.{Option, Bool, true, false}
 use Rattle.auditorium_core.proofs.Imports.{◌≡◌, ℕ, List, Status, Command, Answer, AnswersWords, IsOfAnswers, Outside}
 use Rattle.auditorium_core.proofs.Imports.{IsAnswerOf, IsWritten, HasDone}
-use Rattle.auditorium_core.specs.declared.status.Status.TheVariants as status
+use Rattle.command_line.specs.declared.status.Status.TheVariants as status
 
 -- how it is said of an answer that all the calls that give it, or all but the last, did as they
 -- were asked, and that something holds of the files of some names

@@ -8,8 +8,8 @@ use Rattle.auditorium_core.proofs.Imports.{AreGood, IsAny, IsStill, Means, Answe
 use Rattle.auditorium_core.proofs.Imports.{Outside, outside, with_files, SetsSome, IsAnswerOf}
 use Rattle.auditorium_core.proofs.Imports.{IsGivenBy, IsUnwritten, IsWrittenBy, HasDone, IsToldAs, EndsWith}
 use Rattle.auditorium_core.proofs.Imports.{IsAnswerAsRead, IsAnsweredBy, AreAnswered}
-use Rattle.auditorium_core.specs.declared.answer.Fault.TheVariants as fault
-use Rattle.auditorium_core.specs.declared.status.Status.TheVariants as status
+use Rattle.command_line.specs.declared.answer.Fault.TheVariants as fault
+use Rattle.command_line.specs.declared.status.Status.TheVariants as status
 use Rattle.auditorium_core.proofs.Commands.{same_command}
 use Rattle.auditorium_core.proofs.DoneCases.{Giving, done_as, is_done}
 use Rattle.auditorium_core.proofs.Exposed.{answers_weaker, over_exposed}

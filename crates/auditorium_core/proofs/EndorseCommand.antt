@@ -8,7 +8,7 @@ use Rattle.auditorium_core.proofs.Imports.{GivesBytes, max_signed, max_small, Gi
 use Rattle.auditorium_core.proofs.Imports.{office_file, GivesUnsigned, IsEndorsement, Unsigned, endorse_answer}
 use Rattle.auditorium_core.proofs.Imports.{endorse_parts}
 use Rattle.hall_outside.specs.declared.reading.FileFault.TheVariants as file
-use Rattle.auditorium_core.specs.declared.status.Status.TheVariants as status
+use Rattle.command_line.specs.declared.status.Status.TheVariants as status
 use Rattle.auditorium_core.proofs.CommandProofs.{IsOfCommands, HasStatuses, IsCompleted, HasOneAnswer, contains_as}
 use Rattle.auditorium_core.proofs.CommandProofs.{carried_out_as, of_read, status_is}
 use Rattle.auditorium_core.proofs.FileSteps.{one_bytes, one_last, one_of_files, read_completed}

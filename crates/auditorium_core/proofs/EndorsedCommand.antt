@@ -7,7 +7,7 @@ use Rattle.auditorium_core.proofs.Imports.{Result, All-from_recursion, Refusal}
 use Rattle.auditorium_core.proofs.Imports.{Answer, line_answer, AtLast, FileThen, GivesBytes}
 use Rattle.auditorium_core.proofs.Imports.{max_signed, max_small, GivesSigned, IsEndorsedVerdict, Signed}
 use Rattle.auditorium_core.proofs.Imports.{endorsed_parts, IsCarriedOut}
-use Rattle.auditorium_core.specs.declared.status.Status.TheVariants as status
+use Rattle.command_line.specs.declared.status.Status.TheVariants as status
 use Rattle.auditorium_core.proofs.CommandProofs.{IsOfCommands, HasStatuses, IsCompleted, HasOneAnswer, contains_as}
 use Rattle.auditorium_core.proofs.CommandProofs.{carried_out_as, of_read}
 use Rattle.auditorium_core.proofs.FileSteps.{one_bytes, one_last, one_of_files, read_completed}

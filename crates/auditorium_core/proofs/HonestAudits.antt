@@ -12,7 +12,7 @@ use Rattle.honest_reports.specs.Places.{HasLeft}
 use Rattle.honest_reports.proofs.AuditLaws.{audits_are_refused_only_so, reports_accuse_nobody, reports_say_none_broken}
 use Rattle.honest_reports.proofs.AuditLaws.{reports_leave_rules_open, whole_reports_say_all_kept}
 use Rattle.honest_reports.proofs.AuditLaws.{whole_reports_show_distinct}
-use Rattle.auditorium_core.specs.declared.status.Status.TheVariants as status
+use Rattle.command_line.specs.declared.status.Status.TheVariants as status
 
 -- no refusal has the status of a report
 no_report : (refusal : Refusal) → IsOfReport (refusal_answer refusal).status → ⊥

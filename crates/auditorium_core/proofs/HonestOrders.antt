@@ -17,7 +17,7 @@ use Rattle.honest_logs.proofs.HonestFiles.{script_distinct, script_given, script
 use Rattle.honest_logs.proofs.RosterTexts.{read_of_script, world_of_script}
 use Rattle.honest_reports.specs.Places.{HasLeft}
 use Rattle.honest_reports.proofs.RosterGiven.{read_same, roster_not_refused}
-use Rattle.auditorium_core.specs.declared.status.Status.TheVariants as status
+use Rattle.command_line.specs.declared.status.Status.TheVariants as status
 use Rattle.auditorium_core.proofs.PlainSurvivors.{is_exact}
 use Rattle.auditorium_core.proofs.EntryTexts.{named_has}
 use Rattle.auditorium_core.proofs.OrderWords.{word_is_settled}

@@ -39,13 +39,13 @@ pub use Rattle.auditor.specs.inside.Begun.{WithRoster, WithRules}
 pub use Rattle.auditorium_core.specs.Answer.{AnswersWords, HasItsWords, IsAnswerOf, IsAnswerTo, IsOfAnswers}
 pub use Rattle.auditorium_core.specs.Answer.{TellsAbsence}
 pub use Rattle.auditorium_core.specs.Audit.{Completes, HoldsOf, IsAuditAnswer, IsAuditOf, IsAuditOver, audit_parts}
-pub use Rattle.auditorium_core.specs.Audit.{source_named}
+pub use Rattle.command_line.specs.Reports.{source_named}
 pub use Rattle.auditorium_core.specs.Check.{AreChecked, CheckReport, GivesCheck, GivesChecked, IsCheckOf}
 pub use Rattle.auditorium_core.specs.Check.{check_files}
 pub use Rattle.auditorium_core.specs.Check.{IsCheckOver, check_answer, check_parts, checked_line}
 pub use Rattle.auditorium_core.specs.Check.{checked_status, verdict_on_all}
 pub use Rattle.auditorium_core.specs.CheckAgrees.{ChecksAgreeWithAudits, without_entries}
-pub use Rattle.auditorium_core.specs.CommandParts.{CommandParts}
+pub use Rattle.command_line.specs.CommandParts.{CommandParts}
 pub use Rattle.auditorium_core.specs.Complete.{HasNoFailure, IsAnsweredOver, IsCarriedOut, IsComplete}
 pub use Rattle.auditorium_core.specs.Demonstrated.{GivesDemonstration, IsAnswerOfShown, IsDemonstrationAnswer}
 pub use Rattle.auditorium_core.specs.Demonstrated.{IsHalfOf, ShowsReport, TellsNoneBroken}
@@ -56,13 +56,15 @@ pub use Rattle.auditorium_core.specs.Endorsed.{GivesSigned, IsEndorsedAnswer, Is
 pub use Rattle.auditorium_core.specs.Endorsed.{endorsed_parts}
 pub use Rattle.auditorium_core.specs.EntryWords.{EntryName, IsEntryWord, IsNamedBy, IsNumbered, IsSpelt, MeansEntry}
 pub use Rattle.auditorium_core.specs.EntryWords.{MeansNone, by_digest, by_number}
-pub use Rattle.auditorium_core.specs.Gaps.{IsGapsAnswer, IsRefusal, findings_answer, gaps_log_lines, gaps_parts}
-pub use Rattle.auditorium_core.specs.Gaps.{status_of}
+pub use Rattle.auditorium_core.specs.Gaps.{IsGapsAnswer, IsRefusal, gaps_log_lines, gaps_parts}
+pub use Rattle.command_line.specs.Lines.{findings_answer}
+pub use Rattle.command_line.specs.Lines.{status_of}
 pub use Rattle.auditorium_core.specs.Honest.{IsExactIn, IsHonestOrder, IsHonestWord, IsOrderOfPlace, IsWordIn}
 pub use Rattle.auditorium_core.specs.HonestAudit.{IsAuditOfPlace, IsOfReport}
 pub use Rattle.auditorium_core.specs.HonestPlace.{LeaveHonestFiles}
-pub use Rattle.auditorium_core.specs.Lines.{Answer, OrRefused, absent_answer, line_answer, no_entry, order_word}
-pub use Rattle.auditorium_core.specs.Lines.{refusal_answer, refused_answer, usage_answer}
+pub use Rattle.command_line.specs.Lines.{Answer, OrRefused, absent_answer, line_answer}
+pub use Rattle.auditorium_core.specs.Lines.{no_entry, order_word}
+pub use Rattle.command_line.specs.Lines.{refusal_answer, refused_answer, usage_answer}
 pub use Rattle.auditorium_core.specs.Made.{made_answer, make_parts}
 pub use Rattle.auditorium_core.specs.NamedBytes.{AtLast, GivesBytes, max_signed, max_small}
 pub use Rattle.auditorium_core.specs.Office.{IsOfficeAnswer, IsOfficeSeed, key_file, made_office, office_parts}
@@ -73,18 +75,21 @@ pub use Rattle.auditorium_core.specs.OfficeFile.{GivesOffice, GivesOfficeOf, Giv
 pub use Rattle.auditorium_core.specs.Order.{ComesFirst, GiveEntries, InEach, IsExact, IsOrderAnswer, IsOrderOver}
 pub use Rattle.auditorium_core.specs.Order.{IsOrderOverLogs, IsOrderUnder, order_parts}
 pub use Rattle.auditorium_core.specs.TwoEntries.{AreWhole, IsBefore, IsOrderAmong, IsOrderOf, IsWordOf}
-pub use Rattle.auditorium_core.specs.Outcome.{HasDone, IsCutShort, IsGivenBy, IsGivenSomehow, IsWritten}
-pub use Rattle.auditorium_core.specs.Outcome.{IsUnwritten}
-pub use Rattle.auditorium_core.specs.Outcome.{IsWrittenBy, PlacesAll, PlacesInTurn, PutsAll, SetsSome}
-pub use Rattle.auditorium_core.specs.Outcome.{with_files}
-pub use Rattle.auditorium_core.specs.Outside.{Outside, outside}
+pub use Rattle.auditorium_core.specs.Outcome.{HasDone, IsGivenBy, IsGivenSomehow}
+pub use Rattle.command_line.specs.Written.{IsCutShort, IsWritten}
+pub use Rattle.command_line.specs.Written.{IsUnwritten}
+pub use Rattle.command_line.specs.Written.{IsWrittenBy, PlacesAll, PlacesInTurn, PutsAll, SetsSome}
+pub use Rattle.command_line.specs.Written.{with_files}
+pub use Rattle.command_line.specs.Outside.{Outside, outside}
 pub use Rattle.auditorium_core.specs.Play.{IsPlayAnswer, IsPlayOf, SayUndone, log_file, machine_lines, play_answer}
-pub use Rattle.auditorium_core.specs.Play.{play_files, play_parts, play_statuses, status_of_undone, undone_line}
+pub use Rattle.auditorium_core.specs.Play.{play_files, play_parts, play_statuses, undone_line}
+pub use Rattle.command_line.specs.Lines.{status_of_undone}
 pub use Rattle.auditorium_core.specs.ProofFile.{GivesProof, max_proof}
 pub use Rattle.auditorium_core.specs.Prove.{GivesMade, GivesText, IsProofOver, ProofMade, proof_answer, prove_parts}
 pub use Rattle.auditorium_core.specs.Repair.{AreMendedBy, IsRepairAnswer, IsRepairOf, mended_lines, repair_answer}
 pub use Rattle.auditorium_core.specs.Repair.{repair_parts, with_steps}
-pub use Rattle.auditorium_core.specs.ReportAnswers.{report_answer, report_statuses, status_by}
+pub use Rattle.auditorium_core.specs.ReportAnswers.{report_answer, report_statuses}
+pub use Rattle.command_line.specs.Reports.{status_by}
 pub use Rattle.auditorium_core.specs.Run.{AreRunMachines, IsRunMachine, IsRunOf, loss_lines, run_answer, run_parts}
 pub use Rattle.auditorium_core.specs.ScriptFile.{GivesScript, IsScriptFile, max_script}
 pub use Rattle.auditorium_core.specs.Watch.{AreFewDistinct, AreSummaries, Evidence, GivesEvidence, GivesSummaries}
@@ -92,29 +97,30 @@ pub use Rattle.auditorium_core.specs.Watch.{GivesWatch, IsTooWideAfter, IsWatchO
 pub use Rattle.auditorium_core.specs.Watch.{numbers_line, watch_answer, watch_line, watch_lines, watch_parts}
 pub use Rattle.auditorium_core.specs.WatchAgrees.{AgreesWithAudit, BreaksNoRule, HonestWatchesBreakNoRule}
 pub use Rattle.auditorium_core.specs.WatchAgrees.{WatchesAgreeWithAudits, summary_of}
-pub use Rattle.auditorium_core.specs.WordForms.{AreSessions, IsCommandWord}
+pub use Rattle.command_line.specs.WordForms.{AreSessions}
 pub use Rattle.auditorium_core.specs.Words.{AreGood, Command, IsAny, IsStill, Means, audit, check, command_parts}
 pub use Rattle.auditorium_core.specs.Words.{demonstrate, endorse, endorsed, generate, office, order, prove, repair}
 pub use Rattle.auditorium_core.specs.Words.{run, watch}
-pub use Rattle.auditorium_core.specs.declared.answer.Fault.{Fault}
+pub use Rattle.command_line.specs.declared.answer.Fault.{Fault}
 pub use Rattle.auditorium_core.specs.declared.check.Checked.{Checked}
 pub use Rattle.auditorium_core.specs.declared.check.Unchecked.{Unchecked}
 pub use Rattle.auditorium_core.specs.declared.entry_word.Read.{Read}
 pub use Rattle.auditorium_core.specs.declared.order_word.OrderWord.{OrderWord}
-pub use Rattle.auditorium_core.specs.declared.status.Status.{Status}
-pub use Rattle.auditorium_core.specs.declared.status.Status.TheVariants.{Done}
+pub use Rattle.command_line.specs.declared.status.Status.{Status}
+pub use Rattle.command_line.specs.declared.status.Status.TheVariants.{Done}
 pub use Rattle.auditorium_core.specs.declared.watch.EvidenceRead.{EvidenceRead}
 pub use Rattle.auditorium_core.specs.declared.watch.Unwatched.{Unwatched}
 pub use Rattle.auditorium_core.specs.inside.Checking.{ChecksFiles, ChecksLines, ChecksLogs}
 pub use Rattle.auditorium_core.specs.inside.Checking.{ChecksProof, ChecksRules}
 pub use Rattle.auditorium_core.specs.inside.Checking.{IsUnchecked, ProvesFiles, ProvesLogs, report_by}
-pub use Rattle.auditorium_core.specs.inside.Ending.{EndsWith, IsToldAs}
+pub use Rattle.command_line.specs.Ending.{EndsWith, IsToldAs}
 pub use Rattle.auditorium_core.specs.inside.Endorsing.{signed_of, unsigned_of}
 pub use Rattle.auditorium_core.specs.inside.EntryNames.{IsFirstDot, IsLowerAt, IsPlaceOf, IsWordAt, name_of, word_by}
 pub use Rattle.auditorium_core.specs.inside.Losses.{IsBetween}
 pub use Rattle.auditorium_core.specs.inside.Meaning.{asked}
 pub use Rattle.auditorium_core.specs.inside.Presence.{IsThere}
-pub use Rattle.auditorium_core.specs.inside.Promise.{AreAnswered, IsAnswerAsRead, IsAnswered, IsAnsweredBy}
+pub use Rattle.auditorium_core.specs.inside.Promise.{AreAnswered, IsAnswerAsRead, IsAnsweredBy}
+pub use Rattle.command_line.specs.Promise.{IsAnswered}
 pub use Rattle.auditorium_core.specs.inside.Repaired.{ComesByRepair}
 pub use Rattle.auditorium_core.specs.inside.Watching.{AddsTo, AreLinesOf, IsUnadded}
 pub use Rattle.auditorium_core.specs.inside.Watching.{IsUnwatched, ReadsLogs, ReadsRules, evidence_by}

@@ -1,17 +1,13 @@
 mod Imports
-pub mod WordLists
 pub mod SameOr
-pub mod Cuts
 pub mod Undone
 pub mod CommandProofs
 pub mod OnePlayAnswer
 pub mod OneDemonstrationAnswer
-pub mod Calls
 pub mod EntryTexts
 pub mod EntryPlaces
 pub mod OrderWords
 pub mod OrderAnswers
-pub mod Faults
 pub mod OneOrderAnswer
 pub mod SameNodes
 pub mod OneProof

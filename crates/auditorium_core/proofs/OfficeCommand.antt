@@ -7,7 +7,7 @@ use Rattle.auditorium_core.proofs.Imports.{IsOfficeAnswer, made_office, office_p
 use Rattle.auditorium_core.proofs.Imports.{IsAnswerAsRead, IsThere, IsAnsweredBy}
 use Rattle.std.specs.Prelude.{codes}
 use Rattle.std.specs.List.{Contains}
-use Rattle.auditorium_core.specs.declared.status.Status.TheVariants as status
+use Rattle.command_line.specs.declared.status.Status.TheVariants as status
 use Rattle.auditorium_core.proofs.CommandProofs.{IsOfCommands, HasStatuses, IsCompleted, HasOneAnswer, contains_as}
 use Rattle.auditorium_core.proofs.CommandProofs.{carried_out_as, status_is}
 

@@ -6,7 +6,7 @@ use Rattle.auditorium_core.proofs.Imports.{FileThen, OrderWord, Answer, no_entry
 use Rattle.auditorium_core.proofs.Imports.{refusal_answer, MeansEntry, MeansNone, IsOrderAmong, IsOrderOver}
 use Rattle.auditorium_core.proofs.Imports.{order_parts, IsPlaceOf, IsWordAt}
 use Rattle.std.proofs.Common.{Option, Some}
-use Rattle.auditorium_core.specs.declared.status.Status.TheVariants as status
+use Rattle.command_line.specs.declared.status.Status.TheVariants as status
 use Rattle.auditorium_core.proofs.EntryTexts.{named_has}
 use Rattle.auditorium_core.proofs.HonestOrders.{order_right}
 

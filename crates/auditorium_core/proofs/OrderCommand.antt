@@ -7,7 +7,7 @@ use Rattle.auditorium_core.proofs.Imports.{IsOrderOverLogs, IsOrderUnder, GiveEn
 use Rattle.auditorium_core.proofs.Imports.{IsCarriedOut, OrRefused}
 use Rattle.std.proofs.Common.{Option}
 use Rattle.std.specs.List.{Contains}
-use Rattle.auditorium_core.specs.declared.status.Status.TheVariants as status
+use Rattle.command_line.specs.declared.status.Status.TheVariants as status
 use Rattle.auditorium_core.proofs.CommandProofs.{IsOfCommands, HasStatuses, IsCompleted, HasOneAnswer, contains_as}
 use Rattle.auditorium_core.proofs.CommandProofs.{carried_out_as, of_read}
 use Rattle.auditorium_core.proofs.OneOrderAnswer.{OrderOne, same_order}

@@ -4,7 +4,7 @@ use Rattle.auditorium_core.proofs.Imports.{◌≢◌, ℕ, List, [], ◌∷◌, 
 use Rattle.auditorium_core.proofs.Imports.{roster_of, Answer, play_statuses, IsPlayOf}
 use Rattle.auditorium_core.proofs.Imports.{play_answer, play_parts}
 use Rattle.std.specs.List.{Contains}
-use Rattle.auditorium_core.specs.declared.status.Status.TheVariants as status
+use Rattle.command_line.specs.declared.status.Status.TheVariants as status
 use Rattle.auditorium_core.proofs.CommandProofs.{HasStatuses, IsCompleted, HasOneAnswer, contains_as, carried_out_as}
 use Rattle.auditorium_core.proofs.OnePlayAnswer.{PlayOne, same_play}
 use Rattle.auditorium_core.proofs.ScriptCommands.{script_completed, undone_done, undone_status, play_statuses_some}

@@ -3,7 +3,7 @@ use Rattle.auditorium_core.proofs.Imports.{◌≡◌, ◌≢◌, ◌∙◌, ℕ,
 use Rattle.auditorium_core.proofs.Imports.{Ok, Err, All-from_recursion, Status, Answer}
 use Rattle.auditorium_core.proofs.Imports.{ProofMade, GivesMade, proof_answer}
 use Rattle.auditorium_core.proofs.Imports.{prove_parts}
-use Rattle.auditorium_core.specs.declared.status.Status.TheVariants as status
+use Rattle.command_line.specs.declared.status.Status.TheVariants as status
 use Rattle.auditorium_core.proofs.CommandProofs.{IsOfCommands, HasStatuses, IsCompleted, HasOneAnswer, contains_as}
 use Rattle.auditorium_core.proofs.CommandProofs.{carried_out_as, of_read, status_is}
 use Rattle.auditorium_core.proofs.OneOrderAnswer.{OrderOne}

@@ -22,7 +22,7 @@ use Rattle.honest_logs.specs.WhatIsLeft.{IsLeftOf}
 use Rattle.honest_logs.proofs.ReadLogs.{whole_is_left}
 use Rattle.honest_reports.specs.Places.{HasLeft}
 use Rattle.auditorium_core.proofs.Imports.{standard}
-use Rattle.auditorium_core.specs.declared.status.Status.TheVariants as status
+use Rattle.command_line.specs.declared.status.Status.TheVariants as status
 use Rattle.auditorium_core.specs.HonestAudit.{IsAuditOfPlace, TellsHonestReport}
 use Rattle.auditorium_core.specs.Play.{machine_log_name, roster_file, roster_name}
 use Rattle.auditorium_core.specs.ReadBack.{AreReadBack, PlaysAreReadBack, RepairsAreReadBack, RunsAreReadBack}

@@ -3,7 +3,7 @@ use Rattle.auditorium_core.proofs.Imports.{refl, arith, All-from_recursion, Outc
 use Rattle.auditorium_core.proofs.Imports.{report_statuses, IsCarriedOut}
 use Rattle.std.specs.List.{All, Contains}
 use Rattle.auditor.specs.declared.outcome.Outcome.TheVariants as outcome
-use Rattle.auditorium_core.specs.declared.status.Status.TheVariants as status
+use Rattle.command_line.specs.declared.status.Status.TheVariants as status
 use Rattle.auditorium_core.proofs.CommandProofs.{IsOfCommands}
 
 -- each outcome of a report has a status of a command that was carried out

@@ -8,11 +8,11 @@ use Rattle.auditorium_core.proofs.Imports.{status_of_undone, IsCarriedOut}
 use Rattle.auditorium_core.proofs.Imports.{on_one}
 use Rattle.std.specs.List.{All, Contains}
 use Rattle.evidence.specs.declared.fault.AuditFault.TheVariants as audit
-use Rattle.auditorium_core.specs.declared.answer.Fault.TheVariants.{ReadFault}
-use Rattle.auditorium_core.specs.declared.status.Status.TheVariants as status
+use Rattle.command_line.specs.declared.answer.Fault.TheVariants.{ReadFault}
+use Rattle.command_line.specs.declared.status.Status.TheVariants as status
 use Rattle.auditorium_core.proofs.CommandProofs.{IsOfCommands, of_read}
-use Rattle.auditorium_core.proofs.Faults.{IsAbsentAnswer, IsAnswerOfFault, IsRightAsRead, refused_answered}
-use Rattle.auditorium_core.proofs.Faults.{found_answered}
+use Rattle.command_line.proofs.Faults.{IsAbsentAnswer, IsAnswerOfFault, IsRightAsRead, refused_answered}
+use Rattle.command_line.proofs.Faults.{found_answered}
 use Rattle.auditorium_core.proofs.ScriptFiles.{itself}
 use Rattle.auditorium_core.proofs.OnePlayAnswer.{PlayOne, one_script}
 

@@ -9,7 +9,7 @@ use Rattle.auditorium_core.proofs.Imports.{GivesUnsigned, IsEndorsement, Unsigne
 use Rattle.auditorium_core.proofs.Imports.{HasDone, IsGivenBy, IsWrittenBy, PlacesAll, PlacesInTurn}
 use Rattle.auditorium_core.proofs.Imports.{IsSignedInTurn, SignsInTurn}
 use Rattle.std.proofs.Math.Seq.{drop-nil, take-nil}
-use Rattle.auditorium_core.specs.declared.status.Status.TheVariants as status
+use Rattle.command_line.specs.declared.status.Status.TheVariants as status
 use Rattle.auditorium_core.proofs.Commands.{of_command}
 use Rattle.auditorium_core.proofs.DoneCases.{Giving, done_cases}
 use Rattle.auditorium_core.proofs.OfficeCallsLeave.{refusal_writes_none}

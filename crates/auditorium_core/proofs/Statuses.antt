@@ -4,7 +4,7 @@ use Rattle.std.specs.List.{Contains}
 use Rattle.auditorium_core.proofs.Imports.{◌≡◌, List, ℕ, inl, inr, map, sym, ap, subst, All-contains, Files, OnExposed}
 use Rattle.auditorium_core.proofs.Imports.{Status, Command, command_parts, Means, AreGood, Answer, usage_answer}
 use Rattle.auditorium_core.proofs.Imports.{AnswersWords, IsOfAnswers, HasItsWords}
-use Rattle.auditorium_core.specs.declared.status.Status.TheVariants as status
+use Rattle.command_line.specs.declared.status.Status.TheVariants as status
 use Rattle.auditorium_core.proofs.CommandProofs.{IsOfCommands}
 use Rattle.auditorium_core.proofs.Commands.{have_statuses}
 

@@ -4,11 +4,11 @@ use Rattle.std.specs.List.{Contains}
 use Rattle.hall_outside.specs.Counts.{ComesExactly}
 use Rattle.hall_outside.specs.Files.{Files}
 use Rattle.evidence.specs.NamedFiles.{OnExposed}
-use Rattle.auditorium_core.specs.declared.status.Status.{Status}
-use Rattle.auditorium_core.specs.declared.status.Status.TheVariants as status
-use Rattle.auditorium_core.specs.Outside.{Outside}
+use Rattle.command_line.specs.declared.status.Status.{Status}
+use Rattle.command_line.specs.declared.status.Status.TheVariants as status
+use Rattle.command_line.specs.Outside.{Outside}
 use Rattle.auditorium_core.specs.Words.{Command, command_parts, Means, AreGood}
-use Rattle.auditorium_core.specs.Lines.{Answer, usage_answer}
+use Rattle.command_line.specs.Lines.{Answer, usage_answer}
 
 -- what a command gives over the exposed files
 abbrev pub IsAnswerTo : Command → Option Files → Answer → Type 0

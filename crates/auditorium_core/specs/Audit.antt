@@ -17,16 +17,13 @@ use Rattle.auditor.specs.Outcomes.{is_broken}
 use Rattle.auditor.specs.Audits.{GivesReport, audit_files}
 use Rattle.report_exactness.specs.ReportExact.{MayBeEither}
 use Rattle.auditor.specs.Sources.{RuleSource, standard, in_file}
-use Rattle.auditorium_core.specs.declared.status.Status.TheVariants as status
-use Rattle.auditorium_core.specs.Lines.{Answer, OrRefused}
+use Rattle.command_line.specs.declared.status.Status.TheVariants as status
+use Rattle.command_line.specs.Lines.{Answer, OrRefused}
+use Rattle.command_line.specs.Reports.{source_named}
 use Rattle.auditorium_core.specs.ReportAnswers.{report_answer, report_statuses}
 use Rattle.auditorium_core.specs.HonestAudit.{IsAuditOfPlaces}
-use Rattle.auditorium_core.specs.WordForms.{AreLogs}
-use Rattle.auditorium_core.specs.CommandParts.{CommandParts}
-
--- the rules that a word names: the standard ones, or those in a file
-abbrev pub source_named : List ℕ → RuleSource
-source_named word = if bytes_eq word (codes "standard") then standard else in_file word
+use Rattle.command_line.specs.WordForms.{AreLogs}
+use Rattle.command_line.specs.CommandParts.{CommandParts}
 
 -- the rule holds of the survivors if these were all that there was, of which nothing is known but
 -- what they say

@@ -21,13 +21,14 @@ use Rattle.auditor.specs.Judged.{nodes_of, IsFirstTooWide}
 use Rattle.auditor.specs.Audits.{AndThen, FileThen, RulesThen}
 use Rattle.auditor.specs.Sources.{RuleSource, source_word, rule_files}
 use Rattle.log_files.specs.Lines.{line}
-use Rattle.auditorium_core.specs.declared.status.Status.{Status}
-use Rattle.auditorium_core.specs.declared.status.Status.TheVariants as status
-use Rattle.auditorium_core.specs.Lines.{Answer, OrRefused}
-use Rattle.auditorium_core.specs.WordForms.{AreLogs}
-use Rattle.auditorium_core.specs.Audit.{Completes, HoldsOf, source_named}
+use Rattle.command_line.specs.declared.status.Status.{Status}
+use Rattle.command_line.specs.declared.status.Status.TheVariants as status
+use Rattle.command_line.specs.Lines.{Answer, OrRefused}
+use Rattle.command_line.specs.WordForms.{AreLogs}
+use Rattle.auditorium_core.specs.Audit.{Completes, HoldsOf}
+use Rattle.command_line.specs.Reports.{source_named}
 use Rattle.auditorium_core.specs.ProofFile.{GivesProof}
-use Rattle.auditorium_core.specs.CommandParts.{CommandParts}
+use Rattle.command_line.specs.CommandParts.{CommandParts}
 
 -- the machines, the survivors of the entries that the logs keep, and the rules with their verdicts
 pub record CheckReport : Type 0 where

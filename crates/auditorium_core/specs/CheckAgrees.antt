@@ -8,8 +8,9 @@ use Rattle.audit_proof.specs.declared.fault.Verdict.TheVariants.{Kept, Broken, U
 use Rattle.auditor.specs.Audits.{GivesReport}
 use Rattle.auditor.specs.Report.{AuditReport}
 use Rattle.honest_reports.specs.Places.{files_read}
-use Rattle.auditorium_core.specs.Lines.{Answer}
-use Rattle.auditorium_core.specs.Audit.{source_named, IsSound}
+use Rattle.command_line.specs.Lines.{Answer}
+use Rattle.auditorium_core.specs.Audit.{IsSound}
+use Rattle.command_line.specs.Reports.{source_named}
 use Rattle.auditorium_core.specs.Prove.{IsProofOver}
 use Rattle.auditorium_core.specs.Check.{IsCheckOver, check_answer}
 use Rattle.auditorium_core.specs.HonestAudit.{IsOfReport}

@@ -4,13 +4,13 @@ use Rattle.hall_outside.specs.Counts.{HasRisen}
 use Rattle.hall_outside.specs.declared.sinks.Sink.{Ghosts as SinkGhosts}
 use Rattle.hall_outside.specs.declared.stores.Store.{Ghosts as StoreGhosts}
 use Rattle.evidence.specs.NamedFiles.{OnExposed, OnRead}
-use Rattle.auditorium_core.specs.declared.status.Status.{Status}
-use Rattle.auditorium_core.specs.declared.status.Status.TheVariants as status
+use Rattle.command_line.specs.declared.status.Status.{Status}
+use Rattle.command_line.specs.declared.status.Status.TheVariants as status
 use Rattle.auditorium_core.specs.HonestAudit.{IsOfReport}
 use Rattle.auditorium_core.specs.Words.{Command, command_parts, Means}
-use Rattle.auditorium_core.specs.Lines.{Answer}
-use Rattle.auditorium_core.specs.Outside.{Outside, outside}
-use Rattle.auditorium_core.specs.Outcome.{IsUnwritten, IsWritten, IsWrittenBy}
+use Rattle.command_line.specs.Lines.{Answer}
+use Rattle.command_line.specs.Outside.{Outside, outside}
+use Rattle.command_line.specs.Written.{IsUnwritten, IsWritten, IsWrittenBy}
 
 -- the statuses of a command that was carried out: 0, 1, 2, 3 and 7
 abbrev pub IsCarriedOut : Status → Type 0

@@ -16,13 +16,14 @@ use Rattle.auditor.specs.Report.{AuditReport}
 use Rattle.demonstration.specs.declared.shown.Demonstration.{Demonstration}
 use Rattle.demonstration.specs.Lines.{demonstration_text}
 use Rattle.demonstration.specs.Shown.{IsAudited, IsDemonstrationOf, IsRefusedSo}
-use Rattle.auditorium_core.specs.declared.status.Status.TheVariants as status
+use Rattle.command_line.specs.declared.status.Status.TheVariants as status
 use Rattle.auditorium_core.specs.Audit.{IsSound}
-use Rattle.auditorium_core.specs.ReportAnswers.{status_by, report_statuses}
-use Rattle.auditorium_core.specs.Lines.{Answer, OrRefused}
+use Rattle.auditorium_core.specs.ReportAnswers.{report_statuses}
+use Rattle.command_line.specs.Reports.{status_by}
+use Rattle.command_line.specs.Lines.{Answer, OrRefused}
 use Rattle.auditorium_core.specs.Play.{KeepOrder}
-use Rattle.auditorium_core.specs.WordForms.{AreSessions}
-use Rattle.auditorium_core.specs.CommandParts.{CommandParts, OnNoFile}
+use Rattle.command_line.specs.WordForms.{AreSessions}
+use Rattle.command_line.specs.CommandParts.{CommandParts, OnNoFile}
 
 -- the number is half that of the sessions, rounded up
 abbrev pub IsHalfOf : ℕ → ℕ → Type 0

@@ -8,11 +8,11 @@ use Rattle.office_key.specs.Offices.{office_text, next_office}
 use Rattle.evidence.specs.Refusal.{Refusal}
 use Rattle.log_files.specs.Lines.{line}
 use Rattle.auditor.specs.Audits.{FileThen}
-use Rattle.auditorium_core.specs.declared.status.Status.TheVariants as status
-use Rattle.auditorium_core.specs.Lines.{Answer, OrRefused}
+use Rattle.command_line.specs.declared.status.Status.TheVariants as status
+use Rattle.command_line.specs.Lines.{Answer, OrRefused}
 use Rattle.auditorium_core.specs.NamedBytes.{AtLast, GivesBytes, max_signed}
 use Rattle.auditorium_core.specs.OfficeFile.{GivesOffice, office_file}
-use Rattle.auditorium_core.specs.CommandParts.{CommandParts}
+use Rattle.command_line.specs.CommandParts.{CommandParts}
 
 -- the file of the signature of a file
 abbrev pub signature_file : List ℕ → List ℕ

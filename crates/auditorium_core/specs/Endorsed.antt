@@ -3,10 +3,10 @@ use Rattle.std.specs.Prelude.{◌≡◌, ◌⊎◌, ℕ, List, [], ◌∷◌, co
 use Rattle.hss_sign.specs.Signs.{HssSigns}
 use Rattle.evidence.specs.Refusal.{Refusal}
 use Rattle.auditor.specs.Audits.{FileThen}
-use Rattle.auditorium_core.specs.declared.status.Status.TheVariants as status
-use Rattle.auditorium_core.specs.Lines.{Answer, OrRefused, line_answer}
+use Rattle.command_line.specs.declared.status.Status.TheVariants as status
+use Rattle.command_line.specs.Lines.{Answer, OrRefused, line_answer}
 use Rattle.auditorium_core.specs.NamedBytes.{AtLast, GivesBytes, max_signed, max_small}
-use Rattle.auditorium_core.specs.CommandParts.{CommandParts}
+use Rattle.command_line.specs.CommandParts.{CommandParts}
 
 -- a public key, the bytes that were signed, and the signature
 pub record Signed : Type 0 where

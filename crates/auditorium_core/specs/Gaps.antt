@@ -7,26 +7,17 @@ use Rattle.log_files.specs.declared.plain_log.LogFault.{LogFault}
 use Rattle.log_files.specs.declared.plain_log.LogFault.TheVariants.{Absent, TooLong, Header, ReadFault, Memory}
 use Rattle.log_files.specs.LogFile.{IsLogOf, IsLogRefused}
 use Rattle.evidence.specs.NamedFiles.{OnOneFile}
-use Rattle.auditorium_core.specs.declared.status.Status.{Status}
-use Rattle.auditorium_core.specs.declared.status.Status.TheVariants as status
+use Rattle.command_line.specs.declared.status.Status.{Status}
+use Rattle.command_line.specs.declared.status.Status.TheVariants as status
 use Rattle.log_files.specs.Lines.{refused_lines, end_line, gap_lines}
-use Rattle.auditorium_core.specs.Lines.{Answer, absent_answer, refused_answer}
-use Rattle.auditorium_core.specs.CommandParts.{CommandParts}
+use Rattle.command_line.specs.Lines.{Answer, absent_answer, refused_answer}
+use Rattle.command_line.specs.CommandParts.{CommandParts}
 
 -- all lines of a log: the gaps are the digests that its entries name and none of them has
 -- (Auditorium, EVT 2007)
 abbrev pub gaps_log_lines : List ℕ → PlainLog → List ℕ
 gaps_log_lines name log =
     refused_lines name log.refused.items ++ end_line name log.end ++ gap_lines (gaps node_of log.kept.items)
-
--- findings, where there is any line
-abbrev pub status_of : List ℕ → Status
-status_of [] = status.Done
-status_of (byte ∷ bytes) = status.Findings
-
--- an answer of these lines
-abbrev pub findings_answer : List ℕ → Answer
-findings_answer lines = record { status = status_of lines; files = []; ahead = 0; output = lines }
 
 -- the answer where the log is refused; a failed read and running out of memory have none
 abbrev pub IsRefusal : List ℕ → LogFault → Answer → Type 0

@@ -15,8 +15,8 @@ use Rattle.honest_logs.specs.HonestReading.{IsHonestlyRead}
 use Rattle.honest_logs.specs.LeftFiles.{AreAllFilesOf}
 use Rattle.auditorium_core.specs.declared.order_word.OrderWord.{OrderWord}
 use Rattle.auditorium_core.specs.declared.order_word.OrderWord.TheVariants.{Same, Before, After, Apart, Unknown}
-use Rattle.auditorium_core.specs.declared.status.Status.TheVariants.{Done}
-use Rattle.auditorium_core.specs.Lines.{Answer}
+use Rattle.command_line.specs.declared.status.Status.TheVariants.{Done}
+use Rattle.command_line.specs.Lines.{Answer}
 use Rattle.auditorium_core.specs.EntryWords.{MeansEntry}
 use Rattle.auditorium_core.specs.HonestPlace.{OnEachPlace}
 use Rattle.auditorium_core.specs.TwoEntries.{IsOrderAmong, IsOrderOf}

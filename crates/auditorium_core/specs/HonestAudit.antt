@@ -17,10 +17,10 @@ use Rattle.honest_reports.specs.Kept.{SaysAllKept, SaysNoneBroken}
 use Rattle.honest_reports.specs.Places.{AreWholeFilesOf, files_read}
 use Rattle.honest_reports.specs.Refusals.{IsHonestRefusal}
 use Rattle.honest_reports.specs.Reports.{IsHonestReport}
-use Rattle.auditorium_core.specs.declared.status.Status.{Status}
-use Rattle.auditorium_core.specs.declared.status.Status.TheVariants as status
+use Rattle.command_line.specs.declared.status.Status.{Status}
+use Rattle.command_line.specs.declared.status.Status.TheVariants as status
 use Rattle.auditorium_core.specs.HonestPlace.{OnEachPlace}
-use Rattle.auditorium_core.specs.Lines.{Answer, refusal_answer}
+use Rattle.command_line.specs.Lines.{Answer, refusal_answer}
 use Rattle.auditorium_core.specs.ReportAnswers.{report_answer}
 
 -- the status is that of a report, and of no refusal

@@ -1,8 +1,5 @@
-pub mod ExitStatus
 pub mod EntryWords
 pub mod Lines
-pub mod WordForms
-pub mod CommandParts
 pub mod ReportAnswers
 pub mod ScriptFile
 pub mod NamedBytes
@@ -30,7 +27,6 @@ pub mod Repair
 pub mod Run
 pub mod Words
 pub mod Answer
-pub mod Outside
 pub mod Outcome
 pub mod Complete
 pub mod ReadBack

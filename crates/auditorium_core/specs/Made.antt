@@ -3,10 +3,10 @@ use Rattle.std.specs.Prelude.{◌≡◌, ℕ, [], ◌∷◌, codes, ⊤}
 use Rattle.std.specs.Fmt.{decimal}
 use Rattle.election_script.specs.Generated.{generated}
 use Rattle.election_script.specs.Written.{script_text}
-use Rattle.auditorium_core.specs.declared.status.Status.TheVariants as status
-use Rattle.auditorium_core.specs.Lines.{Answer}
-use Rattle.auditorium_core.specs.WordForms.{AreSessions}
-use Rattle.auditorium_core.specs.CommandParts.{CommandParts, OnNoFile}
+use Rattle.command_line.specs.declared.status.Status.TheVariants as status
+use Rattle.command_line.specs.Lines.{Answer}
+use Rattle.command_line.specs.WordForms.{AreSessions}
+use Rattle.command_line.specs.CommandParts.{CommandParts, OnNoFile}
 
 -- the text of the script of a day of this number of sessions
 abbrev pub made_answer : ℕ → Answer

@@ -5,10 +5,10 @@ use Rattle.office_key.specs.Endorsements.{office_public}
 use Rattle.office_key.specs.Offices.{office_of, office_text}
 use Rattle.log_files.specs.Lines.{line}
 use Rattle.evidence.specs.NamedFiles.{OnOneFile}
-use Rattle.auditorium_core.specs.declared.status.Status.TheVariants as status
-use Rattle.auditorium_core.specs.Lines.{Answer, refused_answer}
+use Rattle.command_line.specs.declared.status.Status.TheVariants as status
+use Rattle.command_line.specs.Lines.{Answer, refused_answer}
 use Rattle.auditorium_core.specs.OfficeFile.{office_file}
-use Rattle.auditorium_core.specs.CommandParts.{CommandParts}
+use Rattle.command_line.specs.CommandParts.{CommandParts}
 
 -- a seed: 32 bytes
 pub record IsOfficeSeed (seed : List ℕ) : Type 0 where

@@ -8,12 +8,13 @@ use Rattle.evidence.specs.NamedFiles.{OnExposed}
 use Rattle.office_key.specs.declared.office.Office.{Office}
 use Rattle.office_key.specs.Endorsements.{endorsement}
 use Rattle.office_key.specs.Offices.{IsOffice, office_text, next_office}
-use Rattle.auditorium_core.specs.declared.status.Status.{Status}
-use Rattle.auditorium_core.specs.declared.status.Status.TheVariants.{Done}
+use Rattle.command_line.specs.declared.status.Status.{Status}
+use Rattle.command_line.specs.declared.status.Status.TheVariants.{Done}
 use Rattle.auditorium_core.specs.Endorse.{GivesUnsigned, Unsigned, endorse_answer, signature_file}
 use Rattle.auditorium_core.specs.OfficeFile.{office_file}
-use Rattle.auditorium_core.specs.Outcome.{HasDone, IsGivenSomehow, PlacesInTurn}
-use Rattle.auditorium_core.specs.Outside.{Outside}
+use Rattle.auditorium_core.specs.Outcome.{HasDone, IsGivenSomehow}
+use Rattle.command_line.specs.Written.{PlacesInTurn}
+use Rattle.command_line.specs.Outside.{Outside}
 use Rattle.auditorium_core.specs.Words.{Command, Means, endorse, endorsed, office}
 
 -- the office's file among these is the text of this office

@@ -8,7 +8,7 @@ use Rattle.finished_floor.specs.declared.loss.Loss.{Loss}
 use Rattle.finished_floor.specs.declared.loss.LossWhy.TheVariants.{Scripted, ToStopped, LogFull}
 use Rattle.hall_outside.specs.Files.{Files}
 use Rattle.evidence.specs.NamedFiles.{OnExposed}
-use Rattle.auditorium_core.specs.Lines.{Answer, OrRefused}
+use Rattle.command_line.specs.Lines.{Answer, OrRefused}
 use Rattle.auditorium_core.specs.ScriptFile.{GivesScript}
 use Rattle.auditorium_core.specs.Run.{IsRunOf, loss_lines}
 use Rattle.auditorium_core.specs.Words.{IsAny}

@@ -15,13 +15,13 @@ use Rattle.evidence.specs.declared.roster_file.RosterRead.{RosterRead}
 use Rattle.evidence.specs.RosterFile.{GivesRoster}
 use Rattle.evidence.specs.Logs.{GivesLogs}
 use Rattle.evidence.specs.Graphs.{entries_of, GivesGraph}
-use Rattle.auditorium_core.specs.declared.status.Status.TheVariants as status
-use Rattle.auditorium_core.specs.Lines.{Answer, OrRefused}
+use Rattle.command_line.specs.declared.status.Status.TheVariants as status
+use Rattle.command_line.specs.Lines.{Answer, OrRefused}
 use Rattle.auditorium_core.specs.EntryWords.{IsEntryWord, MeansEntry}
 use Rattle.auditorium_core.specs.Honest.{IsOrderOfPlaces}
 use Rattle.auditorium_core.specs.TwoEntries.{IsBefore, IsOrderAmong}
-use Rattle.auditorium_core.specs.WordForms.{AreLogs}
-use Rattle.auditorium_core.specs.CommandParts.{CommandParts, OnFirstFile}
+use Rattle.command_line.specs.WordForms.{AreLogs}
+use Rattle.command_line.specs.CommandParts.{CommandParts, OnFirstFile}
 
 -- what e says comes before what f says, in entries of which nothing else is known than what they
 -- say

@@ -19,13 +19,13 @@ use Rattle.polling_world.specs.Playing.{IsPlayed}
 use Rattle.polling_world.specs.Worlds.{world_of}
 use Rattle.polling_world.specs.Waiting.{IsLeft}
 use Rattle.evidence.specs.NamedFiles.{OnOneFile}
-use Rattle.auditorium_core.specs.declared.status.Status.{Status}
-use Rattle.auditorium_core.specs.declared.status.Status.TheVariants as status
+use Rattle.command_line.specs.declared.status.Status.{Status}
+use Rattle.command_line.specs.declared.status.Status.TheVariants as status
 use Rattle.log_files.specs.Lines.{line}
 use Rattle.auditorium_core.specs.HonestPlace.{LeaveHonestFiles}
-use Rattle.auditorium_core.specs.Lines.{Answer, OrRefused}
+use Rattle.command_line.specs.Lines.{Answer, OrRefused}
 use Rattle.auditorium_core.specs.ScriptFile.{GivesScript, IsScriptFile}
-use Rattle.auditorium_core.specs.CommandParts.{CommandParts}
+use Rattle.command_line.specs.CommandParts.{CommandParts}
 use Rattle.polling_world.specs.CauseWords.{left_why_word}
 
 -- the names of the files of the roster and of a machine's log
@@ -70,11 +70,6 @@ SayUndone [] lines = lines ≡ []
 SayUndone (m ∷ machines) lines =
     (left : Option Left) × (rest : List ℕ) × IsLeft m left × SayUndone machines rest
     × (lines ≡ undone_line m.config.name left ++ rest)
-
--- undone, where there is such a line
-abbrev pub status_of_undone : List ℕ → Status
-status_of_undone [] = status.Done
-status_of_undone (byte ∷ bytes) = status.Undone
 
 -- the statuses of machines that play, and of a refusal
 abbrev pub play_statuses : List Status

@@ -11,11 +11,11 @@ use Rattle.evidence.specs.Graphs.{entries_of, GivesGraph}
 use Rattle.auditor.specs.Judged.{nodes_of}
 use Rattle.auditor.specs.Audits.{AndThen, FileThen}
 use Rattle.log_files.specs.Lines.{line}
-use Rattle.auditorium_core.specs.declared.status.Status.TheVariants as status
-use Rattle.auditorium_core.specs.Lines.{Answer, OrRefused}
-use Rattle.auditorium_core.specs.WordForms.{AreLogs}
+use Rattle.command_line.specs.declared.status.Status.TheVariants as status
+use Rattle.command_line.specs.Lines.{Answer, OrRefused}
+use Rattle.command_line.specs.WordForms.{AreLogs}
 use Rattle.auditorium_core.specs.ProofFile.{max_proof}
-use Rattle.auditorium_core.specs.CommandParts.{CommandParts}
+use Rattle.command_line.specs.CommandParts.{CommandParts}
 
 -- what is written of survivors: how many there are, and the text of their proof
 pub record ProofMade : Type 0 where

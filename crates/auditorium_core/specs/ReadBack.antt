@@ -11,12 +11,12 @@ use Rattle.polling_world.specs.Machines.{MachineState}
 use Rattle.polling_world.specs.Worlds.{world_of}
 use Rattle.honest_logs.specs.LeftFiles.{AreAllFilesOf, written_logs}
 use Rattle.auditor.specs.Sources.{standard}
-use Rattle.auditorium_core.specs.declared.status.Status.TheVariants as status
+use Rattle.command_line.specs.declared.status.Status.TheVariants as status
 use Rattle.auditorium_core.specs.Answer.{IsAnswerTo}
 use Rattle.auditorium_core.specs.Honest.{IsHonestOrder}
 use Rattle.auditorium_core.specs.HonestAudit.{TellsHonestReport}
-use Rattle.auditorium_core.specs.Lines.{Answer}
-use Rattle.auditorium_core.specs.Outcome.{with_files}
+use Rattle.command_line.specs.Lines.{Answer}
+use Rattle.command_line.specs.Written.{with_files}
 use Rattle.auditorium_core.specs.Play.{IsPlayOf, machine_log_name, roster_name}
 use Rattle.auditorium_core.specs.Repair.{IsRepairOf}
 use Rattle.auditorium_core.specs.Run.{IsRunOf}

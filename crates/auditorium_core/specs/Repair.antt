@@ -20,12 +20,12 @@ use Rattle.log_files.specs.Lines.{line}
 use Rattle.evidence.specs.NamedFiles.{OnOneFile}
 use Rattle.auditor.specs.ReportText.{maker_name}
 use Rattle.auditorium_core.specs.HonestPlace.{LeaveHonestFiles}
-use Rattle.auditorium_core.specs.declared.status.Status.TheVariants as status
-use Rattle.auditorium_core.specs.Lines.{Answer, OrRefused}
+use Rattle.command_line.specs.declared.status.Status.TheVariants as status
+use Rattle.command_line.specs.Lines.{Answer, OrRefused}
 use Rattle.auditorium_core.specs.Play.{KeepOrder, SayUndone, machine_lines, play_files, play_statuses}
-use Rattle.auditorium_core.specs.Play.{status_of_undone}
+use Rattle.command_line.specs.Lines.{status_of_undone}
 use Rattle.auditorium_core.specs.ScriptFile.{GivesScript, IsScriptFile}
-use Rattle.auditorium_core.specs.CommandParts.{CommandParts}
+use Rattle.command_line.specs.CommandParts.{CommandParts}
 
 -- an entry that a machine was answered: the machine's name, the maker's name and the entry's number
 -- there

@@ -1,20 +1,12 @@
 -- The answers of reports.
 use Rattle.std.specs.Prelude.{List, [], ◌∷◌}
-use Rattle.auditor.specs.declared.outcome.Outcome.{Outcome}
-use Rattle.auditor.specs.declared.outcome.Outcome.TheVariants as outcome
 use Rattle.auditor.specs.Report.{AuditReport}
 use Rattle.auditor.specs.Outcomes.{outcome_of}
 use Rattle.auditor.specs.ReportText.{report_text}
-use Rattle.auditorium_core.specs.declared.status.Status.{Status}
-use Rattle.auditorium_core.specs.declared.status.Status.TheVariants as status
-use Rattle.auditorium_core.specs.Lines.{Answer}
-
--- the status of what a report comes to
-abbrev pub status_by : Outcome → Status
-status_by outcome.Kept = status.Done
-status_by outcome.Findings = status.Findings
-status_by outcome.Unsettled = status.Unsettled
-status_by outcome.Broken = status.Broken
+use Rattle.command_line.specs.declared.status.Status.{Status}
+use Rattle.command_line.specs.declared.status.Status.TheVariants as status
+use Rattle.command_line.specs.Lines.{Answer}
+use Rattle.command_line.specs.Reports.{status_by}
 
 -- the statuses of a report, and of a refusal
 abbrev pub report_statuses : List Status

@@ -24,12 +24,12 @@ use Rattle.log_files.specs.Lines.{line}
 use Rattle.evidence.specs.NamedFiles.{OnOneFile}
 use Rattle.auditor.specs.ReportText.{maker_name}
 use Rattle.auditorium_core.specs.HonestPlace.{LeaveHonestFiles}
-use Rattle.auditorium_core.specs.declared.status.Status.TheVariants as status
-use Rattle.auditorium_core.specs.Lines.{Answer, OrRefused}
+use Rattle.command_line.specs.declared.status.Status.TheVariants as status
+use Rattle.command_line.specs.Lines.{Answer, OrRefused}
 use Rattle.auditorium_core.specs.Play.{KeepOrder, SayUndone, machine_lines, play_files, play_statuses}
-use Rattle.auditorium_core.specs.Play.{status_of_undone}
+use Rattle.command_line.specs.Lines.{status_of_undone}
 use Rattle.auditorium_core.specs.ScriptFile.{GivesScript, IsScriptFile}
-use Rattle.auditorium_core.specs.CommandParts.{CommandParts}
+use Rattle.command_line.specs.CommandParts.{CommandParts}
 
 -- an entry that didn't arrive: its maker's name and its number there, the receiver's name, and why
 abbrev pub loss_line : List Post → Loss → List ℕ

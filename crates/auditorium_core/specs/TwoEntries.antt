@@ -7,8 +7,9 @@ use Rattle.entry_format.specs.SealedEntry.{SealedEntry}
 use Rattle.entry_format.specs.Nodes.{node_of_sealed}
 use Rattle.auditorium_core.specs.declared.order_word.OrderWord.{OrderWord}
 use Rattle.auditorium_core.specs.declared.order_word.OrderWord.TheVariants.{Same, Before, After, Apart, Unknown}
-use Rattle.auditorium_core.specs.declared.status.Status.TheVariants as status
-use Rattle.auditorium_core.specs.Lines.{Answer, line_answer, no_entry, order_word}
+use Rattle.command_line.specs.declared.status.Status.TheVariants as status
+use Rattle.command_line.specs.Lines.{Answer, line_answer}
+use Rattle.auditorium_core.specs.Lines.{no_entry, order_word}
 use Rattle.auditorium_core.specs.EntryWords.{MeansEntry, MeansNone}
 
 -- e before f in G, by a path of names

@@ -22,12 +22,13 @@ use Rattle.demonstration.specs.Shown.{is_kept}
 use Rattle.live_auditor.specs.Adding.{IsTooWideOver}
 use Rattle.live_auditor.specs.Live.{max_added}
 use Rattle.live_auditor.specs.Summary.{Summary, After}
-use Rattle.auditorium_core.specs.declared.status.Status.TheVariants as status
-use Rattle.auditorium_core.specs.Lines.{Answer, OrRefused}
-use Rattle.auditorium_core.specs.ReportAnswers.{status_by, report_statuses}
-use Rattle.auditorium_core.specs.WordForms.{AreLogs}
-use Rattle.auditorium_core.specs.Audit.{source_named}
-use Rattle.auditorium_core.specs.CommandParts.{CommandParts}
+use Rattle.command_line.specs.declared.status.Status.TheVariants as status
+use Rattle.command_line.specs.Lines.{Answer, OrRefused}
+use Rattle.auditorium_core.specs.ReportAnswers.{report_statuses}
+use Rattle.command_line.specs.Reports.{status_by}
+use Rattle.command_line.specs.WordForms.{AreLogs}
+use Rattle.command_line.specs.Reports.{source_named}
+use Rattle.command_line.specs.CommandParts.{CommandParts}
 
 -- what an audit goes on: the machines of the roster, the rules and the logs
 pub record Evidence : Type 0 where

@@ -12,10 +12,11 @@ use Rattle.auditor.specs.Outcomes.{is_broken}
 use Rattle.auditor.specs.Report.{AuditReport}
 use Rattle.honest_reports.specs.Places.{files_read}
 use Rattle.live_auditor.specs.Summary.{Summary}
-use Rattle.auditorium_core.specs.declared.status.Status.TheVariants as status
+use Rattle.command_line.specs.declared.status.Status.TheVariants as status
 use Rattle.auditorium_core.specs.HonestPlace.{OnEachPlace}
-use Rattle.auditorium_core.specs.Lines.{Answer, refused_answer}
-use Rattle.auditorium_core.specs.Audit.{source_named, IsAuditOf, IsAuditOver}
+use Rattle.command_line.specs.Lines.{Answer, refused_answer}
+use Rattle.auditorium_core.specs.Audit.{IsAuditOf, IsAuditOver}
+use Rattle.command_line.specs.Reports.{source_named}
 use Rattle.auditorium_core.specs.HonestAudit.{IsOfReport}
 use Rattle.auditorium_core.specs.Watch.{IsWatchOver, watch_line, watch_lines}
 

@@ -1,8 +1,8 @@
 -- The commands, and which words of the command line are good. The tables are in the order of the
 -- words.
-use Rattle.std.specs.Prelude.{◌≡◌, ℕ, List, All, ⊤}
-use Rattle.auditorium_core.specs.WordForms.{IsCommandWord}
-use Rattle.auditorium_core.specs.CommandParts.{CommandParts}
+use Rattle.std.specs.Prelude.{◌≡◌, ℕ, List, IsTrue, ⊤}
+use Rattle.command_line.specs.WordForms.{have_form}
+use Rattle.command_line.specs.CommandParts.{CommandParts}
 use Rattle.auditorium_core.specs.Audit.{audit_parts}
 use Rattle.auditorium_core.specs.Check.{check_parts}
 use Rattle.auditorium_core.specs.Demonstrated.{demonstration_parts}
@@ -70,7 +70,7 @@ command_parts (watch roster rules logs) = watch_parts roster rules logs
 
 -- the words are this command's, and each has the form of a word
 pub record Means (words : List (List ℕ)) (command : Command) : Type 0 where
-  pub form : All IsCommandWord words
+  pub form : IsTrue (have_form words)
   pub spelt : words ≡ (command_parts command).words
   pub allowed : (command_parts command).IsAllowed
 

@@ -1,5 +1,4 @@
 pub mod Promise
-pub mod Ending
 pub mod Losses
 pub mod EntryNames
 pub mod Presence

@@ -4,17 +4,15 @@ ghost use Rattle.evidence.specs.Reading.{IsReadFrom};
 ghost use Rattle.auditor.specs.Audits.{GivesReport, audit_files};
 ghost use Rattle.auditor.specs.Report.{report_of};
 ghost use Rattle.auditor.specs.Sources.{RuleSource, source_of};
-ghost use Rattle.auditorium_core.specs.Audit.{source_named, IsAuditOf};
-ghost use Rattle.auditorium_core.specs.ReportAnswers.{status_by};
+ghost use Rattle.auditorium_core.specs.Audit.{IsAuditOf};
+ghost use Rattle.command_line.specs.Reports.{source_named, status_by};
 ghost use Rattle.auditorium_core.specs.Words.{audit};
 ghost use Rattle.auditorium_core.specs.inside.Meaning.{IsReadAs};
 ghost use Rattle.auditorium_core.specs.inside.Promise.{IsAnsweredBy};
 
-use crate::answer::{Answer, Fault};
-use crate::status::Status;
-use crate::word_forms::are_logs;
 use crate::words::Request;
-use auditor::{Outcome, Report, RulesFrom, write_report};
+use auditor::{Report, write_report};
+use command_line::{Answer, Fault, Status, are_logs, rules_from, status_by};
 use entry_format::Sealed;
 use evidence::AuditFault;
 use hall_outside::Store;
@@ -31,29 +29,6 @@ pub(crate) fn audit_request(rest: &[String]) -> Option<Request<'_>>
             Some(Request::Audit(roster.as_str(), rules.as_str(), logs))
         }
         _ => None,
-    }
-}
-
-/// The rules that a word of the command line names.
-pub(crate) fn rules_from(word: &str) -> RulesFrom<'_>
-    ensures { source_of result ≡ source_named word.now }
-{
-    if word == "standard" {
-        RulesFrom::Standard
-    } else {
-        RulesFrom::File(word)
-    }
-}
-
-/// The status of what a report comes to.
-pub(crate) fn status_by(outcome: Outcome) -> Status
-    ensures { result ≡ status_by outcome }
-{
-    match outcome {
-        Outcome::Kept => Status::Done,
-        Outcome::Findings => Status::Findings,
-        Outcome::Unsettled => Status::Unsettled,
-        Outcome::Broken => Status::Broken,
     }
 }
 

@@ -12,7 +12,7 @@ ghost use Rattle.evidence.specs.Refusal.{IsAbsent, refusal_of};
 ghost use Rattle.auditor.specs.Judged.{nodes_of};
 ghost use Rattle.auditor.specs.Rows.{HaveMakers, row_of};
 ghost use Rattle.auditor.specs.Sources.{rule_files};
-ghost use Rattle.auditorium_core.specs.Audit.{source_named};
+ghost use Rattle.command_line.specs.Reports.{source_named};
 ghost use Rattle.auditorium_core.specs.Check.{
   AreChecked,
   GivesCheck,
@@ -39,15 +39,12 @@ ghost use Rattle.auditorium_core.specs.inside.Checking.{
 ghost use Rattle.auditorium_core.specs.inside.Meaning.{IsReadAs};
 ghost use Rattle.auditorium_core.specs.inside.Promise.{IsAnsweredBy};
 
-use crate::answer::{Answer, Fault};
-use crate::audit::rules_from;
 use crate::proof_file::read_proof_file;
 use crate::rules_file::read_rules;
-use crate::status::Status;
-use crate::word_forms::are_logs;
 use crate::words::Request;
 use audit_proof::{CheckFault, Proof, Verdict};
 use auditor::{RulesFrom, rows};
+use command_line::{Answer, Fault, Status, are_logs, rules_from};
 use entry_graph::Graph;
 use evidence::{AuditFault, RosterRead, graph_from, read_logs, read_roster};
 use hall_outside::Store;

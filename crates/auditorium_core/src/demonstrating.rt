@@ -4,15 +4,13 @@ ghost use Rattle.election_script.specs.Generated.{generated};
 ghost use Rattle.election_script.specs.Lawful.{IsLawful};
 ghost use Rattle.polling_world.specs.Keys.{key_of};
 ghost use Rattle.auditorium_core.specs.Demonstrated.{IsHalfOf, demonstration_answer};
-ghost use Rattle.auditorium_core.specs.Lines.{Answer};
-ghost use Rattle.auditorium_core.specs.WordForms.{AreSessions};
+ghost use Rattle.command_line.specs.Lines.{Answer};
+ghost use Rattle.command_line.specs.WordForms.{AreSessions};
 ghost use Rattle.auditorium_core.specs.inside.Demonstrating.{IsShown};
 ghost use Rattle.auditorium_core.specs.inside.Meaning.{IsReadAs};
 
-use crate::answer::{Answer, Fault};
-use crate::audit::status_by;
-use crate::word_forms::sessions_of;
 use crate::words::Request;
+use command_line::{Answer, Fault, sessions_of, status_by};
 use demonstration::{Demonstration, write_demonstration};
 use election_script::Script;
 use lms_sign::LmsSecret;

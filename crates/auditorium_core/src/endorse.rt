@@ -12,10 +12,10 @@ ghost use Rattle.auditorium_core.specs.inside.Endorsing.{unsigned_of};
 ghost use Rattle.auditorium_core.specs.inside.Meaning.{IsReadAs};
 ghost use Rattle.auditorium_core.specs.inside.Promise.{IsAnsweredBy};
 
-use crate::answer::{Answer, Fault, OutputFile};
 use crate::named_bytes::{MAX_SIGNED, read_bytes};
 use crate::office_file::{office_file, read_office_file};
 use crate::words::Request;
+use command_line::{Answer, Fault, OutputFile};
 use evidence::AuditFault;
 use hall_outside::Store;
 use office_key::{Office, endorsements_are_good, write_office};

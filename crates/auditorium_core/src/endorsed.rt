@@ -10,10 +10,9 @@ ghost use Rattle.auditorium_core.specs.inside.Endorsing.{signed_of};
 ghost use Rattle.auditorium_core.specs.inside.Meaning.{IsReadAs};
 ghost use Rattle.auditorium_core.specs.inside.Promise.{IsAnsweredBy};
 
-use crate::answer::{Answer, Fault};
 use crate::named_bytes::{MAX_SIGNED, MAX_SMALL, read_bytes};
-use crate::status::Status;
 use crate::words::Request;
+use command_line::{Answer, Fault, Status};
 use evidence::AuditFault;
 use hall_outside::Store;
 use hss_sign::hss_verify;

@@ -5,8 +5,8 @@ ghost use Rattle.auditorium_core.specs.Words.{gaps};
 ghost use Rattle.auditorium_core.specs.inside.Meaning.{IsReadAs};
 ghost use Rattle.auditorium_core.specs.inside.Promise.{IsAnsweredBy};
 
-use crate::answer::{Answer, Fault};
 use crate::words::Request;
+use command_line::{Answer, Fault};
 use hall_outside::Store;
 use log_files::{LogFault, PlainLog, add_end, add_gaps, add_refused, read_plain_log};
 use std::alloc::{AllocError, Global};

@@ -2,12 +2,12 @@
 ghost use Rattle.std.specs.Prelude.{◌≡◌, ℕ, List, Option, Some};
 ghost use Rattle.hall_outside.specs.Files.{Files};
 ghost use Rattle.evidence.specs.NamedFiles.{OnExposed};
-ghost use Rattle.auditorium_core.specs.declared.status.Status.{Status};
-ghost use Rattle.auditorium_core.specs.Lines.{Answer};
+ghost use Rattle.command_line.specs.declared.status.Status.{Status};
+ghost use Rattle.command_line.specs.Lines.{Answer};
 ghost use Rattle.auditorium_core.specs.Words.{run, IsAny, IsStill, Means};
 ghost use Rattle.auditorium_core.specs.Answer.{AnswersWords, HasItsWords};
 ghost use Rattle.auditorium_core.specs.Outcome.{HasDone, IsGivenBy, IsGivenSomehow};
-ghost use Rattle.auditorium_core.specs.Outside.{Outside, outside};
+ghost use Rattle.command_line.specs.Outside.{Outside, outside};
 ghost use Rattle.auditorium_core.specs.CheckAgrees.{ChecksAgreeWithAudits, ChecksSayNoMore};
 ghost use Rattle.auditorium_core.specs.Complete.{IsComplete, IsCompleteAsRead};
 ghost use Rattle.auditorium_core.specs.OneRun.{HistoriesDetermineRuns, WrittenFilesDetermineAnswers};

@@ -4,11 +4,9 @@
 //! So a status other than `WriteFault` says that all of its answer was written, or nothing.
 #![tactic(auto)]
 
-mod answer;
 mod audit;
 mod check;
 mod demonstrating;
-mod ending;
 mod endorse;
 mod endorsed;
 mod entry_word;
@@ -29,13 +27,11 @@ mod repair;
 mod rules_file;
 mod run;
 mod script_file;
-mod status;
 mod watch;
 mod watch_laws;
-mod word_forms;
 mod words;
-mod writing;
 
+pub use command_line::Status;
 pub use laws::{
     answers_are_complete, answers_are_over_exposed_files, answers_as_read_are_complete,
     checks_agree_with_audits, checks_say_no_more, histories_determine_answers, one_answer_is_right,
@@ -45,7 +41,6 @@ pub use office_laws::{
     endorsements_are_called_good, endorsements_leave_three_states, numbers_sign_once,
 };
 pub use program::{auditorium, auditorium_still};
-pub use status::Status;
 pub use watch_laws::{
     honest_watches_break_no_rule, orders_of_logs_end_alike, watches_agree_with_audits,
 };

@@ -1,13 +1,11 @@
 // The command `make`: the text of a generated script.
 ghost use Rattle.std.specs.Prelude.{◌≡◌, IfOk, codes, map, string_bytes};
 ghost use Rattle.auditorium_core.specs.Made.{made_answer};
-ghost use Rattle.auditorium_core.specs.WordForms.{AreSessions};
+ghost use Rattle.command_line.specs.WordForms.{AreSessions};
 ghost use Rattle.auditorium_core.specs.inside.Meaning.{IsReadAs};
 
-use crate::answer::Answer;
-use crate::status::Status;
-use crate::word_forms::sessions_of;
 use crate::words::Request;
+use command_line::{Answer, Status, sessions_of};
 use election_script::write;
 use std::alloc::{AllocError, Global};
 

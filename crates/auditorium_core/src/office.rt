@@ -12,9 +12,9 @@ ghost use Rattle.auditorium_core.specs.inside.Meaning.{IsReadAs};
 ghost use Rattle.auditorium_core.specs.inside.Promise.{IsAnsweredBy};
 ghost use Rattle.auditorium_core.specs.inside.Presence.{IsThere};
 
-use crate::answer::{Answer, Fault, OutputFile};
 use crate::office_file::office_file;
 use crate::words::Request;
+use command_line::{Answer, Fault, OutputFile};
 use hall_outside::{FileFault, Store, read_file};
 use hall_text::digest_hex;
 use office_key::{Office, public_key, public_key_in, write_office};

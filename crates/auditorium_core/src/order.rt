@@ -33,12 +33,10 @@ ghost use Rattle.auditorium_core.specs.inside.EntryNames.{IsLowerAt, IsPlaceOf, 
 ghost use Rattle.auditorium_core.specs.inside.Meaning.{IsReadAs};
 ghost use Rattle.auditorium_core.specs.inside.Promise.{IsAnsweredBy};
 
-use crate::answer::{Answer, Fault};
 use crate::entry_word::{Read, is_entry_word, read_word};
 use crate::order_word::OrderWord;
-use crate::status::Status;
-use crate::word_forms::are_logs;
 use crate::words::Request;
+use command_line::{Answer, Fault, Status, are_logs};
 use entry_format::Sealed;
 use entry_graph::Graph;
 use entry_order::{Knot, Three, order_is_settled};

@@ -16,9 +16,9 @@ ghost use Rattle.auditorium_core.specs.Play.{
 };
 ghost use Rattle.auditorium_core.specs.Play.{IsPlayOf, play_files};
 
-use crate::answer::{Answer, Fault, OutputFile};
 use crate::script_file::read_script;
 use crate::words::Request;
+use command_line::{Answer, Fault, OutputFile};
 use election_script::Script;
 use hall_outside::Store;
 use lms_sign::LmsSecret;

@@ -1,16 +1,14 @@
 // From the words of the command line to the bytes that go out.
 ghost use Rattle.std.specs.Prelude.{◌≡◌, ℕ, List, IfNone, IfSome, map, string_bytes};
 ghost use Rattle.auditorium_core.specs.Outcome.{HasDone, IsGivenBy};
-ghost use Rattle.auditorium_core.specs.Outside.{outside};
+ghost use Rattle.command_line.specs.Outside.{outside};
 ghost use Rattle.auditorium_core.specs.Words.{IsAny, IsStill, Means, command_parts, run};
 ghost use Rattle.auditorium_core.specs.inside.Meaning.{IsThreaded, asked};
 ghost use Rattle.auditorium_core.specs.inside.Promise.{AreAnswered, IsAnsweredBy};
 
-use crate::answer::{Answer, Fault};
 use crate::audit::{audit, audit_in};
 use crate::check::check;
 use crate::demonstrating::{demonstrate, demonstrate_in};
-use crate::ending::end_with;
 use crate::endorse::{endorse, endorse_in};
 use crate::endorsed::endorsed;
 use crate::gaps::gaps;
@@ -21,9 +19,9 @@ use crate::play::{play, play_in};
 use crate::prove::prove;
 use crate::repair::{repair, repair_in};
 use crate::run::run;
-use crate::status::Status;
 use crate::watch::watch;
 use crate::words::{Request, request_of};
+use command_line::{Answer, Fault, Status, end_with};
 use hall_outside::{Gate, Sink, Store};
 use std::alloc::Global;
 use std::sync::Wait;
@@ -49,7 +47,7 @@ pub fn auditorium<R: Threads + Wait + Sync, S: Store, K: Sink, G: Gate + Sync>(
     match threaded_of(words) {
         Some(request) => {
             let answer = answer_in(rt, alloc, gate, request, store);
-            end_with(answer, store, out)
+            end_with(&answer, store, out)
         }
         None => auditorium_still(alloc, words, store, out),
     }
@@ -69,7 +67,7 @@ pub fn auditorium_still<S: Store, K: Sink>(
         (outside S.Store K.Sink store.new out.new) }
 {
     let answer = answer_of(alloc, words, store);
-    end_with(answer, store, out)
+    end_with(&answer, store, out)
 }
 
 /// What the words ask for, if it is done in threads.

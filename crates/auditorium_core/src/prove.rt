@@ -13,10 +13,9 @@ ghost use Rattle.auditorium_core.specs.inside.Checking.{ProvesFiles, ProvesLogs}
 ghost use Rattle.auditorium_core.specs.inside.Meaning.{IsReadAs};
 ghost use Rattle.auditorium_core.specs.inside.Promise.{IsAnsweredBy};
 
-use crate::answer::{Answer, Fault, OutputFile};
-use crate::word_forms::are_logs;
 use crate::words::Request;
 use audit_proof::ProveFault;
+use command_line::{Answer, Fault, OutputFile, are_logs};
 use entry_graph::Graph;
 use evidence::{AuditFault, RosterRead, graph_from, read_logs, read_roster};
 use hall_outside::Store;

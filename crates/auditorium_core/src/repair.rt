@@ -9,10 +9,10 @@ ghost use Rattle.auditorium_core.specs.inside.Meaning.{IsReadAs};
 ghost use Rattle.auditorium_core.specs.inside.Promise.{IsAnsweredBy};
 ghost use Rattle.auditorium_core.specs.inside.Repaired.{ComesByRepair};
 
-use crate::answer::{Answer, Fault};
 use crate::play::{add_machines, files_of, undone_lines};
 use crate::script_file::read_script;
 use crate::words::Request;
+use command_line::{Answer, Fault};
 use election_script::Script;
 use entry_order::Step;
 use hall_outside::Store;

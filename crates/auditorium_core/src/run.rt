@@ -8,10 +8,10 @@ ghost use Rattle.auditorium_core.specs.inside.Losses.{IsBetween};
 ghost use Rattle.auditorium_core.specs.inside.Meaning.{IsReadAs};
 ghost use Rattle.auditorium_core.specs.inside.Promise.{IsAnsweredBy};
 
-use crate::answer::{Answer, Fault};
 use crate::play::{add_machines, files_of, undone_lines};
 use crate::script_file::read_script;
 use crate::words::Request;
+use command_line::{Answer, Fault};
 use election_script::Script;
 use hall_outside::{Gate, Store};
 use machine_floor::{Floor, Loss, run_floor};

@@ -19,8 +19,7 @@ ghost use Rattle.auditor.specs.Sources.{rule_files};
 ghost use Rattle.live_auditor.specs.Adding.{Collides, IsOfSameAudit, IsTooWideOver};
 ghost use Rattle.live_auditor.specs.Live.{IsLive, IsOfMachine, max_added};
 ghost use Rattle.demonstration.specs.Shown.{is_kept};
-ghost use Rattle.auditorium_core.specs.Audit.{source_named};
-ghost use Rattle.auditorium_core.specs.ReportAnswers.{status_by};
+ghost use Rattle.command_line.specs.Reports.{source_named, status_by};
 ghost use Rattle.auditorium_core.specs.Watch.{
   AreFewDistinct,
   GivesEvidence,
@@ -45,13 +44,10 @@ ghost use Rattle.auditorium_core.specs.inside.Watching.{
   second_half,
 };
 
-use crate::answer::{Answer, Fault};
-use crate::audit::{rules_from, status_by};
 use crate::rules_file::read_rules;
-use crate::status::Status;
-use crate::word_forms::are_logs;
 use crate::words::Request;
 use auditor::{Outcome, RulesFrom, rows};
+use command_line::{Answer, Fault, Status, are_logs, rules_from, status_by};
 use entry_format::Sealed;
 use entry_graph::Graph;
 use evidence::{AuditFault, RosterRead, entries_give_one_graph, graph_of, read_logs, read_roster};

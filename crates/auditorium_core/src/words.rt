@@ -17,7 +17,7 @@ use crate::prove::prove_request;
 use crate::repair::repair_request;
 use crate::run::run_request;
 use crate::watch::watch_request;
-use crate::word_forms::have_form;
+use command_line::have_form;
 
 /// What a valid command line asks for.
 #[derive(Clone, Copy)]

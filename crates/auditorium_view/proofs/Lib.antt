@@ -1,2 +1,1 @@
 pub mod Viewed
-pub mod TextTests

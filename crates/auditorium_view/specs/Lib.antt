@@ -1,4 +1,3 @@
-pub mod ExitNumbers
 pub mod ViewWords
 pub mod View
 pub mod Shown

@@ -1,11 +1,7 @@
 -- What the program answers.
-use Rattle.std.specs.Prelude.{◌≡◌, ◌⊎◌, ℕ, ◌+◌, if◌then◌else◌, List, [], ◌∷◌, ◌++◌, codes, length, map, slice_index_or}
-use Rattle.std.specs.Prelude.{Option, None, Ok, Err}
+use Rattle.std.specs.Prelude.{◌≡◌, ℕ, ◌+◌, if◌then◌else◌, List, [], ◌∷◌, ◌++◌, length, map, slice_index_or}
+use Rattle.std.specs.Prelude.{Option, None}
 use Rattle.std.specs.List.{range_with_len}
-use Rattle.evidence.specs.Refusal.{Refusal, absent, refused}
-use Rattle.log_files.specs.Lines.{line, refused_line}
-use Rattle.auditor.specs.declared.outcome.Outcome.{Outcome}
-use Rattle.auditor.specs.declared.outcome.Outcome.TheVariants as outcome
 use Rattle.auditor.specs.Report.{AuditReport}
 use Rattle.auditor.specs.Outcomes.{outcome_of}
 use Rattle.auditor.specs.Audits.{GivesReport}
@@ -14,21 +10,9 @@ use Rattle.entangled_picture.specs.Document.{picture_text}
 use Rattle.report_page.specs.declared.input.Input.{Input}
 use Rattle.report_page.specs.declared.input.What.TheVariants as what
 use Rattle.report_page.specs.Page.{page_text}
-use Rattle.auditorium_view.specs.declared.status.Status.{Status}
-use Rattle.auditorium_view.specs.declared.status.Status.TheVariants as status
-use Rattle.auditorium_view.specs.ViewWords.{ViewRequest, rules_named}
-
--- an answer: how the program ends, and the output
-pub record ViewAnswer : Type 0 where
-  pub status : Status
-  pub output : List ℕ
-
--- the status of what a report comes to
-abbrev pub view_status : Outcome → Status
-view_status outcome.Kept = status.Done
-view_status outcome.Findings = status.Findings
-view_status outcome.Unsettled = status.Unsettled
-view_status outcome.Broken = status.Broken
+use Rattle.command_line.specs.Lines.{Answer, OrRefused}
+use Rattle.command_line.specs.Reports.{source_named, status_by}
+use Rattle.auditorium_view.specs.ViewWords.{ViewRequest}
 
 -- the digest at a place, if it is known
 abbrev pub known_digest : List (Option (List ℕ)) → ℕ → Option (List ℕ)
@@ -63,8 +47,8 @@ roster_input digests name = record { what = what.Roster; name = name; digest = k
 -- the inputs of an audit: the roster, the rules where they are in a file, and the logs
 abbrev pub inputs_of : List (Option (List ℕ)) → ViewRequest → List Input
 inputs_of digests request =
-    roster_input digests request.roster ∷ [] ++ rule_inputs digests (rules_named request.rules)
-    ++ log_inputs digests (files_before (rules_named request.rules)) request.logs
+    roster_input digests request.roster ∷ [] ++ rule_inputs digests (source_named request.rules)
+    ++ log_inputs digests (files_before (source_named request.rules)) request.logs
 
 -- what is shown of a report: its picture alone, or its page
 abbrev pub view_text : List (Option (List ℕ)) → ViewRequest → AuditReport → List ℕ
@@ -72,25 +56,17 @@ view_text digests request report =
     if request.picture then picture_text report else page_text report (inputs_of digests request)
 
 -- the answer of a report
-abbrev pub view_answer : List (Option (List ℕ)) → ViewRequest → AuditReport → ViewAnswer
-view_answer digests request report =
-    record { status = view_status (outcome_of report); output = view_text digests request report }
-
--- the answer to an invalid command line
-abbrev pub usage_view : ViewAnswer
-usage_view = record { status = status.Usage; output = line (codes "usage") }
-
--- the answer where an input is refused, or isn't there
-abbrev pub refusal_view : Refusal → ViewAnswer
-refusal_view (absent file) = record { status = status.Absent; output = line (codes "absent " ++ file) }
-refusal_view (refused file place cause) =
-    record { status = status.Refused; output = line (refused_line file place cause) }
+abbrev pub view_answer : List (Option (List ℕ)) → ViewRequest → AuditReport → Answer
+view_answer digests request report = record {
+  status = status_by (outcome_of report);
+  files = [];
+  ahead = 0;
+  output = view_text digests request report;
+}
 
 -- The answer to a request over these files: what is shown of the report that they give, or the first
 -- refusal. The digests are those that are to be shown.
-abbrev pub IsViewOf : List (Option (List ℕ)) → ViewRequest → ViewAnswer → List (Option (List ℕ)) → Type 0
-IsViewOf digests request answer files =
-    ((report : AuditReport) × GivesReport request.roster (rules_named request.rules) request.logs files (Ok report)
-    × (answer ≡ view_answer digests request report))
-    ⊎ ((refusal : Refusal) × GivesReport request.roster (rules_named request.rules) request.logs files (Err refusal)
-    × (answer ≡ refusal_view refusal))
+abbrev pub IsViewOf : List (Option (List ℕ)) → ViewRequest → List (Option (List ℕ)) → Answer → Type 0
+IsViewOf digests request files =
+    OrRefused (GivesReport request.roster (source_named request.rules) request.logs files)
+    (λ report answer. answer ≡ view_answer digests request report)

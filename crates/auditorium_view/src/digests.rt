@@ -1,6 +1,7 @@
 //! The digests of the files of a request, each read once for itself.
-use crate::words::{Request, request_of, rules_from};
+use crate::words::{Request, request_of};
 use auditor::RulesFrom;
+use command_line::rules_from;
 use hall_outside::{FolderStore, read_file};
 use sha2::{Digest, Sha256};
 use std::alloc::AllocError;

@@ -1,7 +1,7 @@
 //! Lines on standard error: what failed, and hints for users whose command wasn't carried out.
-use crate::status::Status;
 use crate::words::PICTURE;
 use command_hints::{Hint, hint_on};
+use command_line::Status;
 use hall_outside::{Failure, FolderStore, read_file};
 use std::alloc::{AllocError, Global};
 use std::fs::{self, File};

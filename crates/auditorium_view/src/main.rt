@@ -4,18 +4,16 @@
 //! or isn't there, a hint does.
 #![tactic(auto)]
 
-mod answer;
 mod digests;
 mod ending;
 mod hinting;
-mod status;
 mod viewing;
 mod words;
 
 use crate::digests::digests_of;
 use crate::ending::show;
 use crate::hinting::{hint, report};
-use crate::status::Status;
+use command_line::Status;
 use hall_outside::{FolderStore, OutputSink};
 use std::env;
 use std::io::{self, Eprint, ErrorKind};

@@ -21,9 +21,9 @@ ghost use Rattle.auditorium_view.specs.View.{known_digest, files_before, inputs_
 ghost use Rattle.auditorium_view.specs.View.{rule_inputs, view_answer, view_text};
 ghost use Rattle.auditorium_view.specs.inside.Requests.{asked};
 
-use crate::answer::{Answer, Fault};
-use crate::words::{Request, request_of, rules_from};
+use crate::words::{Request, request_of};
 use auditor::{Report, RulesFrom, audit};
+use command_line::{Answer, Fault, rules_from, status_by};
 use entangled_picture::write_picture;
 use hall_outside::Store;
 use item_list::Items;
@@ -182,7 +182,7 @@ fn answer_of(
     ensures err { IfErr result (λ fault. fault ≡ Fault.Memory) }
 {
     let output = view_text(alloc, request, digests, report)?;
-    Ok(Answer::of_report(report, output))
+    Ok(Answer::of_text(alloc, status_by(report.outcome()), output))
 }
 
 /// The answer to what the words ask for.

@@ -1,21 +1,9 @@
 //! The words of the command line.
 ghost use Rattle.std.specs.Prelude.{◌≡◌, map, option_map, string_bytes};
-ghost use Rattle.std.specs.List.{list_all};
-ghost use Rattle.auditor.specs.Sources.{source_of};
-ghost use Rattle.auditorium_view.specs.ViewWords.{
-  audit_in,
-  is_printing,
-  is_view_word,
-  request_by,
-  request_in,
-  rules_named,
-};
+ghost use Rattle.auditorium_view.specs.ViewWords.{audit_in, request_by, request_in};
 ghost use Rattle.auditorium_view.specs.inside.Requests.{asked};
 
-use auditor::RulesFrom;
-
-/// The most logs.
-const MAX_LOGS: usize = 16;
+use command_line::{MAX_LOGS, have_form};
 
 /// What the words ask for.
 #[derive(Clone, Copy)]
@@ -25,28 +13,6 @@ pub(crate) struct Request<'a> {
     pub roster: &'a str,
     pub rules: &'a str,
     pub logs: &'a [String],
-}
-
-/// Whether each byte is one from `!` to `~`.
-fn are_printing(bytes: &[u8]) -> bool
-    ensures { result ≡ list_all is_printing bytes.now }
-{
-    bytes.iter().all(|byte| *byte >= b'!' && *byte <= b'~')
-}
-
-/// Whether the word has the form of a word: there are no options, so none begins with `-`.
-fn is_word(word: &str) -> bool
-    ensures { result ≡ is_view_word word.now }
-{
-    let bytes = word.as_bytes();
-    !bytes.is_empty() && bytes.len() <= 1024 && bytes[0] != b'-' && are_printing(bytes)
-}
-
-/// Whether each of the words has the form of a word.
-fn have_form(words: &[String]) -> bool
-    ensures { result ≡ list_all (λ word. is_view_word (string_bytes word)) words.now }
-{
-    words.iter().all(|word| is_word(word.as_str()))
 }
 
 /// The word before which the picture alone is asked for.
@@ -85,16 +51,5 @@ pub(crate) fn request_of(words: &[String]) -> Option<Request<'_>>
         request_in(words)
     } else {
         None
-    }
-}
-
-/// The rules that a word of the command line names.
-pub(crate) fn rules_from(word: &str) -> RulesFrom<'_>
-    ensures { source_of result ≡ rules_named word.now }
-{
-    if word == "standard" {
-        RulesFrom::Standard
-    } else {
-        RulesFrom::File(word)
     }
 }

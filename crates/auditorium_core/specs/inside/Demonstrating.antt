@@ -1,10 +1,10 @@
 -- What `demo` promises of its answer, for which it needs no store.
 use Rattle.std.specs.Prelude.{◌≡◌, ◌≢◌, ℕ, Result, IfErr, IfOk}
-use Rattle.auditorium_core.specs.declared.answer.Fault.{Fault}
-use Rattle.auditorium_core.specs.declared.answer.Fault.TheVariants.{Memory}
-use Rattle.auditorium_core.specs.declared.status.Status.TheVariants as status
+use Rattle.command_line.specs.declared.answer.Fault.{Fault}
+use Rattle.command_line.specs.declared.answer.Fault.TheVariants.{Memory}
+use Rattle.command_line.specs.declared.status.Status.TheVariants as status
 use Rattle.auditorium_core.specs.Demonstrated.{IsDemonstrationAnswer}
-use Rattle.auditorium_core.specs.Lines.{Answer}
+use Rattle.command_line.specs.Lines.{Answer}
 
 -- The answer is right for this number of sessions. It says of no file that it is absent, and only
 -- memory can run out.

@@ -1,6 +1,6 @@
 use Rattle.auditorium_core.proofs.Imports.{inl, inr, refl, subst, Ok, IsReadFrom, audit_files, GivesReport, report_of}
 use Rattle.auditorium_core.proofs.Imports.{source_named, audit_parts, refusal_answer}
-use Rattle.auditorium_core.proofs.Faults.{refused_answered, found_answered}
+use Rattle.command_line.proofs.Faults.{refused_answered, found_answered}
 use Rattle.auditorium_core.proofs.HonestAudits.{audit_right}
 use Rattle.auditorium_core.proofs.audit.answered.Goals as goal
 

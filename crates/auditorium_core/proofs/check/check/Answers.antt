@@ -1,6 +1,6 @@
 use Rattle.auditorium_core.proofs.Imports.{◌∙◌, map, sym, string_bytes, length-map, Ok, rule_tree, proofs_say_no_more}
 use Rattle.auditorium_core.proofs.Imports.{some_as_read, source_named, check_files, GivesCheck, IsCheckOf, report_by}
-use Rattle.auditorium_core.proofs.Faults.{or_refused, or_answered}
+use Rattle.command_line.proofs.Faults.{or_refused, or_answered}
 use Rattle.auditorium_core.proofs.CheckSound.{check_found, check_right, a_verdict_each}
 use Rattle.auditorium_core.proofs.check.check.Goals as goal
 

@@ -1,7 +1,7 @@
 use Rattle.auditorium_core.proofs.Imports.{[], ◌∷◌, Ok, office_file, GivesUnsigned, IsEndorsement, unsigned_of}
 use Rattle.auditorium_core.proofs.Imports.{some_as_read}
 use Rattle.auditorium_core.proofs.EndorseCommand.{endorse_is_there, unsigned_left}
-use Rattle.auditorium_core.proofs.Faults.{or_refused, or_answered}
+use Rattle.command_line.proofs.Faults.{or_refused, or_answered}
 use Rattle.auditorium_core.proofs.endorse.endorse.Goals as goal
 
 pub returns-in-Err : goal.returns-in-Err

@@ -1,5 +1,5 @@
 use Rattle.auditorium_core.proofs.Imports.{[], ◌∷◌, Ok, GivesSigned, IsEndorsedVerdict, signed_of}
-use Rattle.auditorium_core.proofs.Faults.{or_refused, or_answered}
+use Rattle.command_line.proofs.Faults.{or_refused, or_answered}
 use Rattle.auditorium_core.proofs.endorsed.endorsed.Goals as goal
 
 pub returns-in-Err : goal.returns-in-Err

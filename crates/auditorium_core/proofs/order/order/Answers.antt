@@ -1,7 +1,7 @@
 use Rattle.auditorium_core.proofs.Imports.{◌≡◌, ◌∷◌, map, string_bytes, Ok, RosterRead, LogRead, List, GivesRoster}
 use Rattle.auditorium_core.proofs.Imports.{AndThen, order_parts}
 use Rattle.auditorium_core.proofs.Imports.{file_ends}
-use Rattle.auditorium_core.proofs.Faults.{refused_answered}
+use Rattle.command_line.proofs.Faults.{refused_answered}
 use Rattle.auditorium_core.proofs.OrderAnswers.{Logs, Read, order_refused}
 use Rattle.auditorium_core.proofs.order.order.Goals as goal
 

@@ -4,7 +4,7 @@ use Rattle.auditorium_core.proofs.Imports.{file_joins, and_then, and_refused}
 use Rattle.std.proofs.Common.{Option}
 use Rattle.std.specs.declared.vec.Vec.{Vec}
 use Rattle.auditorium_core.proofs.Imports.{Global, LogRead}
-use Rattle.auditorium_core.proofs.Faults.{refused_answered, found_answered}
+use Rattle.command_line.proofs.Faults.{refused_answered, found_answered}
 use Rattle.auditorium_core.proofs.OrderAnswers.{Logs, Read, order_refused, order_answered}
 use Rattle.auditorium_core.proofs.order.order_of.Goals as goal
 

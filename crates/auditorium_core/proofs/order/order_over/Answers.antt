@@ -1,5 +1,5 @@
 use Rattle.auditorium_core.proofs.Imports.{SealedEntry, EntryGraph, entries_of, GivesGraph, IsOrderAmong}
-use Rattle.auditorium_core.proofs.Faults.{refused_or}
+use Rattle.command_line.proofs.Faults.{refused_or}
 use Rattle.auditorium_core.proofs.order.order_over.Goals as goal
 
 pub returns-in-Err-clause-told : goal.returns-in-Err-clause-told

@@ -1,5 +1,5 @@
 use Rattle.auditorium_core.proofs.Imports.{◌≡◌, ◌∷◌, map, string_bytes, Ok, ProofMade, Answer, GivesMade, proof_answer}
-use Rattle.auditorium_core.proofs.Faults.{or_refused, or_answered}
+use Rattle.command_line.proofs.Faults.{or_refused, or_answered}
 use Rattle.auditorium_core.proofs.ProveAnswers.{itself}
 use Rattle.auditorium_core.proofs.ProveCommand.{prove_is_there}
 use Rattle.auditorium_core.proofs.prove.prove.Goals as goal

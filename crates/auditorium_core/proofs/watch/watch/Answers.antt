@@ -1,6 +1,6 @@
 use Rattle.auditorium_core.proofs.Imports.{◌≡◌, map, refl, string_bytes, audit_files, Ok, Answer, source_named}
 use Rattle.auditorium_core.proofs.Imports.{GivesWatch}
-use Rattle.auditorium_core.proofs.Faults.{or_refused, or_answered}
+use Rattle.command_line.proofs.Faults.{or_refused, or_answered}
 use Rattle.auditorium_core.proofs.watch.watch.Goals as goal
 
 pub returns-in-Err : goal.returns-in-Err

@@ -1,0 +1,5 @@
+mod Imports
+pub mod Tests
+pub mod Cuts
+pub mod Calls
+pub mod Faults

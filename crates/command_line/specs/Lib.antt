@@ -1,0 +1,9 @@
+pub mod ExitStatus
+pub mod Lines
+pub mod Reports
+pub mod WordForms
+pub mod CommandParts
+pub mod Outside
+pub mod Written
+pub mod Ending
+pub mod Promise
