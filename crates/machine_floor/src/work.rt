@@ -168,7 +168,7 @@ fn work_each<R: Threads + Wait + Sync, G: Gate + Sync>(
 /// Lets each station be worked by two threads, its hand and its ear, for at most `turns` turns
 /// each, and ends once all have ended. Each station comes back in its place, grown by turns. Where
 /// there is no room for threads the stations come back as they are, and what a hand could not do
-/// for want of memory isn't done.
+/// once memory ran out isn't done.
 pub fn work_all<R: Threads + Wait + Sync, G: Gate + Sync>(
     rt: &R,
     alloc: Global,
