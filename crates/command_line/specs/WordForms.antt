@@ -2,14 +2,11 @@
 use Rattle.std.specs.Prelude.{ℕ, ◌<◌, ◌≤◌, ◌==◌, Bool, not, ◌&&◌, nat_le, List, length, slice_index}
 use Rattle.std.specs.List.{list_all}
 
--- a byte from `!` to `~`
-abbrev pub is_printing : ℕ → Bool
-is_printing byte = nat_le 33 byte && nat_le byte 126
-
 -- the form of a word: 1 to 1,024 bytes, each from `!` to `~`, of which the first isn't `-`
 abbrev pub is_command_word : List ℕ → Bool
 is_command_word word =
-    not (length word == 0) && nat_le (length word) 1024 && not (slice_index word 0 == 45) && list_all is_printing word
+    not (length word == 0) && nat_le (length word) 1024 && not (slice_index word 0 == 45)
+    && list_all (λ byte. nat_le 33 byte && nat_le byte 126) word
 
 -- each word has this form
 abbrev pub have_form : List (List ℕ) → Bool

@@ -3,7 +3,9 @@ ghost use Rattle.std.specs.Prelude.{
   ◌≡◌,
   ◌≢◌,
   ◌↔◌,
+  ◌&&◌,
   ℕ,
+  nat_le,
   map,
   string_bytes,
   IsTrue,
@@ -12,7 +14,7 @@ ghost use Rattle.std.specs.Prelude.{
 };
 ghost use Rattle.std.specs.List.{list_all};
 ghost use Rattle.std.specs.Fmt.{decimal};
-ghost use Rattle.command_line.specs.WordForms.{AreLogs, AreSessions, have_form, is_command_word, is_printing};
+ghost use Rattle.command_line.specs.WordForms.{AreLogs, AreSessions, have_form, is_command_word};
 
 use hall_text::decimal;
 
@@ -53,7 +55,7 @@ fn are_words(words: &[String]) -> bool
 
 /// Whether each byte is one from `!` to `~`.
 fn are_printing(bytes: &[u8]) -> bool
-    ensures { result ≡ list_all is_printing bytes.now }
+    ensures { result ≡ list_all (λ byte. nat_le 33 byte && nat_le byte 126) bytes.now }
 {
     bytes.iter().all(|byte| *byte >= b'!' && *byte <= b'~')
 }
