@@ -10,7 +10,7 @@ use Rattle.evidence.specs.NamedFiles.{OnOneFile}
 use Rattle.command_line.specs.declared.status.Status.{Status}
 use Rattle.command_line.specs.declared.status.Status.TheVariants as status
 use Rattle.log_files.specs.Lines.{refused_lines, end_line, gap_lines}
-use Rattle.command_line.specs.Lines.{Answer, absent_answer, refused_answer}
+use Rattle.command_line.specs.Lines.{Answer, absent_answer, findings_answer, refused_answer}
 use Rattle.command_line.specs.CommandParts.{CommandParts}
 
 -- all lines of a log: the gaps are the digests that its entries name and none of them has

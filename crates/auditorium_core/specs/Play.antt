@@ -23,7 +23,7 @@ use Rattle.command_line.specs.declared.status.Status.{Status}
 use Rattle.command_line.specs.declared.status.Status.TheVariants as status
 use Rattle.log_files.specs.Lines.{line}
 use Rattle.auditorium_core.specs.HonestPlace.{LeaveHonestFiles}
-use Rattle.command_line.specs.Lines.{Answer, OrRefused}
+use Rattle.command_line.specs.Lines.{Answer, OrRefused, status_of_undone}
 use Rattle.auditorium_core.specs.ScriptFile.{GivesScript, IsScriptFile}
 use Rattle.command_line.specs.CommandParts.{CommandParts}
 use Rattle.polling_world.specs.CauseWords.{left_why_word}

@@ -6,8 +6,6 @@ use Rattle.evidence.specs.declared.fault.AuditFault.{AuditFault}
 use Rattle.evidence.specs.declared.fault.AuditFault.TheVariants as audit
 use Rattle.evidence.specs.Refusal.{Refusal}
 use Rattle.evidence.specs.Reading.{IsReadFrom}
-use Rattle.auditor.specs.declared.outcome.Outcome.{Outcome}
-use Rattle.auditor.specs.declared.outcome.Outcome.TheVariants as outcome
 use Rattle.auditor.specs.Report.{AuditReport, ReportParts, report_of}
 use Rattle.auditor.specs.Outcomes.{outcome_of}
 use Rattle.auditor.specs.Audits.{GivesReport, audit_files}
@@ -16,18 +14,12 @@ use Rattle.command_line.specs.declared.answer.Fault.{Fault}
 use Rattle.command_line.specs.declared.answer.Fault.TheVariants.{ReadFault, Memory}
 use Rattle.command_line.specs.declared.status.Status.TheVariants as status
 use Rattle.command_line.specs.Lines.{Answer}
-use Rattle.command_line.specs.Reports.{source_named, status_by}
+use Rattle.command_line.specs.Reports.{source_named}
 use Rattle.command_line.proofs.Faults.{IsAnswerOfFault, or_answered, or_refused}
+use Rattle.command_line.proofs.ReportStatuses.{not_absent}
 use Rattle.auditorium_view.specs.ViewWords.{ViewRequest}
 use Rattle.auditorium_view.specs.View.{view_answer}
 use Rattle.auditorium_view.specs.Shown.{IsViewedBy}
-
--- what a report comes to is no absence
-not_absent : (how : Outcome) → status_by how ≢ status.Absent
-not_absent outcome.Kept e = cc
-not_absent outcome.Findings e = cc
-not_absent outcome.Unsettled e = cc
-not_absent outcome.Broken e = cc
 
 module _ {S : Type 0} (of : StoreGhosts S) (digests : List (Option (List ℕ))) (request : ViewRequest)
     (old new : S) where

@@ -3,3 +3,4 @@ pub mod Tests
 pub mod Cuts
 pub mod Calls
 pub mod Faults
+pub mod ReportStatuses

@@ -1,12 +1,12 @@
 -- What every command promises of its answer and of the store.
-use Rattle.std.specs.Prelude.{List, ℕ, Result}
+use Rattle.std.specs.Prelude.{◌≡◌, List, ℕ, Result}
 use Rattle.hall_outside.specs.declared.stores.Store.{Ghosts as StoreGhosts}
 use Rattle.evidence.specs.NamedFiles.{OnRead}
 use Rattle.command_line.specs.declared.answer.Fault.{Fault}
 use Rattle.command_line.specs.Lines.{Answer}
 use Rattle.command_line.specs.Promise.{IsAnswered}
 use Rattle.auditorium_core.specs.Words.{Command, command_parts}
-use Rattle.auditorium_core.specs.Answer.{AnswersWords, TellsAbsence, WordsTellAbsence}
+use Rattle.auditorium_core.specs.Answer.{AnswersWords, TellsAbsence}
 
 module _ {S : Type 0} (of : StoreGhosts S) where
   -- what a command gives for its files as they were read

@@ -1,4 +1,7 @@
-use Rattle.auditorium_core.proofs.Imports.{◌∙◌, List, refl, map, subst, sym, string_bytes, Ok, IfSome, node_of_sealed}
+use Rattle.auditorium_core.proofs.Imports.{◌∙◌, ◌||◌, List, refl, ap, map, subst, sym, string_bytes, Ok, IfSome}
+use Rattle.auditorium_core.proofs.Imports.{Answer, list_any, node_of_sealed, outcome_by, is_broken, is_unsettled}
+use Rattle.auditorium_core.proofs.Imports.{graph_has_finding, log_has_finding}
+use Rattle.command_line.proofs.ReportStatuses.{not_absent}
 use Rattle.auditorium_core.proofs.Imports.{SealedEntry, HasNoCollision, entries_of, GivesGraph, text_of_sealed}
 use Rattle.auditorium_core.proofs.Imports.{ℕ, Rule, rule_tree, IsOfMachine, AreFewDistinct, IsTooWideAfter}
 use Rattle.std.proofs.Common.{Option}
@@ -57,6 +60,14 @@ returns-in-Ok-clause-ok c names =
     (told_there live c.args.roster.now.machines c.args.rules.items (map (λ e. e.now) c.args.entries.now)
     (string_bytes c.in-Ok.lines) made.machines made.rules given.ok)
     c.answer_of.ensures
+
+pub returns-in-Ok-clause-status : goal.returns-in-Ok-clause-status
+returns-in-Ok-clause-status c =
+    let verdicts = c.watch_entries.new.live.summary.verdicts in
+    λ e. not_absent
+    (outcome_by (list_any is_broken verdicts) (list_any is_unsettled verdicts)
+    (list_any log_has_finding c.args.logs.now || graph_has_finding c.args.graph.now))
+    (sym (ap (λ (a : Answer). a.status) c.answer_of.ensures) ∙ e)
 
 pub returns-in-Err-TooWide-clause-err : goal.returns-in-Err-TooWide-clause-err
 returns-in-Err-TooWide-clause-err c names =
