@@ -17,6 +17,7 @@ import pathlib
 import re
 
 PLACES = pathlib.Path(__file__).resolve().parent.parent / "crates/folder_tests/src/placing_tests.rt"
+DEFAULT_BITS = 0o644
 KINDS = (b"(6:r", b"(3:l", b"(6:o", b"proo", b"\0\0\0\1")
 
 
@@ -67,6 +68,7 @@ class Folder:
         return self.at.get(name) is not None
 
     def front(self, name):
+        self.call()  # that opens the file
         self.call()
         return self.bytes[self.at[name]][:4]
 
@@ -90,6 +92,7 @@ class Folder:
         self.call()
 
     def is_under(self, number, name):
+        self.call()  # that looks at the open file
         self.call()
         return self.at.get(name) == number
 
@@ -108,8 +111,14 @@ class Folder:
         finally:
             self.done = done
 
-    def settle(self):
-        self.call()
+    def settle(self, keeps_owner, bits):
+        """Files have one owner here, and a new one has the default bits."""
+        if keeps_owner:
+            self.call()  # that looks at the open file
+        if bits is not None:
+            self.call()  # so does that
+            if bits != DEFAULT_BITS:
+                self.call()
 
     def flush_file(self, number):
         self.call(lambda: self.flushed.__setitem__(number, True))
@@ -171,6 +180,13 @@ def created(folder, name):
     return number
 
 
+def bits_of(name, replaces):
+    """Those of the file that is replaced, and the owner's alone where it holds a secret."""
+    if name.endswith(".office"):
+        return 0o600
+    return DEFAULT_BITS if replaces else None
+
+
 def other(name):
     return ".auditorium-" + name
 
@@ -199,7 +215,7 @@ class Store:
         name, number, replaces, _ = file
         if replaces and self.folder.front(name) in KINDS:
             self.folder.front(other(name))
-        self.folder.settle()
+        self.folder.settle(replaces, bits_of(name, replaces))
         self.folder.flush_file(number)
 
     def place(self, file):

@@ -133,7 +133,7 @@ fn is_kept<F: Folder>(folder: &mut F, number: u64, name: &str) -> io::Result<boo
     ensures clears { Goes (IsClear name.now) (F.moments folder.old) (F.moments folder.new) }
     ensures spared { F.spares folder.old → F.spares folder.new }
 {
-    match folder.is_under(number, name) {
+    match is_under(folder, number, name) {
         Ok(true) => Ok(true),
         Ok(false) => {
             folder.release(number);
@@ -143,6 +143,21 @@ fn is_kept<F: Folder>(folder: &mut F, number: u64, name: &str) -> io::Result<boo
             give_back(folder, number, name);
             Err(reason)
         }
+    }
+}
+
+/// Whether the name itself stands for the open file.
+fn is_under<F: Folder>(folder: &mut F, number: u64, name: &str) -> io::Result<bool>
+    ensures there { IfOk result (λ is. is ≡ true → IsUnder name.now number (F.moments folder.old)) }
+    ensures same { F.moments folder.new ≡ F.moments folder.old }
+    ensures own { (i : ℕ) → F.is_made folder.old i → F.is_made folder.new i }
+    ensures locked { (i : ℕ) → F.is_locked folder.old i → F.is_locked folder.new i }
+    ensures spared { F.spares folder.old → F.spares folder.new }
+{
+    let open = folder.look_open(number)?;
+    match folder.look(name)? {
+        Some(found) => Ok(found.device == open.device && found.number == open.number),
+        None => Ok(false),
     }
 }
 
@@ -163,7 +178,7 @@ fn remove_made<F: Folder>(folder: &mut F, number: u64, name: &str)
     ensures clears { Goes (IsClear name.now) (F.moments folder.old) (F.moments folder.new) }
     ensures spared { F.spares folder.old → F.spares folder.new }
 {
-    if let Ok(true) = folder.is_under(number, name) {
+    if let Ok(true) = is_under(folder, number, name) {
         let _ = folder.remove(name);
     }
 }
@@ -221,7 +236,7 @@ fn remove_unlocked<F: Folder>(folder: &mut F, number: u64, name: &str) -> io::Re
 {
     require_lock(folder, number, name)?;
     // Its program can have put it in place before it was locked here.
-    if folder.is_under(number, name)? {
+    if is_under(folder, number, name)? {
         return folder.remove(name);
     }
     Ok(())

@@ -54,11 +54,15 @@ pub struct Found {
     pub bits: u32,
     pub owner: u32,
     pub group: u32,
+    /// When its bytes and its entry were last changed, in seconds and nanoseconds.
+    pub written: (i64, i64),
+    pub changed: (i64, i64),
     /// This program has read it, under whatever name.
     pub was_read: bool,
 }
 
-/// The calls of a system for the files of a folder. Nobody else changes the files that these calls
+/// The calls of a system for the files of a folder: each is one of the system's or none, but
+/// `are_all_as_read`, which asks for each file. Nobody else changes the files that these calls
 /// name, but that another program may remove one that this program hasn't locked yet. Different
 /// names are different places.
 ///
@@ -89,12 +93,23 @@ pub trait Folder {
     /// The file of this name is open to be read from this byte on.
     ghost is_open: { Self → List ℕ → ℕ → Type 0 };
 
+    /// What had this name when it was read first is noted.
+    ghost is_noted: { Self → List ℕ → Type 0 };
+
+    /// The file of the last number is open, and is the one that has the first number on the device.
+    ghost is_file: { Self → ℕ → ℕ → ℕ → Type 0 };
+
     /// What stands under the name itself: no link is followed (`lstat`).
     fn look(&mut self, name: &str) -> io::Result<Option<Found>>
         ensures found { IfOk result (λ found. Now (moments self.old) (IsLookedUp name.now found)) }
+        ensures which { IfOk result (λ found. IfSome found (λ file.
+            (i : ℕ) → is_file self.old file.number file.device i
+            → Now (moments self.old) (λ w. w.at name.now ≡ Some i))) }
         ensures same { moments self.new ≡ moments self.old }
         ensures open { (file : List ℕ) (at : ℕ) → is_open self.old file at
             → is_open self.new file at }
+        ensures own { (i : ℕ) → is_made self.old i → is_made self.new i }
+        ensures locked { (i : ℕ) → is_locked self.old i → is_locked self.new i }
         ensures spared { spares self.old → spares self.new };
 
     /// Whether the file that is open to be read is that of the name, read up to this byte. No call
@@ -103,12 +118,31 @@ pub trait Folder {
         ensures open { result ≡ true → is_open self.new name.now at }
         ensures same { moments self.new ≡ moments self.old };
 
-    /// Opens the file of this name to be read from the byte `at` on, in place of the one that is
-    /// open, and says what it is; or finds no such file (`open`, `fstat`, `lseek`).
-    fn open_at(&mut self, name: &str, at: u64) -> io::Result<Option<Found>>
-        ensures open { IfOk result (λ found. IfSome found (λ file. is_open self.new name.now at)) }
-        ensures none { IfOk result (λ found. found ≡ None
+    /// Opens the file of this name to be read, in place of the one that is open; or finds no such
+    /// file (`open`).
+    fn open(&mut self, name: &str) -> io::Result<bool>
+        ensures open { IfOk result (λ is. is ≡ true → is_open self.new name.now 0) }
+        ensures none { IfOk result (λ is. is ≡ false
             → Now (moments self.old) (λ w. w.at name.now ≡ None)) }
+        ensures same { moments self.new ≡ moments self.old };
+
+    /// What the file is that is open to be read (`fstat`).
+    fn look_read(&mut self, name: &str) -> io::Result<Found>
+        ensures open { (at : ℕ) → is_open self.old name.now at → is_open self.new name.now at }
+        ensures same { moments self.new ≡ moments self.old };
+
+    /// Notes what has the name as it is read, unless the name is noted. No call of the system is
+    /// made.
+    fn note_read(&mut self, name: &str, found: &Option<Found>) -> io::Result<()>
+        ensures noted { OnOk result (is_noted self.new name.now) }
+        ensures open { (at : ℕ) → is_open self.old name.now at → is_open self.new name.now at }
+        ensures same { moments self.new ≡ moments self.old };
+
+    /// Has the file that was opened to be read from the byte `at` on (`lseek`).
+    fn seek(&mut self, name: &str, at: u64) -> io::Result<()>
+        requires { is_open self.old name.now 0 }
+        ensures open { OnOk result (is_open self.new name.now at) }
+        ensures noted { is_noted self.old name.now → is_noted self.new name.now }
         ensures same { moments self.new ≡ moments self.old };
 
     /// Reads on into the front of `into` (`read`).
@@ -119,14 +153,19 @@ pub trait Folder {
             GivesPart (moments self.old) name.now at into.old into.new (Some n)) }
         ensures same { moments self.new ≡ moments self.old };
 
-    /// Whether each regular file that was read is what its name stands for (`stat`).
+    /// Whether each regular file that was noted is what its name stands for (`stat`, of each).
     fn are_all_as_read(&mut self) -> io::Result<bool>
         ensures seen { IfOk result (λ are. are ≡ true → all_unchanged self.new) }
         ensures open { (name : List ℕ) (at : ℕ) → is_open self.old name at
             → is_open self.new name at }
+        ensures noted { (name : List ℕ) → is_noted self.old name → is_noted self.new name }
         ensures same { moments self.new ≡ moments self.old };
 
-    /// Reads the first bytes of a file, which doesn't count as read (`open`, `read`).
+    /// Opens a file of which the front is to be read, which doesn't count as read (`open`).
+    fn open_front(&mut self, name: &str) -> io::Result<()>
+        ensures same { moments self.new ≡ moments self.old };
+
+    /// Reads the first bytes of that file, and closes it (`read`, `close`).
     fn read_front(&mut self, name: &str, into: &mut [u8]) -> io::Result<usize>
         requires { 0 < length into.old }
         ensures count { IfOk result (λ n. n ≤ length into.new) }
@@ -153,10 +192,9 @@ pub trait Folder {
         ensures own { (i : ℕ) → is_made self.old i → is_made self.new i }
         ensures spared { spares self.old → spares self.new };
 
-    /// Whether the name itself stands for the open file (`fstat`, `lstat`).
-    fn is_under(&mut self, number: u64, name: &str) -> io::Result<bool>
-        ensures there { IfOk result (λ is. is ≡ true
-            → Now (moments self.old) (λ w. w.at name.now ≡ Some number)) }
+    /// What the open file of this number is (`fstat`).
+    fn look_open(&mut self, number: u64) -> io::Result<Found>
+        ensures which { IfOk result (λ found. is_file self.new found.number found.device number) }
         ensures same { moments self.new ≡ moments self.old }
         ensures own { (i : ℕ) → is_made self.old i → is_made self.new i }
         ensures locked { (i : ℕ) → is_locked self.old i → is_locked self.new i }
@@ -188,9 +226,12 @@ pub trait Folder {
         ensures ok { OnOk result (moments self.new ≡ does (emptied number) (moments self.old)) }
         ensures err { OnErr result (moments self.new ≡ moments self.old) };
 
-    /// Gives a file that was created the owner, the group and the permission bits that it is to
-    /// have, where it is to have others (`fchown`, `fchmod`).
-    fn settle(&mut self, number: u64, old: &Option<Found>, bits: Option<u32>) -> io::Result<()>
+    /// Gives a file that was created this owner and this group (`fchown`).
+    fn give_owner(&mut self, number: u64, owner: u32, group: u32) -> io::Result<()>
+        ensures same { moments self.new ≡ moments self.old };
+
+    /// Gives a file that was created these permission bits (`fchmod`).
+    fn set_bits(&mut self, number: u64, bits: u32) -> io::Result<()>
         ensures same { moments self.new ≡ moments self.old };
 
     /// Flushes the bytes of a file that was created to the disk (`fsync`).

@@ -1,6 +1,6 @@
 // How files begin, so that none is replaced by one of another kind.
 
-ghost use Rattle.std.specs.Prelude.{◌≡◌};
+ghost use Rattle.std.specs.Prelude.{◌≡◌, ◌<◌, ◌≤◌, length, IfOk};
 
 use crate::begun::Begun;
 use crate::folder::Folder;
@@ -22,12 +22,12 @@ pub(crate) fn require_same_kind<F: Folder>(folder: &mut F, file: &Begun) -> io::
         return Ok(());
     }
     let mut old = [0; FRONT];
-    let count = folder.read_front(file.name.as_str(), &mut old)?;
+    let count = front(folder, file.name.as_str(), &mut old)?;
     if count < FRONT || !KINDS.contains(&old) {
         return Ok(());
     }
     let mut new = [0; FRONT];
-    let count = folder.read_front(file.other_name.as_str(), &mut new)?;
+    let count = front(folder, file.other_name.as_str(), &mut new)?;
     if count >= FRONT && new == old {
         return Ok(());
     }
@@ -35,4 +35,14 @@ pub(crate) fn require_same_kind<F: Folder>(folder: &mut F, file: &Begun) -> io::
         ErrorKind::PermissionDenied,
         "it is a file of another kind: remove it, or name another file",
     ))
+}
+
+/// Reads the first bytes of the file, and answers how many there are.
+fn front<F: Folder>(folder: &mut F, name: &str, into: &mut [u8]) -> io::Result<usize>
+    requires { 0 < length into.old }
+    ensures count { IfOk result (λ n. n ≤ length into.new) }
+    ensures same { F.moments folder.new ≡ F.moments folder.old }
+{
+    folder.open_front(name)?;
+    folder.read_front(name, into)
 }

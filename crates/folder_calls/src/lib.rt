@@ -1,7 +1,7 @@
 //! The calls that a system gives for the files of a folder, what they mean, and how several files
 //! are put in place with them.
 //!
-//! [`Folder`] is some twenty calls, each with what it does to the folder and with what a crash may
+//! [`Folder`] is some thirty calls, each with what it does to the folder and with what a crash may
 //! leave of it. Over them [`create_locked`] makes a new file that is locked, and [`finish`] puts
 //! files in place: each name has its old or its new bytes after a crash at any moment, in the
 //! files' order, and a set of files is old, or new, or has no mark.
@@ -16,6 +16,7 @@ mod kinds;
 mod names;
 mod placing;
 mod sets;
+mod settling;
 
 pub use begun::Begun;
 pub use creating::{OWNER_WRITES, create_locked, in_use};

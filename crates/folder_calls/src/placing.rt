@@ -46,6 +46,7 @@ use crate::begun::Begun;
 use crate::flushing::flush_name;
 use crate::folder::Folder;
 use crate::kinds::require_same_kind;
+use crate::settling::settle;
 use std::io;
 
 /// What a call put in place stays there while a later one puts another file in place: so an office's
@@ -163,7 +164,7 @@ pub(crate) fn flush<F: Folder>(folder: &mut F, file: &Begun) -> io::Result<()>
         (F.moments folder.old) (F.moments folder.new) }
 {
     require_same_kind(folder, file)?;
-    folder.settle(file.number, &file.old, file.bits)?;
+    settle(folder, file)?;
     folder.flush_file(file.number)
 }
 

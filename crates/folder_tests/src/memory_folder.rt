@@ -18,6 +18,7 @@ ghost use Rattle.std.specs.Prelude.{
 ghost use Rattle.folder_calls.specs.World.{
   Makes,
   GivesPart,
+  IsLookedUp,
   IsPieceFrom,
   Does,
   does,
@@ -31,7 +32,7 @@ use crate::disk::{
     Call, Disk, Ending, Fault, appending, creating, failed, flushing, fresh_number, has, next,
     perform, perform_as, removing, renaming, succeeds,
 };
-use crate::reading::{bytes_of, entry, found_of, is_entry};
+use crate::reading::{bytes_of, entry, found_of};
 use folder_calls::{Folder, Found};
 use std::alloc::Global;
 use std::io::{self, ErrorKind};
@@ -116,6 +117,28 @@ fn read_from(bytes: &[u8], at: u64, into: &mut [u8]) -> usize
     let count = rest.len().min(into.len());
     into[..count].copy_from_slice(&rest[..count]);
     count
+}
+
+/// What the system says of the file of this number, and the number.
+fn found_as(calls: &[Call], number: u64) -> Found
+    ensures regular { result.is_regular ≡ ((now_of calls.now).node number).regular }
+    ensures number { result.number ≡ number }
+{
+    Found {
+        number,
+        ..found_of(calls, number)
+    }
+}
+
+/// What stands under the name.
+fn look(calls: &[Call], name: &str) -> Option<Found>
+    ensures found { IsLookedUp name.now result (now_of calls.now) }
+    ensures number { IfSome result (λ found. (now_of calls.now).at name.now ≡ Some found.number) }
+{
+    match entry(calls, name) {
+        Some(number) => Some(found_as(calls, number)),
+        None => None,
+    }
 }
 
 /// Makes an empty file where the name is free.
@@ -227,22 +250,41 @@ impl<'a> Folder for MemoryFolder<'a> {
 
     ghost is_open = { λ _ _ _. ⊤ };
 
+    ghost is_noted = { λ _ _. ⊤ };
+
+    ghost is_file = { λ _ number _ i. number ≡ i };
+
     fn look(&mut self, name: &str) -> io::Result<Option<Found>> {
         if !succeeds(self.disk, self.fault) {
             return Err(failed());
         }
-        match entry(self.disk.calls.as_slice(), name) {
-            Some(number) => Ok(Some(found_of(self.disk.calls.as_slice(), number))),
-            None => Ok(None),
-        }
+        Ok(look(self.disk.calls.as_slice(), name))
     }
 
     fn is_open_at(&mut self, _name: &str, _at: u64) -> bool {
         false
     }
 
-    fn open_at(&mut self, name: &str, _at: u64) -> io::Result<Option<Found>> {
-        self.look(name)
+    fn open(&mut self, name: &str) -> io::Result<bool> {
+        Ok(self.look(name)?.is_some())
+    }
+
+    fn look_read(&mut self, name: &str) -> io::Result<Found> {
+        match self.look(name)? {
+            Some(found) => Ok(found),
+            None => Err(io::Error::from(ErrorKind::NotFound)),
+        }
+    }
+
+    fn note_read(&mut self, _name: &str, _found: &Option<Found>) -> io::Result<()> {
+        Ok(())
+    }
+
+    fn seek(&mut self, _name: &str, _at: u64) -> io::Result<()> {
+        if !succeeds(self.disk, self.fault) {
+            return Err(failed());
+        }
+        Ok(())
     }
 
     fn read_on(&mut self, name: &str, at: u64, into: &mut [u8]) -> io::Result<usize> {
@@ -257,6 +299,13 @@ impl<'a> Folder for MemoryFolder<'a> {
             return Err(failed());
         }
         Ok(!self.disk.has_changed)
+    }
+
+    fn open_front(&mut self, _name: &str) -> io::Result<()> {
+        if !succeeds(self.disk, self.fault) {
+            return Err(failed());
+        }
+        Ok(())
     }
 
     fn read_front(&mut self, name: &str, into: &mut [u8]) -> io::Result<usize> {
@@ -284,11 +333,11 @@ impl<'a> Folder for MemoryFolder<'a> {
         lock(self.alloc, self.disk, &mut self.locked, number, name)
     }
 
-    fn is_under(&mut self, number: u64, name: &str) -> io::Result<bool> {
+    fn look_open(&mut self, number: u64) -> io::Result<Found> {
         if !succeeds(self.disk, self.fault) {
             return Err(failed());
         }
-        Ok(is_entry(self.disk.calls.as_slice(), name, number))
+        Ok(found_as(self.disk.calls.as_slice(), number))
     }
 
     fn is_as_read(&mut self, _name: &str) -> io::Result<bool> {
@@ -314,7 +363,14 @@ impl<'a> Folder for MemoryFolder<'a> {
         perform(self.disk, Call::Empty(number))
     }
 
-    fn settle(&mut self, _number: u64, _old: &Option<Found>, _bits: Option<u32>) -> io::Result<()> {
+    fn give_owner(&mut self, _number: u64, _owner: u32, _group: u32) -> io::Result<()> {
+        if !succeeds(self.disk, self.fault) {
+            return Err(failed());
+        }
+        Ok(())
+    }
+
+    fn set_bits(&mut self, _number: u64, _bits: u32) -> io::Result<()> {
         if !succeeds(self.disk, self.fault) {
             return Err(failed());
         }

@@ -298,15 +298,15 @@ fn counts_of(alloc: Global, table: &str, is_set: bool) -> Result<[u64; 6], Fail>
 const SETS: &[Case] = &[
     (
         "all.roster (6:r1 (6:r22\na.log (3:l1 (3:l22\nb.log (3:l3 (3:l44\nfinish",
-        [44, 7_603, 89, 29, 0, 0],
+        [56, 10_711, 108, 29, 0, 0],
     ),
     (
         "all.roster - (6:r22\na.log - (3:l22\nb.log (3:l3 (3:l44\nfinish",
-        [39, 4_083, 76, 142, 0, 0],
+        [43, 4_311, 87, 158, 0, 0],
     ),
     (
         "n.office - (6:o1\nn.key - k22\nfinish",
-        [26, 735, 45, 90, 0, 0],
+        [28, 707, 51, 98, 0, 0],
     ),
 ];
 
@@ -321,11 +321,11 @@ fn a_set_is_old_or_new_or_has_no_mark(rt: HostRuntime) -> Result<(), Fail> {
 const SIGNED: &[Case] = &[
     (
         "e.office (6:o1 (6:o22\nfinish\ne.sig s1 s22\nfinish",
-        [25, 265, 29, 0, 0, 0],
+        [33, 373, 39, 0, 0, 0],
     ),
     (
         "e.office (6:o1 (6:o22\nfinish\ne.sig - s22\nfinish",
-        [24, 241, 28, 0, 0, 0],
+        [29, 277, 35, 0, 0, 0],
     ),
 ];
 
@@ -338,8 +338,8 @@ fn a_signature_comes_after_the_number_that_it_uses(rt: HostRuntime) -> Result<()
 }
 
 const SINGLE: &[Case] = &[
-    ("p.svg p1 p22\nfinish", [12, 85, 14, 0, 0, 0]),
-    ("p.svg - p22\nfinish", [11, 73, 13, 34, 0, 0]),
+    ("p.svg p1 p22\nfinish", [15, 113, 18, 0, 0, 0]),
+    ("p.svg - p22\nfinish", [11, 65, 14, 34, 0, 0]),
 ];
 
 #[test]

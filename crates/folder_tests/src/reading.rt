@@ -17,6 +17,8 @@ pub const PLAIN: Found = Found {
     bits: 0o644,
     owner: 0,
     group: 0,
+    written: (0, 0),
+    changed: (0, 0),
     was_read: false,
 };
 
@@ -59,16 +61,6 @@ pub(crate) fn entry(calls: &[Call], name: &str) -> Option<u64>
         Call::Empty(_) => entry(earlier, name),
         Call::FlushFile(_) => entry(earlier, name),
         Call::FlushName(_) => entry(earlier, name),
-    }
-}
-
-/// Whether the name stands for the file of this number.
-pub(crate) fn is_entry(calls: &[Call], name: &str, number: u64) -> bool
-    ensures { result ≡ true → (now_of calls.now).at name.now ≡ Some number }
-{
-    match entry(calls, name) {
-        Some(found) => found == number,
-        None => false,
     }
 }
 

@@ -7,10 +7,18 @@ use std::fmt::Write;
 const START: u64 = 0xcbf2_9ce4_8422_2325;
 
 /// The front of the path up to its last slash; none where the file is in the current folder.
-pub(crate) fn folder_of(name: &str) -> &str {
+fn folder_of(name: &str) -> &str {
     match name.rfind('/') {
         Some(at) => &name[..at + 1],
         None => "",
+    }
+}
+
+/// The same, by a path that can be opened.
+pub(crate) fn path_of_folder(name: &str) -> &str {
+    match folder_of(name) {
+        "" => ".",
+        path => path,
     }
 }
 

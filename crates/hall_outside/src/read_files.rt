@@ -2,10 +2,11 @@
 ghost use Rattle.std.specs.Prelude.{◌≡◌, true, ℕ, List, IfOk};
 ghost use Rattle.hall_outside.specs.LookingBack.{IsAsRead, AreUnchanged, AreAllAsRead};
 
-use crate::calls::again;
+use crate::calls::{found_of, stat_for};
+use folder_calls::Found;
 use std::alloc::{AllocError, Global};
-use std::fs::{self, Metadata};
-use std::io::{self, ErrorKind};
+use std::fs::Metadata;
+use std::io;
 use std::os::unix::fs::MetadataExt;
 use std::rt::Files;
 
@@ -29,13 +30,13 @@ pub(crate) struct Identity {
 }
 
 impl Identity {
-    pub fn of(file: &Metadata) -> Identity {
+    fn of(file: &Found) -> Identity {
         Identity {
-            device: file.dev(),
-            number: file.ino(),
-            is_regular: file.is_file(),
-            written: (file.mtime(), file.mtime_nsec()),
-            changed: (file.ctime(), file.ctime_nsec()),
+            device: file.device,
+            number: file.number,
+            is_regular: file.is_regular,
+            written: file.written,
+            changed: file.changed,
         }
     }
 }
@@ -116,7 +117,7 @@ impl ReadFiles {
     }
 
     /// Keeps what had the name, unless it was read before.
-    pub fn note(&mut self, name: &str, found: Option<Identity>) -> Result<(), AllocError> {
+    pub fn note(&mut self, name: &str, found: &Option<Found>) -> Result<(), AllocError> {
         for file in self.places.iter().take(self.count) {
             if file.name.as_str() == name {
                 return Ok(());
@@ -128,7 +129,7 @@ impl ReadFiles {
         if let Some(place) = self.places.get_mut(self.count) {
             place.name.clear();
             place.name.push_str(name)?;
-            place.found = found;
+            place.found = identity_of(found);
             self.count = self.count.saturating_add(1);
         }
         Ok(())
@@ -187,11 +188,17 @@ fn is_as_read<L: LookBack>(names: &L, file: &ReadFile) -> io::Result<bool>
     }
 }
 
+fn identity_of(found: &Option<Found>) -> Option<Identity> {
+    match found {
+        Some(found) => Some(Identity::of(found)),
+        None => None,
+    }
+}
+
 /// The file of this name, if there is one.
 fn identity_at<R: Files>(rt: &R, name: &str) -> io::Result<Option<Identity>> {
-    match again(|| fs::metadata(rt, name)) {
-        Ok(found) => Ok(Some(Identity::of(&found))),
-        Err(error) if error.kind() == ErrorKind::NotFound => Ok(None),
-        Err(error) => Err(error),
+    match stat_for(rt, name)? {
+        Some(found) => Ok(Some(Identity::of(&found_of(&found, true)))),
+        None => Ok(None),
     }
 }

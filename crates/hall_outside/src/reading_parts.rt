@@ -42,26 +42,54 @@ fn is_opened<F: Folder>(folder: &mut F, name: &str, at: u64) -> io::Result<bool>
     Ok(opened(folder, name, at)?.is_some())
 }
 
-/// Opens the file, or finds none. It fails where a file that was read before has changed.
+/// Opens the file, or finds none, and notes which it is. It fails where a file that was read before
+/// has changed.
 fn opened<F: Folder>(folder: &mut F, name: &str, at: u64) -> io::Result<Option<Found>>
     ensures open { IfOk result (λ found. IfSome found (λ file. F.is_open folder.new name.now at)) }
     ensures seen { IfOk result (λ found. IfSome found (λ file. F.all_unchanged folder.new)) }
+    ensures noted { IfOk result (λ found. F.is_noted folder.new name.now) }
     ensures none { IfOk result (λ found. found ≡ None
         → Now (F.moments folder.old) (λ w. w.at name.now ≡ None)) }
     ensures same { F.moments folder.new ≡ F.moments folder.old }
 {
-    match folder.open_at(name, at)? {
-        Some(found) => {
-            require_all_as_read(folder)?;
-            Ok(Some(found))
-        }
-        None => Ok(None),
+    if folder.open(name)? {
+        let found = note_opened(folder, name)?;
+        seek_to(folder, name, at)?;
+        require_all_as_read(folder)?;
+        return Ok(Some(found));
     }
+    folder.note_read(name, &None)?;
+    Ok(None)
+}
+
+/// Notes which file was opened.
+fn note_opened<F: Folder>(folder: &mut F, name: &str) -> io::Result<Found>
+    ensures noted { IfOk result (λ found. F.is_noted folder.new name.now) }
+    ensures open { (at : ℕ) → F.is_open folder.old name.now at → F.is_open folder.new name.now at }
+    ensures same { F.moments folder.new ≡ F.moments folder.old }
+{
+    let found = folder.look_read(name)?;
+    folder.note_read(name, &Some(found))?;
+    Ok(found)
+}
+
+/// Has the file that was opened read from the byte `at` on.
+fn seek_to<F: Folder>(folder: &mut F, name: &str, at: u64) -> io::Result<()>
+    requires { F.is_open folder.old name.now 0 }
+    ensures open { OnOk result (F.is_open folder.new name.now at) }
+    ensures noted { F.is_noted folder.old name.now → F.is_noted folder.new name.now }
+    ensures same { F.moments folder.new ≡ F.moments folder.old }
+{
+    if at == 0 {
+        return Ok(());
+    }
+    folder.seek(name, at)
 }
 
 /// Fails where a regular file that was read isn't what its name stands for now.
 fn require_all_as_read<F: Folder>(folder: &mut F) -> io::Result<()>
     ensures seen { OnOk result (F.all_unchanged folder.new) }
+    ensures noted { (name : List ℕ) → F.is_noted folder.old name → F.is_noted folder.new name }
     ensures open { (name : List ℕ) (at : ℕ) → F.is_open folder.old name at
         → F.is_open folder.new name at }
     ensures same { F.moments folder.new ≡ F.moments folder.old }

@@ -3,15 +3,9 @@ ghost use Rattle.std.specs.Prelude.{◌≡◌, OnOk};
 ghost use Rattle.folder_calls.specs.World.{Now};
 ghost use Rattle.hall_outside.specs.Beginning.{MayBegin};
 
-use crate::calls::again;
 use crate::refusals::{Refusal, Standing, reading_refusal, replacing_refusal};
 use folder_calls::{Folder, Found, OWNER_WRITES};
-use std::fs::{File, Metadata, Permissions};
 use std::io::{self, ErrorKind};
-use std::os::unix::fs::{MetadataExt, PermissionsExt, fchown};
-
-/// The permission bits of a file, without those that change who runs it.
-const BITS: u32 = 0o777;
 
 /// The bits of a file that holds a secret, of which a replaced one keeps its owner's.
 const SECRET_BITS: u32 = 0o600;
@@ -32,22 +26,6 @@ pub(crate) fn is_secret(name: &str) -> bool {
 /// was signed with the old one.
 pub(crate) fn is_mark(name: &str, old: &Option<Found>) -> bool {
     name.ends_with(".roster") || is_secret(name) && old.is_none()
-}
-
-/// What the system says of a file.
-pub(crate) fn found_of(found: &Metadata, was_read: bool) -> Found {
-    Found {
-        is_regular: found.is_file(),
-        is_folder: found.is_dir(),
-        is_link: found.is_symlink(),
-        device: found.dev(),
-        number: found.ino(),
-        links: found.nlink(),
-        bits: found.mode() & BITS,
-        owner: found.uid(),
-        group: found.gid(),
-        was_read,
-    }
 }
 
 /// The file that a new one of this name is to replace, if there is one. It fails where that may not
@@ -105,11 +83,6 @@ pub(crate) fn require_readable(name: &str, found: &Found) -> io::Result<()> {
     }
 }
 
-/// Whether the two are of one file.
-pub(crate) fn is_one(left: &Metadata, right: &Metadata) -> bool {
-    left.dev() == right.dev() && left.ino() == right.ino()
-}
-
 /// The permission bits that the file is to have: those of the file that it replaces, the owner's
 /// alone where it holds a secret, or `None` for the default.
 pub(crate) fn kept_bits(name: &str, old: &Option<Found>) -> Option<u32> {
@@ -121,31 +94,4 @@ pub(crate) fn kept_bits(name: &str, old: &Option<Found>) -> Option<u32> {
         return Some(bits.unwrap_or(SECRET_BITS) & OWNER_BITS);
     }
     bits
-}
-
-/// Gives the new file the owner and the group of the one that it replaces, where the system lets
-/// this user.
-pub(crate) fn keep_owner(file: &File, old: &Found) -> io::Result<()> {
-    let new = again(|| file.metadata())?;
-    if new.uid() == old.owner && new.gid() == old.group {
-        return Ok(());
-    }
-    match again(|| fchown(file, Some(old.owner), Some(old.group))) {
-        Err(error) if is_not_allowed(error.kind()) => Ok(()),
-        result => result,
-    }
-}
-
-/// Whether the user may not give files to that owner, or nobody can: the owner isn't one of this
-/// namespace.
-fn is_not_allowed(kind: ErrorKind) -> bool {
-    matches!(kind, ErrorKind::PermissionDenied | ErrorKind::InvalidInput)
-}
-
-/// Sets the bits, of which the user's mask took some from the new file.
-pub(crate) fn set_bits(file: &File, bits: u32) -> io::Result<()> {
-    if again(|| file.metadata())?.mode() & BITS == bits {
-        return Ok(());
-    }
-    file.set_permissions(Permissions::from_mode(bits))
 }

@@ -1,13 +1,12 @@
-// Files of the system, as they are opened and read.
-ghost use Rattle.std.specs.Prelude.{◌≤◌, [], length, IfOk, Some};
+// Files of the system that are open.
+ghost use Rattle.std.specs.Prelude.{[], IfOk, Some};
 ghost use Rattle.folder_calls.specs.World.{GivesPart};
 
-use crate::calls::again;
-use crate::read_files::{Identity, ROOM, ReadFiles};
+use crate::calls::{again, read_through_signals};
+use crate::read_files::ROOM;
 use std::alloc::{AllocError, Global};
-use std::fs::{self, File, Metadata};
+use std::fs::{File, Metadata};
 use std::io::{self, ErrorKind, Read, Seek, SeekFrom};
-use std::rt::Files;
 
 /// How many bytes a read takes at most.
 const PART: usize = 65_536;
@@ -47,52 +46,62 @@ impl LastRead {
         }
     }
 
-    fn keep_name(&mut self, name: &str) -> Result<(), AllocError> {
+    /// Closes the file that is open, and keeps the name of the next.
+    pub fn begin(&mut self, name: &str) -> Result<(), AllocError> {
+        self.open = None;
         self.name.clear();
         self.name.push_str(name)
     }
+
+    /// Keeps the file with what is read next, if there is one.
+    pub fn keep(&mut self, file: Option<File>) -> bool {
+        let Some(file) = file else {
+            return false;
+        };
+        self.open = Some(Reading {
+            file,
+            at: 0,
+            is_begun: false,
+        });
+        true
+    }
+
+    /// What the open file is.
+    pub fn metadata(&self) -> io::Result<Metadata> {
+        match &self.open {
+            Some(reading) => again(|| reading.file.metadata()),
+            None => Err(not_open()),
+        }
+    }
+
+    /// Has the open file read from this byte on.
+    pub fn seek(&mut self, at: u64) -> io::Result<()> {
+        let mut reading = taken(&mut self.open)?;
+        reading.file.seek(SeekFrom::Start(at))?;
+        reading.at = at;
+        self.open = Some(reading);
+        Ok(())
+    }
 }
 
-/// Opens the file, and keeps it with what is read next, or finds that there is none. What has the
-/// name is kept with the files that were read.
-pub(crate) fn open_at<R: Files<File = File>>(
-    rt: &R,
-    last: &mut LastRead,
-    read: &mut ReadFiles,
-    name: &str,
-    at: u64,
-) -> io::Result<Option<Metadata>> {
-    last.open = None;
-    last.keep_name(name)?;
-    let mut file = match fs::open(rt, name) {
-        Ok(file) => file,
-        Err(error) if error.kind() == ErrorKind::NotFound => {
-            read.note(name, None)?;
-            return Ok(None);
-        }
-        Err(error) => return Err(error),
-    };
-    let found = again(|| file.metadata())?;
-    read.note(name, Some(Identity::of(&found)))?;
-    if at > 0 {
-        file.seek(SeekFrom::Start(at))?;
+fn not_open() -> io::Error {
+    io::Error::from(ErrorKind::NotFound)
+}
+
+/// What is there, which is not any more.
+pub(crate) fn taken<T: Drop>(place: &mut Option<T>) -> io::Result<T> {
+    match place.take() {
+        Some(thing) => Ok(thing),
+        None => Err(not_open()),
     }
-    last.open = Some(Reading {
-        file,
-        at,
-        is_begun: false,
-    });
-    Ok(Some(found))
 }
 
 /// Reads the next bytes of the open file.
 pub(crate) fn read_next(last: &mut LastRead, into: &mut [u8]) -> io::Result<usize>
     ensures { IfOk result (λ n. GivesPart [] [] 0 into.old into.new (Some n)) }
 {
-    match last.open.take() {
-        Some(reading) => read_on(&mut last.open, reading, into),
-        None => Err(io::Error::from(ErrorKind::NotFound)),
-    }
+    let reading = taken(&mut last.open)?;
+    read_on(&mut last.open, reading, into)
 }
 
 /// Reads the next bytes, and keeps the file open.
@@ -125,15 +134,68 @@ fn read_some<F: Read>(file: &mut F, into: &mut [u8]) -> io::Result<usize>
     Ok(count)
 }
 
-/// As `read`, again wherever a signal came first.
-pub(crate) fn read_through_signals<F: Read>(file: &mut F, into: &mut [u8]) -> io::Result<usize>
-    ensures { IfOk result (λ n. n ≤ length into.new) }
-{
-    for _ in 0..u64::MAX {
-        match file.read(into) {
-            Err(error) if error.kind() == ErrorKind::Interrupted => {}
-            result => return result,
-        }
+/// An open file, and its number.
+#[derive(Drop)]
+struct Opened {
+    number: u64,
+    file: File,
+}
+
+/// The files that were created or opened to be locked, by their numbers.
+#[derive(Drop)]
+pub(crate) struct OpenFiles {
+    all: Vec<Opened>,
+    next: u64,
+}
+
+impl OpenFiles {
+    /// No files, with room for so many.
+    pub fn make(alloc: Global, room: usize) -> Result<OpenFiles, AllocError> {
+        Ok(OpenFiles {
+            all: Vec::with_capacity(alloc, room)?,
+            next: 0,
+        })
     }
-    Err(io::Error::from(ErrorKind::Interrupted))
+
+    /// Takes the memory for one more, before it is there.
+    pub fn reserve(&mut self) -> Result<(), AllocError> {
+        self.all.reserve(1)
+    }
+
+    /// Gives the file a number, if there is one.
+    pub fn keep(&mut self, file: Option<File>) -> io::Result<Option<u64>> {
+        let Some(file) = file else {
+            return Ok(None);
+        };
+        let number = self.next;
+        self.next = number.saturating_add(1);
+        self.all.push(Opened { number, file })?;
+        Ok(Some(number))
+    }
+
+    pub fn get(&self, number: u64) -> io::Result<&File> {
+        for opened in self.all.iter() {
+            if opened.number == number {
+                return Ok(&opened.file);
+            }
+        }
+        Err(not_open())
+    }
+
+    pub fn get_mut(&mut self, number: u64) -> io::Result<&mut File> {
+        for opened in self.all.iter_mut() {
+            if opened.number == number {
+                return Ok(&mut opened.file);
+            }
+        }
+        Err(not_open())
+    }
+
+    pub fn close(&mut self, number: u64) {
+        self.all.retain(|opened| opened.number != number);
+    }
+
+    pub fn close_all(&mut self) {
+        self.all.clear();
+    }
 }

@@ -1,28 +1,21 @@
-// The system's files as a folder: each call is one of the system's, or two.
-ghost use Rattle.std.specs.Prelude.{◌<◌, [], length, IfOk};
-ghost use Rattle.folder_calls.specs.Writes.{IsCount};
+// The system's files as a folder: each call is one of the system's, and what its answer means.
 
-use crate::calls::{again, look_for, remove, rename};
-use crate::new_files::folder_of;
+use crate::calls::{
+    again, create_new, found_of, look_for, none_where, open_to_append, read_through_signals,
+    remove, rename, write_some,
+};
+use crate::new_files::path_of_folder;
 use crate::read_files::{ReadFiles, SystemNames};
-use crate::replacing::{found_of, is_one, keep_owner, set_bits};
-use crate::system_files::{LastRead, open_at, read_next, read_through_signals};
+use crate::system_files::{LastRead, OpenFiles, read_next, taken};
 use folder_calls::{Folder, Found};
 use std::alloc::AllocError;
-use std::fs::{self, File, TryLockError};
-use std::io::{self, ErrorKind, Write};
-use std::os::unix::fs::OpenOptionsExt;
+use std::fs::{self, File, Metadata, Permissions, TryLockError};
+use std::io::{self, ErrorKind};
+use std::os::unix::fs::{PermissionsExt, fchown};
 use std::rt::Files;
 
 /// How many files there is room for from the beginning: a roster and 16 logs.
 pub(crate) const FILES: usize = 17;
-
-/// An open file, and its number.
-#[derive(Drop)]
-struct Opened {
-    number: u64,
-    file: File,
-}
 
 /// The files of the system, in the folder where the program runs. It exposes nothing.
 #[derive(Drop)]
@@ -30,8 +23,9 @@ pub(crate) struct SystemFolder<'a, R> {
     rt: &'a R,
     last_read: LastRead,
     read: ReadFiles,
-    opened: Vec<Opened>,
-    next: u64,
+    opened: OpenFiles,
+    /// The file of which the front is to be read.
+    front: Option<File>,
     /// The folder that is to be flushed.
     folder: Option<File>,
 }
@@ -43,20 +37,17 @@ impl<'a, R: AllocGlobal> SystemFolder<'a, R> {
             rt,
             last_read: LastRead::make(rt.alloc())?,
             read: ReadFiles::make(rt.alloc())?,
-            opened: Vec::with_capacity(rt.alloc(), FILES)?,
-            next: 0,
+            opened: OpenFiles::make(rt.alloc(), FILES)?,
+            front: None,
             folder: None,
         })
     }
 }
 
 impl<'a, R> SystemFolder<'a, R> {
-    /// Gives the file a number.
-    fn keep(&mut self, file: File) -> Result<u64, AllocError> {
-        let number = self.next;
-        self.next = number.saturating_add(1);
-        self.opened.push(Opened { number, file })?;
-        Ok(number)
+    /// What the system says of a file, and whether it was read.
+    fn found(&self, file: &Metadata) -> Found {
+        found_of(file, self.read.has(file))
     }
 }
 
@@ -79,9 +70,13 @@ impl<'a, R: Files<File = File>> Folder for SystemFolder<'a, R> {
 
     ghost is_open = { λ _ _ _. ⊤ };
 
+    ghost is_noted = { λ _ _. ⊤ };
+
+    ghost is_file = { λ _ _ _ _. ⊤ };
+
     fn look(&mut self, name: &str) -> io::Result<Option<Found>> {
         match look_for(self.rt, name)? {
-            Some(found) => Ok(Some(found_of(&found, self.read.has(&found)))),
+            Some(file) => Ok(Some(self.found(&file))),
             None => Ok(None),
         }
     }
@@ -90,11 +85,22 @@ impl<'a, R: Files<File = File>> Folder for SystemFolder<'a, R> {
         self.last_read.is_at(name, at)
     }
 
-    fn open_at(&mut self, name: &str, at: u64) -> io::Result<Option<Found>> {
-        match open_at(self.rt, &mut self.last_read, &mut self.read, name, at)? {
-            Some(found) => Ok(Some(found_of(&found, true))),
-            None => Ok(None),
-        }
+    fn open(&mut self, name: &str) -> io::Result<bool> {
+        self.last_read.begin(name)?;
+        let file = none_where(ErrorKind::NotFound, fs::open(self.rt, name))?;
+        Ok(self.last_read.keep(file))
+    }
+
+    fn look_read(&mut self, _name: &str) -> io::Result<Found> {
+        Ok(self.found(&self.last_read.metadata()?))
+    }
+
+    fn note_read(&mut self, name: &str, found: &Option<Found>) -> io::Result<()> {
+        Ok(self.read.note(name, found)?)
+    }
+
+    fn seek(&mut self, _name: &str, at: u64) -> io::Result<()> {
+        self.last_read.seek(at)
     }
 
     fn read_on(&mut self, _name: &str, _at: u64, into: &mut [u8]) -> io::Result<usize> {
@@ -105,49 +111,39 @@ impl<'a, R: Files<File = File>> Folder for SystemFolder<'a, R> {
         self.read.are_all_as_read(&SystemNames { rt: self.rt })
     }
 
-    fn read_front(&mut self, name: &str, into: &mut [u8]) -> io::Result<usize> {
-        let mut file = fs::open(self.rt, name)?;
-        read_through_signals(&mut file, into)
+    fn open_front(&mut self, name: &str) -> io::Result<()> {
+        self.front = Some(fs::open(self.rt, name)?);
+        Ok(())
+    }
+
+    fn read_front(&mut self, _name: &str, into: &mut [u8]) -> io::Result<usize> {
+        read_through_signals(&mut taken(&mut self.front)?, into)
     }
 
     fn create(&mut self, name: &str, bits: u32) -> io::Result<Option<u64>> {
-        self.opened.reserve(1)?;
-        let made = File::options()
-            .append(true)
-            .create_new(true)
-            .mode(bits)
-            .open(self.rt, name);
-        match made {
-            Ok(file) => Ok(Some(self.keep(file)?)),
-            Err(error) if error.kind() == ErrorKind::AlreadyExists => Ok(None),
-            Err(error) => Err(error),
-        }
+        self.opened.reserve()?;
+        let made = create_new(self.rt, name, bits);
+        self.opened
+            .keep(none_where(ErrorKind::AlreadyExists, made)?)
     }
 
     fn open_left(&mut self, name: &str) -> io::Result<Option<u64>> {
-        self.opened.reserve(1)?;
-        match File::options().append(true).open(self.rt, name) {
-            Ok(file) => Ok(Some(self.keep(file)?)),
-            Err(error) if error.kind() == ErrorKind::NotFound => Ok(None),
-            Err(error) => Err(error),
-        }
+        self.opened.reserve()?;
+        let left = open_to_append(self.rt, name);
+        self.opened.keep(none_where(ErrorKind::NotFound, left)?)
     }
 
     fn lock(&mut self, number: u64, _name: &str) -> io::Result<bool> {
-        match file_of(self.opened.as_slice(), number)?.try_lock() {
+        match self.opened.get(number)?.try_lock() {
             Ok(()) => Ok(true),
             Err(TryLockError::WouldBlock) => Ok(false),
             Err(TryLockError::Error(error)) => Err(error),
         }
     }
 
-    fn is_under(&mut self, number: u64, name: &str) -> io::Result<bool> {
-        let file = file_of(self.opened.as_slice(), number)?;
-        let open = again(|| file.metadata())?;
-        match look_for(self.rt, name)? {
-            Some(found) => Ok(is_one(&open, &found)),
-            None => Ok(false),
-        }
+    fn look_open(&mut self, number: u64) -> io::Result<Found> {
+        let file = self.opened.get(number)?;
+        Ok(self.found(&again(|| file.metadata())?))
     }
 
     fn is_as_read(&mut self, name: &str) -> io::Result<bool> {
@@ -155,35 +151,29 @@ impl<'a, R: Files<File = File>> Folder for SystemFolder<'a, R> {
     }
 
     fn release(&mut self, number: u64) {
-        self.opened.retain(|file| file.number != number);
+        self.opened.close(number);
     }
 
     fn append(&mut self, number: u64, piece: &[u8]) -> io::Result<usize> {
-        for opened in self.opened.iter_mut() {
-            if opened.number == number {
-                return write_some(&mut opened.file, piece);
-            }
-        }
-        Err(io::Error::from(ErrorKind::NotFound))
+        write_some(self.opened.get_mut(number)?, piece)
     }
 
     fn empty(&mut self, number: u64) -> io::Result<()> {
-        file_of(self.opened.as_slice(), number)?.set_len(0)
+        self.opened.get(number)?.set_len(0)
     }
 
-    fn settle(&mut self, number: u64, old: &Option<Found>, bits: Option<u32>) -> io::Result<()> {
-        let file = file_of(self.opened.as_slice(), number)?;
-        if let Some(old) = old {
-            keep_owner(file, old)?;
-        }
-        match bits {
-            Some(bits) => set_bits(file, bits),
-            None => Ok(()),
-        }
+    fn give_owner(&mut self, number: u64, owner: u32, group: u32) -> io::Result<()> {
+        let file = self.opened.get(number)?;
+        again(|| fchown(file, Some(owner), Some(group)))
+    }
+
+    fn set_bits(&mut self, number: u64, bits: u32) -> io::Result<()> {
+        let file = self.opened.get(number)?;
+        file.set_permissions(Permissions::from_mode(bits))
     }
 
     fn flush_file(&mut self, number: u64) -> io::Result<()> {
-        file_of(self.opened.as_slice(), number)?.sync_all()
+        self.opened.get(number)?.sync_all()
     }
 
     fn rename(&mut self, from: &str, to: &str) -> io::Result<()> {
@@ -198,21 +188,13 @@ impl<'a, R: Files<File = File>> Folder for SystemFolder<'a, R> {
     }
 
     fn open_folder(&mut self, name: &str) -> io::Result<()> {
-        let path = folder_of(name);
-        let path = if path.is_empty() { "." } else { path };
-        self.folder = Some(fs::open(self.rt, path)?);
+        self.folder = Some(fs::open(self.rt, path_of_folder(name))?);
         Ok(())
     }
 
     fn flush_folder(&mut self, _name: &str) -> io::Result<bool> {
-        let Some(folder) = self.folder.take() else {
-            return Err(io::Error::from(ErrorKind::NotFound));
-        };
-        match folder.sync_all() {
-            Ok(()) => Ok(true),
-            Err(error) if error.kind() == ErrorKind::InvalidInput => Ok(false),
-            Err(error) => Err(error),
-        }
+        let flushed = taken(&mut self.folder)?.sync_all();
+        Ok(none_where(ErrorKind::InvalidInput, flushed)?.is_some())
     }
 
     fn take_as_flushed(&mut self, _name: &str) -> io::Result<()> {
@@ -220,31 +202,6 @@ impl<'a, R: Files<File = File>> Folder for SystemFolder<'a, R> {
     }
 
     fn close(&mut self) {
-        self.opened.clear();
+        self.opened.close_all();
     }
-}
-
-fn file_of(opened: &[Opened], number: u64) -> io::Result<&File> {
-    for file in opened {
-        if file.number == number {
-            return Ok(&file.file);
-        }
-    }
-    Err(io::Error::from(ErrorKind::NotFound))
-}
-
-/// As `write`, again wherever a signal came first. A write that took nothing is a fault: it would
-/// be tried for ever.
-fn write_some<W: Write>(to: &mut W, piece: &[u8]) -> io::Result<usize>
-    requires { 0 < length piece.now }
-    ensures { IfOk result (IsCount piece.now) }
-{
-    for _ in 0..u64::MAX {
-        match to.write(piece) {
-            Ok(0) => return Err(io::Error::from(ErrorKind::WriteZero)),
-            Err(error) if error.kind() == ErrorKind::Interrupted => {}
-            result => return result,
-        }
-    }
-    Err(io::Error::from(ErrorKind::Interrupted))
 }

@@ -5,7 +5,7 @@ use Rattle.folder_calls.proofs.creating.remove_unlocked.Goals as goal
 pub returns-in_err-is_under-clause-clears : goal.returns-in_err-is_under-clause-clears
 returns-in_err-is_under-clause-clears g c =
     let moments = g.F.Folder.moments in
-    clears_on c.args.name.now (moments c.args.folder.now) (moments c.require_lock.new.folder) (moments c.is_under.new.self)
+    clears_on c.args.name.now (moments c.args.folder.now) (moments c.require_lock.new.folder) (moments c.is_under.new.folder)
     (clears_removed c.args.name.now false _ _ c.require_lock.ensures.meanwhile) (clears_same c.args.name.now _ _ c.is_under.ensures.same)
 
 pub returns-then-branch-clause-clears : goal.returns-then-branch-clause-clears
@@ -13,13 +13,13 @@ returns-then-branch-clause-clears g c =
     let moments = g.F.Folder.moments in
     clears_on c.args.name.now (moments c.args.folder.now) (moments c.require_lock.new.folder) (moments c.remove.new.self)
     (clears_removed c.args.name.now false _ _ c.require_lock.ensures.meanwhile)
-    (clears_on c.args.name.now (moments c.require_lock.new.folder) (moments c.is_under.new.self) (moments c.remove.new.self)
+    (clears_on c.args.name.now (moments c.require_lock.new.folder) (moments c.is_under.new.folder) (moments c.remove.new.self)
     (clears_same c.args.name.now _ _ c.is_under.ensures.same) (clears_removed c.args.name.now _ _ _ c.remove.ensures.did))
 
 pub returns-clause-clears : goal.returns-clause-clears
 returns-clause-clears g c =
     let moments = g.F.Folder.moments in
-    clears_on c.args.name.now (moments c.args.folder.now) (moments c.require_lock.new.folder) (moments c.is_under.new.self)
+    clears_on c.args.name.now (moments c.args.folder.now) (moments c.require_lock.new.folder) (moments c.is_under.new.folder)
     (clears_removed c.args.name.now false _ _ c.require_lock.ensures.meanwhile) (clears_same c.args.name.now _ _ c.is_under.ensures.same)
 
 pub returns-in_err-require_lock-clause-clears : goal.returns-in_err-require_lock-clause-clears
