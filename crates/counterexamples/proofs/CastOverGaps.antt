@@ -75,10 +75,10 @@ supervisor_allowed =
     let one = opened.entry ∷ [] in
     let two = opened.entry ∷ authorised.entry ∷ [] in
     let three = opened.entry ∷ authorised.entry ∷ overridden.entry ∷ [] in (
-      (tt, inl (inr (not_opened 0 [] refl, refl))),
+      (refl, inl (inr (not_opened 0 [] refl, refl))),
       (
         (
-          tt,
+          refl,
           inl (inr (
             λ unopened. unopened (0, opened.entry, omega arith, refl, (refl, refl)),
             inr (
@@ -89,7 +89,7 @@ supervisor_allowed =
         ),
         (
           (
-            tt,
+            refl,
             inl (inr (
               λ unused. unused (1, authorised.entry, omega arith, refl, (refl, (1, refl))),
               inr (
@@ -103,7 +103,7 @@ supervisor_allowed =
           ),
           (
             (
-              tt,
+              refl,
               inl (inr (
                 λ unopened. unopened (0, opened.entry, omega arith, refl, (refl, refl)),
                 inr (
@@ -135,7 +135,7 @@ booth_allowed =
     let three = opened.entry ∷ authorised.entry ∷ activated.entry ∷ [] in
     let five = map (λ (sealed : SealedEntry). sealed.entry) held_by_booth in (
       (
-        tt,
+        refl,
         inl (inr (
           λ unnamed. unnamed (1, authorised.entry, omega arith, refl, refl),
           inr (
@@ -149,7 +149,7 @@ booth_allowed =
       ),
       (
         (
-          tt,
+          refl,
           inl (inr (
             λ inactive. inactive (2, activated.entry, omega arith, refl, (refl, refl)),
             inr (
@@ -163,7 +163,7 @@ booth_allowed =
         ),
         (
           (
-            tt,
+            refl,
             inr (inr (
               λ unbound. unbound (3, committed.entry, omega arith, refl, (refl, refl)),
               inr (

@@ -52,10 +52,10 @@ allowed : (m : ℕ) → EachSent (May m) [] (history w m)
 allowed zero =
     let one = opened.entry ∷ [] in
     let two = opened.entry ∷ authorised.entry ∷ [] in (
-      (tt, inl (inr (not_opened 0 [] refl, refl))),
+      (refl, inl (inr (not_opened 0 [] refl, refl))),
       (
         (
-          tt,
+          refl,
           inl (inr (
             λ unopened. unopened (0, opened.entry, omega arith, refl, (refl, refl)),
             inr (
@@ -66,7 +66,7 @@ allowed zero =
         ),
         (
           (
-            tt,
+            refl,
             inr (inr (
               λ unopened. unopened (0, opened.entry, omega arith, refl, (refl, refl)),
               inr (

@@ -43,14 +43,14 @@ as_asked zero =
       (
         IsNew-from_test node_of_sealed [] opened refl,
         record { maker = refl; number = refl; stamp = refl; names = refl },
-        record { of_role = tt; no_cause = inr (not_opened 0 [] refl, refl) },
+        record { of_role = refl; no_cause = inr (not_opened 0 [] refl, refl) },
       ),
       (
         (
           IsNew-from_test node_of_sealed (opened ∷ []) authorised refl,
           record { maker = refl; number = refl; stamp = refl; names = refl },
           record {
-            of_role = tt;
+            of_role = refl;
             no_cause = inr (
               λ unopened. unopened (0, opened.entry, omega arith, refl, (refl, refl)),
               inr (

@@ -51,10 +51,10 @@ May m past e =
 allowed : (m : ℕ) → EachSent (May m) [] (history w m)
 allowed zero =
     let one = opened.entry ∷ [] in (
-      (tt, inl (inr (not_opened 0 [] refl, refl))),
+      (refl, inl (inr (not_opened 0 [] refl, refl))),
       (
         (
-          tt,
+          refl,
           inl (inr (
             λ unopened. unopened (0, opened.entry, omega arith, refl, (refl, refl)),
             inr (
@@ -68,7 +68,7 @@ allowed zero =
     )
 allowed (suc zero) = tt
 allowed (suc (suc zero)) =
-    ((tt, inr (inl (not_named 2 7 (opened.entry ∷ authorised.entry ∷ []) refl, refl))), tt)
+    ((refl, inr (inl (not_named 2 7 (opened.entry ∷ authorised.entry ∷ []) refl, refl))), tt)
 allowed (suc (suc (suc m))) = tt
 
 -- no authorising names the booth that activates

@@ -48,10 +48,10 @@ May m past e = MayAs (role_at posts m) m past e
 allowed : (m : ℕ) → EachSent (May m) [] (history w m)
 allowed zero =
     let one = opened.entry ∷ [] in (
-      record { of_role = tt; no_cause = inr (not_opened 0 [] refl, refl) },
+      record { of_role = refl; no_cause = inr (not_opened 0 [] refl, refl) },
       (
         record {
-          of_role = tt;
+          of_role = refl;
           no_cause = inr (
             λ unopened. unopened (0, opened.entry, omega arith, refl, (refl, refl)),
             inr (
@@ -66,7 +66,7 @@ allowed zero =
 allowed (suc zero) =
     let two = opened.entry ∷ authorised.entry ∷ [] in (
       record {
-        of_role = tt;
+        of_role = refl;
         no_cause = inr (
           λ unnamed. unnamed (1, authorised.entry, omega arith, refl, refl),
           inr (

@@ -104,10 +104,10 @@ deeds_lawful machines i h =
     let P : Deed → Type 0 = IsAction machines Booth in
     let ballot : IsSession i × IsDigest (session_ballot i) × IsBytes (session_ballot i) =
     (h, ballot_digest i, ballot_bytes i) in
-    let commit : P (Commit i (session_ballot i)) = (tt, tt, ballot) in
-    let cast : P (Cast i (session_ballot i)) = (tt, tt, ballot) in
-    let activate : P (Activate i) = (tt, tt, h) in
-    let cancel : P (Cancel i) = (tt, tt, h) in
+    let commit : P (Commit i (session_ballot i)) = (refl, tt, ballot) in
+    let cast : P (Cast i (session_ballot i)) = (refl, tt, ballot) in
+    let activate : P (Activate i) = (refl, tt, h) in
+    let cancel : P (Cancel i) = (refl, tt, h) in
     all_either P (i % 10 == 0) (Activate i ∷ Cancel i ∷ [])
     (Activate i ∷ Commit i (session_ballot i) ∷ Cast i (session_ballot i) ∷ [])
     (All-cons P (Activate i) (Cancel i ∷ []) activate (All-cons P (Cancel i) [] cancel (All-nil P)))
@@ -136,11 +136,11 @@ supervisor_lawful n h =
     let P : Deed → Type 0 = IsAction (machines_of n) Supervisor in
     let one : (i : ℕ) → IsSession i → P (authorise_of i) = λ (i : ℕ) (session : IsSession i).
     let among : IsDeedAmong (machines_of n) (authorise_of i) = (booth_at n ((i - 1) % 3) (omega arith), session) in
-    (tt, tt, among) in
-    All-cons P Opened _ (tt, tt, tt) (All-append P (map authorise_of (sessions n)) (Closed ∷ [])
+    (refl, tt, among) in
+    All-cons P Opened _ (refl, tt, tt) (All-append P (map authorise_of (sessions n)) (Closed ∷ [])
     (All-map P authorise_of (sessions n) (all_sessions (λ i. P (authorise_of i)) n
     (λ i g k. one i (g, omega arith))))
-    (All-cons P Closed [] (tt, tt, tt) (All-nil P)))
+    (All-cons P Closed [] (refl, tt, tt) (All-nil P)))
 
 -- two characters make a name
 name_of_two : (a b : ℕ) → IsNameByte a → IsNameByte b → IsName (a ∷ b ∷ [])

@@ -1,5 +1,5 @@
 -- Deeds by their kinds.
-use Rattle.honest_rules.proofs.Imports.{◌≡◌, inl, inr, refl, IsTrue, Deed, IsDeedOf, Ends, Role, Supervisor, Booth}
+use Rattle.honest_rules.proofs.Imports.{◌≡◌, ◌∙◌, inl, inr, refl, sym, IsTrue, Deed, IsDeedOf, Ends, Role}
 use Rattle.honest_rules.proofs.Imports.{Kind, is_kind, kind_of, session_of, ballot_of, booth_of}
 use Rattle.entry_format.specs.declared.deed.Deed.TheVariants as deed
 use Rattle.entry_format.specs.declared.deed.How.TheVariants as how
@@ -63,21 +63,14 @@ pub no_challenge_is_cancel : (k : Kind) → IsTrue (is_kind kind.Challenge k) �
 no_challenge_is_cancel kind.Challenge challenge cancel = cc
 no_challenge_is_cancel k challenge cancel = cc
 
--- no deed is one of both roles
-no_deed_of_both : (d : Deed) → IsDeedOf Supervisor d → IsDeedOf Booth d → ⊥
-no_deed_of_both deed.Opened s b = b
-no_deed_of_both (deed.Authorise booth session) s b = b
-no_deed_of_both (deed.Override session how) s b = b
-no_deed_of_both deed.Closed s b = b
-no_deed_of_both (deed.Activate session) s b = s
-no_deed_of_both (deed.Commit session ballot) s b = s
-no_deed_of_both (deed.Cast session ballot) s b = s
-no_deed_of_both (deed.Cancel session) s b = s
-no_deed_of_both (deed.Challenge session ballot) s b = s
-
 -- a deed is one of one role
 pub one_role : (role other : Role) (d : Deed) → IsDeedOf role d → IsDeedOf other d → role ≡ other
-one_role Supervisor Supervisor d a b = refl
-one_role Supervisor Booth d a b = absurd (no_deed_of_both d a b)
-one_role Booth Supervisor d a b = absurd (no_deed_of_both d b a)
-one_role Booth Booth d a b = refl
+one_role role other deed.Opened a b = a ∙ sym b
+one_role role other (deed.Authorise booth session) a b = a ∙ sym b
+one_role role other (deed.Override session how) a b = a ∙ sym b
+one_role role other deed.Closed a b = a ∙ sym b
+one_role role other (deed.Activate session) a b = a ∙ sym b
+one_role role other (deed.Commit session ballot) a b = a ∙ sym b
+one_role role other (deed.Cast session ballot) a b = a ∙ sym b
+one_role role other (deed.Cancel session) a b = a ∙ sym b
+one_role role other (deed.Challenge session ballot) a b = a ∙ sym b

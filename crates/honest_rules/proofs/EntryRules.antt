@@ -29,6 +29,10 @@ IsBoothKind d =
     ∷ IsTrue (is_kind kind.Cast (kind_of d)) ∷ IsTrue (is_kind kind.Cancel (kind_of d))
     ∷ IsTrue (is_kind kind.Challenge (kind_of d)) ∷ [])
 
+-- a supervisor is no booth
+no_booth : Supervisor ≡ Booth → ⊥
+no_booth same = cc
+
 -- what a supervisor may do is of its kinds
 supervisor_kind : (d : Deed) → IsDeedOf Supervisor d → IsSupervisorKind d
 supervisor_kind deed.Opened of = inl refl
@@ -36,18 +40,18 @@ supervisor_kind (deed.Authorise booth session) of = inr (inl refl)
 supervisor_kind (deed.Override session how.Cancel) of = inr (inr (inl refl))
 supervisor_kind (deed.Override session how.Cast) of = inr (inr (inr (inl refl)))
 supervisor_kind deed.Closed of = inr (inr (inr (inr (inl refl))))
-supervisor_kind (deed.Activate session) of = absurd of
-supervisor_kind (deed.Commit session ballot) of = absurd of
-supervisor_kind (deed.Cast session ballot) of = absurd of
-supervisor_kind (deed.Cancel session) of = absurd of
-supervisor_kind (deed.Challenge session ballot) of = absurd of
+supervisor_kind (deed.Activate session) of = absurd (no_booth of)
+supervisor_kind (deed.Commit session ballot) of = absurd (no_booth of)
+supervisor_kind (deed.Cast session ballot) of = absurd (no_booth of)
+supervisor_kind (deed.Cancel session) of = absurd (no_booth of)
+supervisor_kind (deed.Challenge session ballot) of = absurd (no_booth of)
 
 -- what a booth may do is of a booth's kinds
 booth_kind : (d : Deed) → IsDeedOf Booth d → IsBoothKind d
-booth_kind deed.Opened of = absurd of
-booth_kind (deed.Authorise booth session) of = absurd of
-booth_kind (deed.Override session how) of = absurd of
-booth_kind deed.Closed of = absurd of
+booth_kind deed.Opened of = absurd (no_booth (sym of))
+booth_kind (deed.Authorise booth session) of = absurd (no_booth (sym of))
+booth_kind (deed.Override session how) of = absurd (no_booth (sym of))
+booth_kind deed.Closed of = absurd (no_booth (sym of))
 booth_kind (deed.Activate session) of = inl refl
 booth_kind (deed.Commit session ballot) of = inr (inl refl)
 booth_kind (deed.Cast session ballot) of = inr (inr (inl refl))
