@@ -37,7 +37,7 @@ log_repair     .               election_script  polling_world   .
 deed_history   .               .                booth_core      supervisor_core
 -----
 audit_proof    rule_engine     rule_exactness   rule_meaning    rule_language
-entry_graph    precedence      .                entry_order     held_counts
+entry_graph    precedence      survivor_rows    entry_order     held_counts
 -----
 entry_gaps     log_files       .                entangled_log   log_frontier
 roster         .               entry_format     .               .

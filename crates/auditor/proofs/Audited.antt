@@ -7,7 +7,7 @@ use Rattle.auditor.proofs.Imports.{of_refusal, Unjudged, Begun, HasBegun, HasRul
 use Rattle.auditor.proofs.Imports.{row_of, report_of, RuleSource, standard, in_file, source_word, rule_files, max_rules}
 use Rattle.auditor.proofs.Imports.{GivesRules, WithGraph}
 use Rattle.hall_outside.specs.declared.reading.FileFault.TheVariants as file
-use Rattle.auditor.specs.declared.judging.Unjudged.TheVariants.{TooWide}
+use Rattle.rule_engine.specs.declared.rules.Unjudged.TheVariants.{TooWide}
 use Rattle.auditor.proofs.Chained.{file_joins, rules_then, standard_then}
 
 -- a rule that is too wide is reported by its place

@@ -1,21 +1,18 @@
 -- What the proofs of this crate take from others.
 pub use Rattle.auditor.specs.Audits.{AndThen, FileThen, GivesReport, GivesVerdicts, RulesThen, WithGraph, WithLogs}
-pub use Rattle.auditor.specs.Judged.{AreJudged, IsFirstTooWide, nodes_of}
+pub use Rattle.auditor.specs.Nodes.{nodes_of}
 pub use Rattle.auditor.specs.Outcomes.{is_broken, is_unsettled}
 pub use Rattle.auditor.specs.Outcomes.{log_has_finding}
 pub use Rattle.auditor.specs.PlainRules.{PlainRules}
 pub use Rattle.auditor.specs.Report.{AuditReport, ReportParts, report_of, report_on}
 pub use Rattle.auditor.specs.ReportText.{break_line, entry_words, fork_lines}
 pub use Rattle.auditor.specs.ReportText.{log_head_line, log_lines, rule_line, stray_lines, verdict_line}
-pub use Rattle.auditor.specs.Rows.{HaveMakers, row_of}
 pub use Rattle.auditor.specs.Same.{SameReport, SameVerdict}
 pub use Rattle.auditor.specs.Sources.{GivesRules, RuleSource, in_file, max_rules, rule_files, source_of, source_word}
 pub use Rattle.auditor.specs.Sources.{standard}
 pub use Rattle.auditor.specs.declared.auditing.Begun.{Begun}
-pub use Rattle.auditor.specs.declared.judging.Unjudged.{Unjudged}
 pub use Rattle.auditor.specs.inside.Begun.{AreLogsOf, HasBegun, HasRules, IsEndOf, WithRoster, WithRules}
 pub use Rattle.auditor.specs.inside.Places.{AreBelow, IsBelow}
-pub use Rattle.auditor.specs.inside.Unjudged.{IsUnjudged}
 pub use Rattle.canonical_sexp.specs.declared.sexp.Sexp.{Sexp}
 pub use Rattle.entry_format.specs.Nodes.{node_of, node_of_sealed}
 pub use Rattle.entry_format.specs.Plains.{plain_of, plains}
@@ -58,12 +55,12 @@ pub use Rattle.log_files.specs.LogText.{EachGives, Gives, kept_of}
 pub use Rattle.log_files.specs.SealedLog.{IsReadSealed}
 pub use Rattle.log_files.specs.declared.sealed_log.LogRead.{LogRead}
 pub use Rattle.precedence.specs.Graph.{Graph}
-pub use Rattle.precedence.specs.Known.{IsKnownOf}
 pub use Rattle.roster.specs.declared.post.Post.{Post}
 pub use Rattle.rule_engine.proofs.Graphs.{same_answer}
+pub use Rattle.rule_engine.proofs.OneByOne.{judged_is_narrow}
+pub use Rattle.rule_engine.specs.Judged.{AreJudged, IsFirstTooWide, IsUnjudged}
 pub use Rattle.rule_engine.specs.Verdicts.{IsJudged, IsVerdict, and_then, broken, broken_by, first_false}
-pub use Rattle.rule_engine.specs.declared.verdict.JudgeFault.{JudgeFault}
-pub use Rattle.rule_engine.specs.declared.verdict.JudgeFault.TheVariants.{Memory}
+pub use Rattle.rule_engine.specs.declared.rules.Unjudged.{Unjudged}
 pub use Rattle.rule_engine.specs.declared.verdict.Verdict.{Verdict}
 pub use Rattle.rule_engine.specs.declared.verdict.Verdict.TheVariants.{Broken, Unsettled}
 pub use Rattle.rule_language.specs.Forms.{rule_tree}
@@ -83,9 +80,8 @@ pub use Rattle.rule_meaning.specs.Meaning.{bind, unbound}
 pub use Rattle.rule_meaning.specs.Sound.{HasNoDouble}
 pub use Rattle.rule_meaning.specs.Tests.{has_kind}
 pub use Rattle.rule_meaning.specs.Values.{first_value, three_in, values}
-pub use Rattle.rule_meaning.specs.Widths.{is_too_wide}
 pub use Rattle.std.proofs.Common.{Bool, List, None, Option, Some, [], ap, append-nil, append_assoc, arith, cond}
-pub use Rattle.std.proofs.Common.{false, get_or, inl, inr, length, map, refl, rules, string_bytes, subst, suc, sym}
+pub use Rattle.std.proofs.Common.{false, get_or, inl, inr, length, map, refl, string_bytes, subst, suc, sym}
 pub use Rattle.std.proofs.Common.{take, true, zero, ℕ, ◌++◌, ◌+◌, ◌<◌, ◌∙◌, ◌∷◌, ◌≡◌, ◌≤◌}
 pub use Rattle.std.proofs.lemmas.Bool.{cases_lt, cases_order, false≢true, or_from}
 pub use Rattle.std.proofs.lemmas.Grind.{flat_map-append}
@@ -95,11 +91,12 @@ pub use Rattle.std.proofs.lemmas.Map.Text.{is_eq-slice_cmp}
 pub use Rattle.std.proofs.lemmas.Option.{get_or_from_slice_get, slice_get_within}
 pub use Rattle.std.proofs.lemmas.Result.{IfErr-weaker, IfOk-weaker}
 pub use Rattle.std.proofs.lemmas.Slice.Eq.{bytes_eq-Decides}
-pub use Rattle.std.proofs.lemmas.Slice.Zip.{AllZip-long, all_zipped_more, get_or-zip, length-zip}
+pub use Rattle.std.proofs.lemmas.Slice.Zip.{AllZip-long, get_or-zip, length-zip}
 pub use Rattle.std.specs.List.{AllPairs, AllZip, Contains, filter, flat_map, list_any, range_with_len, zip}
 pub use Rattle.std.specs.Ordering.{is_eq}
 pub use Rattle.std.specs.Prelude.{All, Err, IfOk, IfSome, Ok, OnOk, Result, codes, find, slice_get}
-pub use Rattle.std.specs.Prelude.{vec_capacity, ◌&&◌, ◌==◌, ◌||◌, ◌⊎◌}
+pub use Rattle.std.specs.Prelude.{◌&&◌, ◌==◌, ◌||◌, ◌⊎◌}
 pub use Rattle.std.specs.Str.{bytes_eq}
+pub use Rattle.survivor_rows.specs.Rows.{HaveMakers, row_of}
 pub use Rattle.evidence.specs.declared.fault.AuditFault.TheVariants.{ReadFault}
 pub use Rattle.std.specs.Prelude.{IfErr, ◌≢◌}

@@ -1,6 +1,5 @@
 mod Imports
 pub mod Pieces
-pub mod OneByOne
 pub mod Makers
 pub mod Below
 pub mod Chained

@@ -1,11 +1,11 @@
 -- The makers of entries are machines.
-use Rattle.auditor.proofs.Imports.{◌≡◌, ◌∙◌, ℕ, suc, ◌+◌, ◌<◌, List, [], ◌∷◌, ◌++◌, length, take, get_or, map, ap}
-use Rattle.auditor.proofs.Imports.{sym, subst, refl, inl, inr, Option, Some, None, All, slice_get, Result, Ok, Err}
-use Rattle.auditor.proofs.Imports.{Contains, filter, bytes_eq, take_more, map-append, All-contains}
-use Rattle.auditor.proofs.Imports.{All-from_recursion, Contains-get_or, get_or_from_slice_get, Sexp, Post, EntryFault}
-use Rattle.auditor.proofs.Imports.{SealedEntry, node_of_sealed, is_stray, Contains-map, Contains-at, Contains-later}
+use Rattle.auditor.proofs.Imports.{◌≡◌, ℕ, suc, ◌+◌, ◌<◌, List, [], ◌∷◌, ◌++◌, length, get_or, ap}
+use Rattle.auditor.proofs.Imports.{sym, subst, refl, inl, inr, Option, Some, None, All, Result, Ok, Err}
+use Rattle.auditor.proofs.Imports.{Contains, filter, bytes_eq, All-contains}
+use Rattle.auditor.proofs.Imports.{All-from_recursion, Contains-get_or, Sexp, Post, EntryFault}
+use Rattle.auditor.proofs.Imports.{SealedEntry, node_of_sealed, is_stray, Contains-at, Contains-later}
 use Rattle.auditor.proofs.Imports.{Contains-cons_cases, Contains-filter_cases, LogRead, kept_of, Gives, EachGives}
-use Rattle.auditor.proofs.Imports.{IsReadSealed, IsSealedLogOf, distinct, EntryGraph, AreForks, Row, GivesLogs}
+use Rattle.auditor.proofs.Imports.{IsReadSealed, IsSealedLogOf, distinct, EntryGraph, AreForks, GivesLogs}
 use Rattle.auditor.proofs.Imports.{entries_of_records, entries_of, GivesGraph, HaveMakers}
 use Rattle.std.proofs.Common.{not}
 use Rattle.std.specs.List.{AllByRecursion as ByRecursion}
@@ -24,27 +24,6 @@ forks_have_makers machines survivors forks told makers are same =
         let (e, f, has, also, differ, maker, number, other, twice) = (are.members fork_maker fork_number).0 member in
         subst (λ (m : ℕ). m < length machines) maker
         (All-contains (λ (sealed : SealedEntry). sealed.entry.maker < length machines) survivors e makers has)
-
--- the rows of the first entries, and one more
-pub rows_more : {T : Type 0} (seen : T → Row) (survivors : List T) (i : ℕ) (entry : T) (row : Row)
-    (rows new : List Row) → i < length survivors → slice_get survivors i ≡ Some entry →
-    rows ≡ map seen (take i survivors) → row ≡ seen entry → new ≡ rows ++ row ∷ [] →
-    new ≡ map seen (take (i + 1) survivors)
-rows_more seen survivors i entry row rows new within at so_far is added =
-    added ∙ ap (λ (r : Row). rows ++ r ∷ [])
-    (is ∙ ap seen (sym (get_or_from_slice_get survivors i entry entry at)))
-    ∙ ap (λ (rs : List Row). rs ++ seen (get_or survivors i entry) ∷ []) so_far
-    ∙ sym (ap (map seen) (take_more survivors i entry within)
-    ∙ map-append seen (take i survivors) (get_or survivors i entry ∷ []))
-
--- the maker of what a survivor stands for
-pub maker_at : {T : Type 0} (sealed : T → SealedEntry) (machines : List Post) (survivors : List T) →
-    HaveMakers machines (map sealed survivors) → (i : ℕ) (e : T) → i < length survivors →
-    slice_get survivors i ≡ Some e → (sealed e).entry.maker < length machines
-maker_at sealed machines survivors makers i e within at =
-    All-contains (λ (s : SealedEntry). s.entry.maker < length machines) (map sealed survivors) (sealed e) makers
-    (Contains-map sealed survivors e
-    (subst (λ x. Contains survivors x) (get_or_from_slice_get survivors i e e at) (Contains-get_or survivors i e within)))
 
 -- a list of the first entries with each digest has given entries alone
 distinct_is_given : (given : List SealedEntry) (entry : SealedEntry) → Contains (distinct node_of_sealed given) entry →

@@ -8,7 +8,7 @@ use Rattle.auditor.proofs.Imports.{Verdict, Broken, Unsettled, same_answer, Refu
 use Rattle.auditor.proofs.Imports.{SameVerdict, nodes_of, AreJudged, IsFirstTooWide, RuleSource, source_word}
 use Rattle.auditor.proofs.Imports.{GivesVerdicts}
 use Rattle.rule_engine.specs.declared.verdict.Verdict.TheVariants.{Kept}
-use Rattle.auditor.proofs.OneByOne.{judged_is_narrow}
+use Rattle.auditor.proofs.Imports.{judged_is_narrow}
 
 -- where each member fails a test, none of the list passes it
 none_of : (p : ℕ → Bool) (xs : List ℕ) → ((x : ℕ) → Contains xs x → p x ≡ false) → list_any p xs ≡ false

@@ -13,8 +13,9 @@ use Rattle.evidence.specs.Refusal.{Refusal, refused}
 use Rattle.evidence.specs.RosterFile.{GivesRoster}
 use Rattle.evidence.specs.Logs.{GivesLogs}
 use Rattle.evidence.specs.Graphs.{entries_of, GivesGraph}
-use Rattle.auditor.specs.Rows.{row_of}
-use Rattle.auditor.specs.Judged.{nodes_of, AreJudged, IsFirstTooWide}
+use Rattle.survivor_rows.specs.Rows.{row_of}
+use Rattle.rule_engine.specs.Judged.{AreJudged, IsFirstTooWide}
+use Rattle.auditor.specs.Nodes.{nodes_of}
 use Rattle.auditor.specs.Report.{AuditReport, report_on}
 use Rattle.auditor.specs.Sources.{RuleSource, standard, in_file, source_word, rule_files, GivesRules}
 

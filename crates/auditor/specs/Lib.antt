@@ -1,6 +1,5 @@
-pub mod Rows
 pub mod PlainRules
-pub mod Judged
+pub mod Nodes
 pub mod Report
 pub mod Outcomes
 pub mod ReportText

@@ -9,8 +9,9 @@ use Rattle.rule_language.specs.Forms.{rule_tree}
 use Rattle.rule_language.specs.Trees.{RuleTree}
 use Rattle.rule_engine.specs.declared.verdict.Verdict.{Verdict}
 use Rattle.evidence.specs.Graphs.{entries_of, GivesGraph}
-use Rattle.auditor.specs.Rows.{HaveMakers, row_of}
-use Rattle.auditor.specs.Judged.{nodes_of, AreJudged}
+use Rattle.survivor_rows.specs.Rows.{HaveMakers, row_of}
+use Rattle.rule_engine.specs.Judged.{AreJudged}
+use Rattle.auditor.specs.Nodes.{nodes_of}
 
 -- the machines of the roster, the logs with their names, the graph of their entries, and the rules
 -- with their verdicts

@@ -17,19 +17,17 @@ ghost use Rattle.rule_language.specs.Forms.{rule_tree};
 ghost use Rattle.evidence.specs.Graphs.{GivesGraph, entries_of};
 ghost use Rattle.evidence.specs.Reading.{IsReadFrom, IsReadFromFile};
 ghost use Rattle.evidence.specs.Refusal.{IsAbsent, refusal_of};
-ghost use Rattle.auditor.specs.Rows.{HaveMakers, row_of};
-ghost use Rattle.auditor.specs.Judged.{AreJudged, nodes_of};
+ghost use Rattle.rule_engine.specs.Judged.{AreJudged, IsUnjudged};
+ghost use Rattle.survivor_rows.specs.Rows.{HaveMakers, row_of};
+ghost use Rattle.auditor.specs.Nodes.{nodes_of};
 ghost use Rattle.auditor.specs.inside.Begun.{AreLogsOf, HasBegun, HasRules, IsEndOf};
-ghost use Rattle.auditor.specs.inside.Unjudged.{IsUnjudged};
 ghost use Rattle.auditor.specs.Report.{report_of};
 ghost use Rattle.rule_language.specs.Standard.{standard_rules};
 ghost use Rattle.auditor.specs.Sources.{source_of, source_word, max_rules, GivesRules};
 ghost use Rattle.auditor.specs.Sources.{standard as standard_source};
 ghost use Rattle.auditor.specs.Audits.{WithGraph, WithLogs, GivesReport, audit_files};
 
-use crate::judging::{Unjudged, judge_all};
 use crate::report::Report;
-use crate::row::rows;
 use entry_graph::Graph;
 use evidence::{
     AuditFault, RosterRead, file_fault, graph_of, read_logs, read_logs_in, read_roster,
@@ -38,10 +36,11 @@ use hall_outside::{Store, read_file};
 use log_files::LogRead;
 use precedence::Rows;
 use roster::Roster;
-use rule_engine::Verdict;
+use rule_engine::{Unjudged, Verdict, judge_all};
 use rule_language::{Rule, RuleFault, read, standard};
 use std::alloc::{AllocError, Global};
 use std::thread::Threads;
+use survivor_rows::rows;
 
 /// Where the rules of an audit come from.
 #[derive(Clone, Copy)]
@@ -85,8 +84,18 @@ fn rules_of(alloc: Global, name: &str, bytes: &[u8]) -> Result<Vec<Rule>, AuditF
     }
 }
 
-/// Reads the rules in the named file, of at most 4,194,304 bytes.
-fn read_rules<S: Store>(alloc: Global, store: &mut S, name: &str) -> Result<Vec<Rule>, AuditFault>
+/// Reads the rules in the named file. No file changes.
+///
+/// # Errors
+///
+/// `Absent` where the file isn't there, and the store said so. `Refused` with `TooLong` of a file
+/// over 4,194,304 bytes, or with the place and the fault of its rules. `ReadFault` where a read
+/// failed, or `Memory`.
+pub fn read_rules<S: Store>(
+    alloc: Global,
+    store: &mut S,
+    name: &str,
+) -> Result<Vec<Rule>, AuditFault>
     ensures { IsReadFromFile S.Store (λ rules. map rule_tree rules.items) name.now
         (GivesRules name.now) store.old result store.new }
 {
@@ -150,7 +159,7 @@ fn with_graph(
 {
     match judge_graph(alloc, &roster, rules.as_slice(), &graph) {
         Ok(verdicts) => Ok(Report::new(roster, files, logs, graph, rules, verdicts)),
-        Err(Unjudged::TooWide(place)) => {
+        Err(Unjudged::TooWide { place }) => {
             Err(AuditFault::refused(alloc, from.word(), place as u64, "TooWide"))
         }
         Err(Unjudged::Memory) => Err(AuditFault::Memory),

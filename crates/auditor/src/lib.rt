@@ -3,16 +3,14 @@
 #![tactic(auto)]
 
 mod auditing;
-mod judging;
 mod laws;
 mod lines;
 mod outcome;
 mod report;
-mod row;
 
-pub use auditing::{RulesFrom, audit, audit_in, audit_logs};
+pub use auditing::{RulesFrom, audit, audit_in, audit_logs, read_rules};
 pub use evidence::AuditFault;
 pub use laws::{files_give_one_report, plain_rules};
-pub use outcome::Outcome;
+pub use outcome::{Outcome, outcome_of};
 pub use report::{Report, write_report};
-pub use row::{ShowsSealed, rows};
+pub use survivor_rows::{ShowsSealed, rows};

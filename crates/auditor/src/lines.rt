@@ -3,7 +3,7 @@ ghost use Rattle.std.specs.Prelude.{◌≡◌, ◌<◌, ◌++◌, ℕ, length, m
 ghost use Rattle.std.specs.List.{flat_map, zip};
 ghost use Rattle.rule_engine.specs.declared.verdict.Verdict.{Verdict as VerdictOf};
 ghost use Rattle.rule_language.specs.Forms.{rule_tree};
-ghost use Rattle.auditor.specs.Rows.{HaveMakers};
+ghost use Rattle.survivor_rows.specs.Rows.{HaveMakers};
 ghost use Rattle.auditor.specs.ReportText.{
   maker_name,
   log_head_line,

@@ -84,7 +84,7 @@ fn some_are_unsettled(verdicts: &[Verdict]) -> bool
 }
 
 /// What these logs, this graph and these verdicts come to.
-pub(crate) fn outcome_of(logs: &[LogRead], graph: &Graph, verdicts: &[Verdict]) -> Outcome
+pub fn outcome_of(logs: &[LogRead], graph: &Graph, verdicts: &[Verdict]) -> Outcome
     ensures { result ≡ outcome_by (list_any is_broken verdicts.now)
         (list_any is_unsettled verdicts.now)
         (list_any log_has_finding logs.now || graph_has_finding graph.now) }

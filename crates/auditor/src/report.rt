@@ -6,7 +6,6 @@ ghost use Rattle.auditor.specs.ReportText.{main_lines, report_text};
 
 use crate::lines::{add_graph, add_logs, add_rules};
 use crate::outcome::{Outcome, outcome_of};
-use crate::row::Memory;
 use entry_graph::Graph;
 use log_files::LogRead;
 use roster::Roster;
@@ -15,6 +14,9 @@ use rule_language::Rule;
 use std::alloc::{AllocError, Global};
 use std::fmt::Write;
 use std::marker::Model;
+
+/// Out of memory.
+pub type Memory = AllocError;
 
 /// What the logs that survive say of a polling place, and what is answered of each rule.
 #[derive(Drop)]

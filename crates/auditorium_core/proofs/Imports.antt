@@ -16,7 +16,7 @@ pub use Rattle.audit_proof.specs.declared.fault.ProofWhy.{ProofWhy}
 pub use Rattle.auditor.proofs.Chained.{and_refused, and_then, err_by, file_ends, file_joins, of_one, on_one}
 pub use Rattle.auditor.proofs.Chained.{rules_end, rules_then, standard_then}
 pub use Rattle.auditor.proofs.Makers.{logs_have_makers, survivors_have_makers}
-pub use Rattle.auditor.proofs.OneByOne.{judged_is_narrow}
+pub use Rattle.rule_engine.proofs.OneByOne.{judged_is_narrow}
 pub use Rattle.auditor.proofs.OneStep.{IsOne, Ones, RulesAreReadInOneWay, agree_equal, ends_agree, graphs_then_agree}
 pub use Rattle.auditor.proofs.OneStep.{logs_then_one, roster_then_one, rules_then_one, steps_agree}
 pub use Rattle.auditor.proofs.OneVerdict.{one_place, verdicts_agree}
@@ -24,13 +24,14 @@ pub use Rattle.auditor.proofs.Pieces.{pair_more, pairs_all}
 pub use Rattle.auditor.proofs.PlainRules.{plain_rules}
 pub use Rattle.auditor.specs.Audits.{AndThen, FileThen, GivesReport, RulesThen, WithGraph, audit_files}
 pub use Rattle.auditor.specs.Audits.{WithLogs}
-pub use Rattle.auditor.specs.Judged.{AreJudged, IsFirstTooWide, nodes_of}
+pub use Rattle.rule_engine.specs.Judged.{AreJudged, IsFirstTooWide}
+pub use Rattle.auditor.specs.Nodes.{nodes_of}
 pub use Rattle.auditor.specs.OneReport.{FilesGiveOneReport}
 pub use Rattle.auditor.specs.Outcomes.{graph_has_finding, has_some, is_broken, is_unsettled, log_has_finding}
 pub use Rattle.auditor.specs.Outcomes.{outcome_by, outcome_of}
 pub use Rattle.auditor.specs.Report.{AuditReport, IsReport, ReportParts, report_of, report_on}
 pub use Rattle.auditor.specs.ReportText.{report_text}
-pub use Rattle.auditor.specs.Rows.{HaveMakers, row_of, row_said}
+pub use Rattle.survivor_rows.specs.Rows.{HaveMakers, row_of, row_said}
 pub use Rattle.auditor.specs.Same.{SameReport, SameVerdict}
 pub use Rattle.auditor.specs.Sources.{GivesRules, RuleSource, in_file, max_rules, rule_files, source_of, source_word}
 pub use Rattle.auditor.specs.Sources.{standard}

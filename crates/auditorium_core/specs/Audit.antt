@@ -11,7 +11,7 @@ use Rattle.entry_format.specs.Plains.{plains}
 use Rattle.rule_language.specs.Trees.{RuleTree}
 use Rattle.rule_meaning.specs.Meaning.{Holds}
 use Rattle.rule_engine.specs.declared.verdict.Verdict.TheVariants as verdict
-use Rattle.auditor.specs.Rows.{row_said}
+use Rattle.survivor_rows.specs.Rows.{row_said}
 use Rattle.auditor.specs.Report.{AuditReport}
 use Rattle.auditor.specs.Outcomes.{is_broken}
 use Rattle.auditor.specs.Audits.{GivesReport, audit_files}

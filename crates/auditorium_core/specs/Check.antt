@@ -16,8 +16,9 @@ use Rattle.evidence.specs.Refusal.{Refusal, refused}
 use Rattle.evidence.specs.RosterFile.{GivesRoster}
 use Rattle.evidence.specs.Logs.{GivesLogs}
 use Rattle.evidence.specs.Graphs.{entries_of, GivesGraph}
-use Rattle.auditor.specs.Rows.{row_of}
-use Rattle.auditor.specs.Judged.{nodes_of, IsFirstTooWide}
+use Rattle.survivor_rows.specs.Rows.{row_of}
+use Rattle.rule_engine.specs.Judged.{IsFirstTooWide}
+use Rattle.auditor.specs.Nodes.{nodes_of}
 use Rattle.auditor.specs.Audits.{AndThen, FileThen, RulesThen}
 use Rattle.auditor.specs.Sources.{RuleSource, source_word, rule_files}
 use Rattle.log_files.specs.Lines.{line}

@@ -8,7 +8,7 @@ use Rattle.evidence.specs.Refusal.{Refusal, too_long}
 use Rattle.evidence.specs.RosterFile.{GivesRoster}
 use Rattle.evidence.specs.Logs.{GivesLogs}
 use Rattle.evidence.specs.Graphs.{entries_of, GivesGraph}
-use Rattle.auditor.specs.Judged.{nodes_of}
+use Rattle.auditor.specs.Nodes.{nodes_of}
 use Rattle.auditor.specs.Audits.{AndThen, FileThen}
 use Rattle.log_files.specs.Lines.{line}
 use Rattle.command_line.specs.declared.status.Status.TheVariants as status

@@ -9,8 +9,8 @@ ghost use Rattle.audit_proof.specs.Lines.{IsProofOf};
 ghost use Rattle.evidence.specs.Graphs.{entries_of};
 ghost use Rattle.evidence.specs.Reading.{IsReadFrom, IsReadFromFile};
 ghost use Rattle.evidence.specs.Refusal.{IsAbsent, refusal_of};
-ghost use Rattle.auditor.specs.Judged.{nodes_of};
-ghost use Rattle.auditor.specs.Rows.{HaveMakers, row_of};
+ghost use Rattle.auditor.specs.Nodes.{nodes_of};
+ghost use Rattle.survivor_rows.specs.Rows.{HaveMakers, row_of};
 ghost use Rattle.auditor.specs.Sources.{rule_files};
 ghost use Rattle.command_line.specs.Reports.{source_named};
 ghost use Rattle.auditorium_core.specs.Check.{

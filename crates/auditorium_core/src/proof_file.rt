@@ -4,7 +4,7 @@ ghost use Rattle.entry_format.specs.Nodes.{node_of_sealed};
 ghost use Rattle.entry_graph.specs.EntryGraph.{IsEntryGraph};
 ghost use Rattle.evidence.specs.Reading.{IsReadFromFile};
 ghost use Rattle.evidence.specs.Refusal.{IsAbsent, refusal_of};
-ghost use Rattle.auditor.specs.Judged.{nodes_of};
+ghost use Rattle.auditor.specs.Nodes.{nodes_of};
 ghost use Rattle.auditorium_core.specs.ProofFile.{GivesProof, max_proof};
 
 use audit_proof::{Proof, ProofFault, read_proof};

@@ -6,7 +6,7 @@ ghost use Rattle.entry_format.specs.Nodes.{node_of_sealed};
 ghost use Rattle.entry_graph.specs.EntryGraph.{IsEntryGraph};
 ghost use Rattle.evidence.specs.Reading.{IsReadFrom};
 ghost use Rattle.evidence.specs.Refusal.{IsAbsent, refusal_of};
-ghost use Rattle.auditor.specs.Judged.{nodes_of};
+ghost use Rattle.auditor.specs.Nodes.{nodes_of};
 ghost use Rattle.auditorium_core.specs.Prove.{GivesMade, GivesText, proof_answer};
 ghost use Rattle.auditorium_core.specs.Words.{prove};
 ghost use Rattle.auditorium_core.specs.inside.Checking.{ProvesFiles, ProvesLogs};

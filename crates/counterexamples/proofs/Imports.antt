@@ -1,5 +1,5 @@
 -- What the proofs of this crate take from others.
-pub use Rattle.auditor.specs.Rows.{booth_of, kind_of, row_of}
+pub use Rattle.survivor_rows.specs.Rows.{booth_of, kind_of, row_of}
 pub use Rattle.booth_core.specs.declared.state.BoothNot.TheVariants.{LogNotWhole, NotAuthorised}
 pub use Rattle.counterexamples.specs.Example.{IsExample, a0, a1, b0, b1, c0, c1, digest_of, example_entry}
 pub use Rattle.counterexamples.specs.Example.{next_example, shown, without_b0}

@@ -31,7 +31,7 @@ ghost use Rattle.evidence.specs.Logs.{IsLogRefusal};
 ghost use Rattle.evidence.specs.Refusal.{IsAbsent, refusal_of};
 ghost use Rattle.evidence.specs.RosterFile.{max_roster};
 ghost use Rattle.auditor.specs.Audits.{WithLogs};
-ghost use Rattle.auditor.specs.Rows.{HaveMakers};
+ghost use Rattle.survivor_rows.specs.Rows.{HaveMakers};
 ghost use Rattle.auditor.specs.Sources.{standard};
 ghost use Rattle.auditor.specs.Outcomes.{is_broken, is_unsettled};
 ghost use Rattle.auditor.specs.Report.{report_of};

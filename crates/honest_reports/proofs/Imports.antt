@@ -1,12 +1,13 @@
 -- What the proofs of this crate take from others.
 pub use Rattle.auditor.specs.Audits.{AndThen, GivesReport, GivesVerdicts, WithGraph, WithLogs}
-pub use Rattle.auditor.specs.Judged.{AreJudged, IsFirstTooWide, nodes_of}
+pub use Rattle.rule_engine.specs.Judged.{AreJudged, IsFirstTooWide}
+pub use Rattle.auditor.specs.Nodes.{nodes_of}
 pub use Rattle.auditor.specs.Outcomes.{graph_has_finding, has_finding, has_some, is_broken, is_clean, is_unsettled}
 pub use Rattle.auditor.specs.Outcomes.{log_has_finding, outcome_by, outcome_of, outcome_word}
 pub use Rattle.auditor.specs.Report.{AuditReport, report_on}
 pub use Rattle.auditor.specs.ReportText.{break_line, entries_line, fork_lines, graph_lines, log_head_line, log_lines}
 pub use Rattle.auditor.specs.ReportText.{main_lines, report_text, rule_line, stray_lines}
-pub use Rattle.auditor.specs.Rows.{row_of}
+pub use Rattle.survivor_rows.specs.Rows.{row_of}
 pub use Rattle.auditor.specs.Sources.{GivesRules, RuleSource, in_file, standard}
 pub use Rattle.auditor.specs.declared.outcome.Outcome.{Outcome}
 pub use Rattle.auditor.specs.inside.Begun.{WithRoster, WithRules}

@@ -4,7 +4,7 @@ use Rattle.honest_reports.proofs.Imports.{AllZip, Contains, Script, node_of_seal
 use Rattle.honest_reports.proofs.Imports.{sent_in, GivesReport, files_read, Ok, Post, RuleTree, Verdict, standard_rules}
 use Rattle.honest_reports.proofs.Imports.{AreFilesOf, AuditReport, RuleSource, IsRosterOf, row_of}
 use Rattle.honest_reports.proofs.Imports.{IsHonestReport, Bool, true, false, codes, Contains-cons_cases, Contains-none}
-use Rattle.auditor.specs.Rows.{kind_of, row_said, session_of}
+use Rattle.survivor_rows.specs.Rows.{kind_of, row_said, session_of}
 use Rattle.entry_format.specs.declared.plain.Plain.{Plain}
 use Rattle.entry_format.specs.Nodes.{node_of}
 use Rattle.entry_format.specs.Plains.{plain_of, plains}

@@ -1,5 +1,5 @@
 -- What the proofs of this crate take from others.
-pub use Rattle.auditor.specs.Rows.{ballot_of, booth_of, kind_of, role_in, row_of, session_of}
+pub use Rattle.survivor_rows.specs.Rows.{ballot_of, booth_of, kind_of, role_in, row_of, session_of}
 pub use Rattle.booth_core.specs.Causes.{HasCommittedTo, IsAuthorised}
 pub use Rattle.deed_history.proofs.Deciding.{activates, activates_decides, authorises, authorises_booth}
 pub use Rattle.deed_history.proofs.Deciding.{authorises_booth_decides, authorises_decides, commits, commits_decides}

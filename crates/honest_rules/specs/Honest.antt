@@ -11,7 +11,7 @@ use Rattle.roster.specs.declared.post.Post.{Post}
 use Rattle.roster.specs.declared.post.Role.{Role}
 use Rattle.roster.specs.Machines.{HaveOneSupervisor}
 use Rattle.polling_world.specs.Rules.{RoleRefuses}
-use Rattle.auditor.specs.Rows.{role_in}
+use Rattle.survivor_rows.specs.Rows.{role_in}
 
 -- the role of machine m in the roster
 abbrev pub role_at : List Post → ℕ → Role

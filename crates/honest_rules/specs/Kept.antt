@@ -16,7 +16,7 @@ use Rattle.rule_meaning.specs.Sound.{HasNoDouble}
 use Rattle.rule_meaning.specs.Values.{three_in}
 use Rattle.rule_meaning.specs.Widths.{is_too_wide}
 use Rattle.rule_exactness.specs.Exact.{NoEarlyEnd}
-use Rattle.auditor.specs.Rows.{row_of}
+use Rattle.survivor_rows.specs.Rows.{row_of}
 use Rattle.honest_rules.specs.Honest.{IsHonest}
 
 -- each of the entries was sent in w

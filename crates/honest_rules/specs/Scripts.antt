@@ -15,7 +15,7 @@ use Rattle.polling_world.specs.Playing.{ComesTo}
 use Rattle.polling_world.specs.Sending.{AreMade}
 use Rattle.polling_world.specs.Worlds.{world_of}
 use Rattle.rule_exactness.specs.Exact.{NoEarlyEnd}
-use Rattle.auditor.specs.Rows.{row_of}
+use Rattle.survivor_rows.specs.Rows.{row_of}
 use Rattle.honest_rules.specs.Honest.{IsHonest}
 use Rattle.honest_rules.specs.Kept.{WereSentIn, AreAllOf, StandardRulesHold, NoneIsBroken, NoneIsTooWide}
 use Rattle.honest_rules.specs.Kept.{EachIsKept}

@@ -3,7 +3,7 @@ use Rattle.std.proofs.Common.{◌≡◌}
 use Rattle.live_auditor.proofs.Imports.{◌∙◌, ℕ, ◌+◌, ◌<◌, List, [], ◌∷◌, ◌++◌, length, get_or, take, ap, subst, inl}
 use Rattle.live_auditor.proofs.Imports.{inr, ◌≢◌, All, Contains, take_more, Contains-push_cases, IsNew, SealedEntry}
 use Rattle.live_auditor.proofs.Imports.{node_of_sealed, distinct, distinct_new, Post, HaveMakers, RuleTree}
-use Rattle.live_auditor.proofs.Imports.{IsTooWideOver, IsOfMachine, Unsummed, TooWide, IsUnsummed, sym, not, true, Ok}
+use Rattle.live_auditor.proofs.Imports.{IsTooWideOver, IsOfMachine, Unjudged, TooWide, IsUnsummed, sym, not, true, Ok}
 use Rattle.live_auditor.proofs.Imports.{arith, ◌≤◌, length-append, bytes_eq, bytes_eq-Decides, Contains-none, HasRoomFor}
 use Rattle.live_auditor.proofs.Imports.{Contains-cons_cases, EntryGraph, IsGraphOfGiven, IsSealedGraph, no_collision_new}
 use Rattle.entry_order.specs.Naming.{Distinct}
@@ -32,7 +32,7 @@ none_more entries digest i e within is none other f has =
     ]
 
 -- what has no summary as a rule is too wide is refused as such
-pub wide_over : (machines : List Post) (trees : List RuleTree) (entries : List SealedEntry) (fault : Unsummed)
+pub wide_over : (machines : List Post) (trees : List RuleTree) (entries : List SealedEntry) (fault : Unjudged)
     (place : ℕ) → IsUnsummed machines trees entries fault → fault ≡ TooWide place →
     IsTooWideOver machines trees entries place
 wide_over machines trees entries fault place given is = subst (IsUnsummed machines trees entries) is given

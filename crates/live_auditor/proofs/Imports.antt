@@ -1,10 +1,10 @@
 -- What the proofs of this crate take from others.
 pub use Rattle.auditor.proofs.Makers.{survivors_have_makers}
-pub use Rattle.auditor.proofs.OneByOne.{first_too_wide, judged_more, wide_by}
 pub use Rattle.auditor.proofs.OneVerdict.{verdicts_agree}
 pub use Rattle.auditor.specs.Same.{SameVerdict}
-pub use Rattle.auditor.specs.Judged.{AreJudged, IsFirstTooWide, nodes_of}
-pub use Rattle.auditor.specs.Rows.{HaveMakers, row_of}
+pub use Rattle.rule_engine.specs.Judged.{AreJudged, IsFirstTooWide, IsUnjudged}
+pub use Rattle.auditor.specs.Nodes.{nodes_of}
+pub use Rattle.survivor_rows.specs.Rows.{HaveMakers, row_of}
 pub use Rattle.auditor.specs.Sources.{standard}
 pub use Rattle.entry_format.proofs.OneEntry.{one_entry}
 pub use Rattle.entry_format.specs.EntryText.{IsSignedText}
@@ -40,22 +40,23 @@ pub use Rattle.live_auditor.specs.Same.{AreOneVerdict, OrdersGiveOneSummary}
 pub use Rattle.live_auditor.specs.Summary.{Summary}
 pub use Rattle.live_auditor.specs.declared.growth.Growth.{Growth}
 pub use Rattle.live_auditor.specs.declared.summary.Summed.{Summed}
-pub use Rattle.live_auditor.specs.declared.summary.Unsummed.{Unsummed}
-pub use Rattle.live_auditor.specs.declared.summary.Unsummed.TheVariants.{Memory, TooWide}
 pub use Rattle.live_auditor.specs.declared.usual.Usual.{Usual}
 pub use Rattle.live_auditor.specs.inside.Found.{FindsNames, IsApartBy, IsUsualBy}
 pub use Rattle.live_auditor.specs.inside.Grown.{AreJudgedOver, kept_with, said_with}
 pub use Rattle.live_auditor.specs.inside.Kept.{IsGraphed, IsKept, IsSummed, SurvivorsKept, link_to, live_of}
 pub use Rattle.live_auditor.specs.inside.Kept.{nodes_by}
 pub use Rattle.live_auditor.specs.inside.KeptOf.{IsSummedBy, kept_of}
-pub use Rattle.live_auditor.specs.inside.Unsummed.{IsUnjudged, IsUnsummed}
+pub use Rattle.live_auditor.specs.inside.Unsummed.{IsUnsummed}
 pub use Rattle.live_auditor.specs.inside.Usual.{AreMissing, AreParents, IsUsual, grown}
 pub use Rattle.precedence.specs.Graph.{Graph}
 pub use Rattle.precedence.specs.Known.{IsKnownOf, Known, known_before, known_whole}
 pub use Rattle.roster.specs.declared.post.Post.{Post}
 pub use Rattle.rule_engine.proofs.Graphs.{same_answer}
+pub use Rattle.rule_engine.proofs.OneByOne.{first_too_wide, judged_more, wide_by}
 pub use Rattle.rule_engine.specs.Growth.{ComesBeforeNone, Ready}
-pub use Rattle.rule_engine.specs.Verdicts.{IsJudgeAnswer, IsJudged}
+pub use Rattle.rule_engine.specs.Verdicts.{IsJudgeAnswer}
+pub use Rattle.rule_engine.specs.declared.rules.Unjudged.{Unjudged}
+pub use Rattle.rule_engine.specs.declared.rules.Unjudged.TheVariants.{Memory, TooWide}
 pub use Rattle.rule_engine.specs.declared.verdict.Verdict.{Verdict}
 pub use Rattle.rule_language.specs.Forms.{rule_tree}
 pub use Rattle.rule_language.specs.Trees.{RuleTree}

@@ -1,19 +1,16 @@
 -- What is kept of survivors, read off a graph.
 use Rattle.std.proofs.Common.{◌≡◌}
-use Rattle.live_auditor.proofs.Imports.{◌∙◌, ap, refl, sym, subst, ℕ, zero, suc, Bool, ◌+◌, ◌<◌, List, [], ◌∷◌, ◌++◌}
-use Rattle.live_auditor.proofs.Imports.{map, length, get_or, take, arith, length-append, inl, inr, Some, None}
-use Rattle.live_auditor.proofs.Imports.{slice_get, Result, Ok, Err, All, IfOk, IfSome, Contains, take_more}
+use Rattle.live_auditor.proofs.Imports.{◌∙◌, ap, refl, sym, subst, ℕ, Bool, ◌+◌, ◌<◌, List, [], ◌∷◌, ◌++◌}
+use Rattle.live_auditor.proofs.Imports.{map, length, get_or, take, arith, length-append, Some}
+use Rattle.live_auditor.proofs.Imports.{slice_get, Ok, All, take_more}
 use Rattle.live_auditor.proofs.Imports.{map-append, All-push, get_or_from_slice_get, slice_get-get_or}
-use Rattle.live_auditor.proofs.Imports.{Contains-cons_cases, Contains-none, survivors_are_no_strays, SealedEntry}
+use Rattle.live_auditor.proofs.Imports.{SealedEntry}
 use Rattle.live_auditor.proofs.Imports.{node_of_sealed, EntryGraph, Links, parents_in, ragged_in, parents_of}
-use Rattle.live_auditor.proofs.Imports.{ragged_of, distinct, distinct_given, IsSealedGraph, Post, Rule, Row}
-use Rattle.live_auditor.proofs.Imports.{rule_tree, RuleTree, Verdict, HaveMakers, row_of, HasRoomFor, IsOfMachine}
+use Rattle.live_auditor.proofs.Imports.{ragged_of, distinct, IsSealedGraph, Post, Rule, Row}
+use Rattle.live_auditor.proofs.Imports.{rule_tree, RuleTree, Verdict, HasRoomFor, IsOfMachine}
 use Rattle.live_auditor.proofs.Imports.{Summary, Summed, said_with, kept_with, SurvivorsKept, IsKept, IsSummed}
 use Rattle.live_auditor.proofs.Imports.{IsSummedBy, kept_of}
-use Rattle.std.proofs.Common.{Option}
 use Rattle.live_auditor.proofs.Additions.{once_more}
-use Rattle.live_auditor.proofs.Ends.{at_contains}
-use Rattle.live_auditor.proofs.Steps.{mapped_at}
 
 -- the first elements, mapped, and one more
 pub mapped_more : {X Y : Type 0} (f : X → Y) (xs : List X) (i : ℕ) (x : X) (y : Y) (ys new : List Y) → i < length xs →
@@ -111,37 +108,7 @@ kept_grown machines rules seen added listed now before summary old kept e gaps v
     kept_more machines rules trees added (listed ++ e ∷ []) now before summary old kept e is of_machine room
     (ap (λ (es : List SealedEntry). es ++ e ∷ []) all) stands (ap (map rule_tree) same) moved
 
--- the only survivor of one entry is this entry
-alone : (e x : SealedEntry) (entries : List SealedEntry) (graph : EntryGraph SealedEntry) → entries ≡ e ∷ [] →
-    IsSealedGraph entries (Ok graph) → Contains graph.survivors x → x ≡ e
-alone e x entries graph one graphed has =
-    let kept = (graphed.2.members x).0 has in
-    let first = ((survivors_are_no_strays node_of_sealed (distinct node_of_sealed entries) x).0 kept).0 in
-    let there = subst (λ es. Contains es x) one (distinct_given node_of_sealed entries x first) in
-    elim (Contains-cons_cases e [] x there) [ inl same ↦ sym same | inr none ↦ absurd (Contains-none x none) ]
-
--- where one entry is all, the first row is its row
-pub row_is : (machines : List Post) (e : SealedEntry) (entries : List SealedEntry) (graph : EntryGraph SealedEntry)
-    {E : Type 0} (found : Result (Option Row) E) → entries ≡ e ∷ [] → IsSealedGraph entries (Ok graph) →
-    IfOk found (λ o. IfSome o (λ row. slice_get (map (row_of machines) graph.survivors) 0 ≡ Some row)) →
-    IfOk found (λ o. IfSome o (λ row. row ≡ row_of machines e))
-row_is machines e entries graph (Err fault) one graphed first = tt
-row_is machines e entries graph (Ok None) one graphed first = tt
-row_is machines e entries graph (Ok (Some row)) one graphed first =
-    let (x, at, same) = mapped_at (row_of machines) graph.survivors 0 row first in
-    sym same ∙ ap (row_of machines) (alone e x entries graph one graphed (at_contains graph.survivors 0 x at))
-
 -- links with the same parents and the same mark are the same
 pub same_links : (parents others : List ℕ) (ragged torn : Bool) → parents ≡ others → ragged ≡ torn →
     ◌≡◌ {A = Links} (record { parents = parents; ragged = ragged }) (record { parents = others; ragged = torn })
 same_links parents others ragged torn p r = λ j. record { parents = p j; ragged = r j }
-
--- one entry of a machine has a maker
-pub makers_one : (machines : List Post) (e : SealedEntry) (entries : List SealedEntry) → entries ≡ e ∷ [] →
-    e.entry.maker < length machines → HaveMakers machines entries
-makers_one machines e entries one maker = subst (HaveMakers machines) (sym one) each
-  where
-    -- it is the only one
-    each : HaveMakers machines (e ∷ [])
-    each zero d within = maker
-    each (suc k) d within = absurd (omega (arith, within))

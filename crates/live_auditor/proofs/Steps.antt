@@ -10,7 +10,7 @@ use Rattle.live_auditor.proofs.Imports.{Contains-none, Contains-map, list_any_of
 use Rattle.live_auditor.proofs.Imports.{SealedEntry, node_of_sealed, EntryGraph, Links, IsGraphOfGiven, parents_of}
 use Rattle.live_auditor.proofs.Imports.{distinct, no_collision_new, IsSealedGraph, survivors_distinct, Row, rule_tree}
 use Rattle.live_auditor.proofs.Imports.{Verdict, AreJudged, IsFirstTooWide, nodes_of, row_of, HasRoomFor, LiveState}
-use Rattle.live_auditor.proofs.Imports.{Unsummed, TooWide, Memory, IsApartBy, IsUsualBy, said_with, kept_with}
+use Rattle.live_auditor.proofs.Imports.{Unjudged, TooWide, Memory, IsApartBy, IsUsualBy, said_with, kept_with}
 use Rattle.live_auditor.proofs.Imports.{SurvivorsKept, IsGraphed, Post, RuleTree, IsNew}
 use Rattle.live_auditor.proofs.Imports.{IsKept, IsSummed, link_to, nodes_by, IsUnjudged, IsUnsummed, IsUsual}
 use Rattle.live_auditor.proofs.Imports.{AreParents, AreMissing, grown}
@@ -219,7 +219,7 @@ module _ (live : LiveState) (kept : SurvivorsKept) (is : IsKept live kept) (e : 
       (is_next live.machines live.added first live.summary.gaps kept seen e room.0 low parents missing usual.apart)
 
   -- what refuses the rules with a usual entry more refuses them over all entries
-  pub unsummed_usual : (row : Row) → row ≡ row_of live.machines e → (fault : Unsummed) →
+  pub unsummed_usual : (row : Row) → row ≡ row_of live.machines e → (fault : Unjudged) →
       IsUnjudged (kept.rows ++ row ∷ []) (map rule_tree live.rules) fault →
       IsUnsummed live.machines (map rule_tree live.rules) (live.added ++ e ∷ []) fault
   unsummed_usual row same (TooWide place) found = (

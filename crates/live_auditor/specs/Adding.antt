@@ -9,8 +9,8 @@ use Rattle.evidence.specs.Graphs.{IsSealedGraph}
 use Rattle.roster.specs.declared.post.Post.{Post}
 use Rattle.rule_language.specs.Forms.{rule_tree}
 use Rattle.rule_language.specs.Trees.{RuleTree}
-use Rattle.auditor.specs.Judged.{IsFirstTooWide}
-use Rattle.auditor.specs.Rows.{row_of}
+use Rattle.rule_engine.specs.Judged.{IsFirstTooWide}
+use Rattle.survivor_rows.specs.Rows.{row_of}
 use Rattle.live_auditor.specs.Live.{LiveState, max_added}
 use Rattle.live_auditor.specs.declared.fresh.Fresh.{Fresh}
 use Rattle.live_auditor.specs.declared.fresh.Fresh.TheVariants.{New, Known}

@@ -6,8 +6,9 @@ use Rattle.evidence.specs.Graphs.{IsSealedGraph}
 use Rattle.roster.specs.declared.post.Post.{Post}
 use Rattle.rule_language.specs.Trees.{RuleTree}
 use Rattle.rule_engine.specs.declared.verdict.Verdict.{Verdict}
-use Rattle.auditor.specs.Judged.{AreJudged, nodes_of}
-use Rattle.auditor.specs.Rows.{row_of}
+use Rattle.rule_engine.specs.Judged.{AreJudged}
+use Rattle.auditor.specs.Nodes.{nodes_of}
+use Rattle.survivor_rows.specs.Rows.{row_of}
 
 -- how many entries survive, the gaps, the strays, the forks, and a verdict on each rule
 pub record Summary : Type 0 where

@@ -1,16 +1,17 @@
 //! What is kept of the entries with lower stamps, so that others can be put in between.
 ghost use Rattle.std.specs.Prelude.{◌≡◌, ◌≤◌, ◌++◌, ◌∷◌, [], map, IfOk, IsTrue, OnOk};
 ghost use Rattle.rule_language.specs.Forms.{rule_tree};
-ghost use Rattle.auditor.specs.Rows.{HaveMakers};
+ghost use Rattle.survivor_rows.specs.Rows.{HaveMakers};
 ghost use Rattle.live_auditor.specs.inside.Base.{IsBase};
 ghost use Rattle.live_auditor.specs.inside.Stamps.{from_stamp, lower};
 ghost use Rattle.live_auditor.specs.inside.Kept.{IsSummed};
 ghost use Rattle.live_auditor.specs.inside.KeptOf.{kept_of};
 
 use crate::borrowed::Borrowed;
-use crate::summary::{Summed, Unsummed, summed_of};
+use crate::summary::{Summed, summed_of};
 use entry_format::Sealed;
 use roster::Roster;
+use rule_engine::Unjudged;
 use rule_language::Rule;
 use std::alloc::{AllocError, Global};
 
@@ -34,7 +35,7 @@ pub(crate) fn base_of(
     rules: &[Rule],
     added: &[Sealed],
     below: u32,
-) -> Result<Base, Unsummed>
+) -> Result<Base, Unjudged>
     requires { HaveMakers roster.now.machines added.now }
     ensures bound { IfOk result (λ base. base.below ≡ below) }
     ensures ok { IfOk result (λ base. IsSummed roster.now.machines (map rule_tree rules.now)
@@ -138,8 +139,8 @@ pub(crate) fn raise_base(
             *base = found;
             Ok(below <= stamp)
         }
-        Err(Unsummed::TooWide(_)) => Ok(false),
-        Err(Unsummed::Memory) => Err(AllocError),
+        Err(Unjudged::TooWide { .. }) => Ok(false),
+        Err(Unjudged::Memory) => Err(AllocError),
     }
 }
 

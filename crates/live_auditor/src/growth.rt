@@ -8,22 +8,22 @@ ghost use Rattle.precedence.specs.Graph.{Graph as PathGraph};
 ghost use Rattle.precedence.specs.Known.{IsKnownOf, known_before, known_whole};
 ghost use Rattle.rule_language.specs.Forms.{rule_tree};
 ghost use Rattle.rule_engine.specs.Growth.{ComesBeforeNone};
-ghost use Rattle.auditor.specs.Judged.{AreJudged};
+ghost use Rattle.rule_engine.specs.Judged.{AreJudged, IsUnjudged};
 ghost use Rattle.live_auditor.specs.Adding.{HasRoomFor};
 ghost use Rattle.live_auditor.specs.Live.{IsOfMachine};
 ghost use Rattle.live_auditor.specs.inside.Grown.{AreJudgedOver, kept_with, said_with};
 ghost use Rattle.live_auditor.specs.inside.Kept.{IsKept, IsSummed, link_to, live_of, nodes_by};
 ghost use Rattle.live_auditor.specs.inside.KeptOf.{kept_of};
-ghost use Rattle.live_auditor.specs.inside.Unsummed.{IsUnjudged, IsUnsummed};
+ghost use Rattle.live_auditor.specs.inside.Unsummed.{IsUnsummed};
 
-use crate::summary::{Summary, Unsummed};
+use crate::summary::Summary;
 use crate::survivors::{Grown, Link, Survivors};
 use crate::usual::{Named, Usual, usual_in};
 use entry_format::Sealed;
 use entry_gaps::ascending;
 use precedence::Rows;
 use roster::Roster;
-use rule_engine::{Judge, JudgeFault, Verdict};
+use rule_engine::{Judge, JudgeFault, Unjudged, Verdict};
 use rule_language::{Row, Rule};
 use std::alloc::{AllocError, Global};
 use std::slice;
@@ -36,7 +36,7 @@ fn judge_each(
     judge: &Judge<'_>,
     count: usize,
     before: &[Verdict],
-) -> Result<Vec<Verdict>, Unsummed>
+) -> Result<Vec<Verdict>, Unjudged>
     requires first { count ≤ length judge.now.rows }
     requires later { ComesBeforeNone count (known_before judge.now.known) }
     requires before { AreJudgedOver (take count judge.now.rows) (known_before judge.now.known)
@@ -50,8 +50,8 @@ fn judge_each(
     for place in 0..rules.len() {
         match judge.judge_grown(alloc, &rules[place], count, &before[place]) {
             Ok(verdict) => verdicts.push(verdict)?,
-            Err(JudgeFault::TooWide) => return Err(Unsummed::TooWide(place)),
-            Err(JudgeFault::Memory) => return Err(Unsummed::Memory),
+            Err(JudgeFault::TooWide) => return Err(Unjudged::TooWide { place }),
+            Err(JudgeFault::Memory) => return Err(Unjudged::Memory),
         }
     }
     Ok(verdicts)
@@ -66,7 +66,7 @@ pub(crate) fn verdicts_by(
     links: &[Link],
     later: &[Link],
     before: &[Verdict],
-) -> Result<Vec<Verdict>, Unsummed>
+) -> Result<Vec<Verdict>, Unjudged>
     requires falls { Descends (parents_of (links.now ++ later.now)) }
     requires one_each { length rows.now ≡ length links.now + length later.now }
     requires few { length rows.now ≤ 16384 }
@@ -127,7 +127,7 @@ fn growth_by(
     summary: &Summary,
     survivors: &Survivors,
     usual: Usual,
-) -> Result<Growth, Unsummed>
+) -> Result<Growth, Unjudged>
     requires falls { Descends (parents_of (survivors.now.links.items
         ++ link_to usual.named.parents.items usual.named.missing.items ∷ [])) }
     requires one_each { length survivors.now.rows.items ≡ length survivors.now.links.items }
@@ -180,7 +180,7 @@ pub(crate) fn growth_of(
     summary: &Summary,
     survivors: &Survivors,
     entry: &Sealed,
-) -> Result<Option<Growth>, Unsummed>
+) -> Result<Option<Growth>, Unjudged>
     requires kept { IsKept (live_of roster.now.machines rules.now added.now summary.now)
         (kept_of survivors.now) }
     requires machine { IsOfMachine roster.now.machines entry.now }

@@ -4,8 +4,8 @@ ghost use Rattle.std.specs.Prelude.{IfOk, IfSome, IsTrue, OnOk};
 ghost use Rattle.entry_graph.specs.EntryGraph.{parents_of};
 ghost use Rattle.entry_order.specs.Ancestors.{Descends};
 ghost use Rattle.rule_language.specs.Forms.{rule_tree};
-ghost use Rattle.auditor.specs.Judged.{AreJudged};
-ghost use Rattle.auditor.specs.Rows.{HaveMakers};
+ghost use Rattle.rule_engine.specs.Judged.{AreJudged};
+ghost use Rattle.survivor_rows.specs.Rows.{HaveMakers};
 ghost use Rattle.live_auditor.specs.Adding.{HasRoomFor};
 ghost use Rattle.live_auditor.specs.Live.{IsOfMachine};
 ghost use Rattle.live_auditor.specs.inside.Base.{IsBase};
@@ -16,7 +16,7 @@ ghost use Rattle.live_auditor.specs.inside.KeptOf.{kept_of};
 use crate::base::{Base, MOST_LATER, later_with};
 use crate::borrowed::Borrowed;
 use crate::growth::{gaps_with, verdicts_by};
-use crate::summary::{Summary, Summed, Unsummed};
+use crate::summary::{Summary, Summed};
 use crate::survivors::{Link, Survivors};
 use crate::usual::{Named, apart_names};
 use auditor::{ShowsSealed, rows};
@@ -25,6 +25,7 @@ use entry_graph::Graph;
 use entry_order::Knot;
 use precedence::Arrows;
 use roster::Roster;
+use rule_engine::Unjudged;
 use rule_language::{Row, Rule};
 use std::alloc::{AllocError, Global};
 
@@ -157,8 +158,8 @@ fn summed_after(
             },
             survivors: tail.survivors,
         })),
-        Err(Unsummed::TooWide(_)) => Ok(None),
-        Err(Unsummed::Memory) => Err(AllocError),
+        Err(Unjudged::TooWide { .. }) => Ok(None),
+        Err(Unjudged::Memory) => Err(AllocError),
     }
 }
 

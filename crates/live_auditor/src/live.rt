@@ -16,13 +16,13 @@ use crate::fresh::{Fresh, LiveFault};
 use crate::growth::growth_of;
 use crate::late::summed_late;
 use crate::seen::{Seen, seen_among};
-use crate::summary::{Summary, Unsummed, summed_of};
+use crate::summary::{Summary, summed_of};
 use crate::survivors::Survivors;
 use crate::widths::first_too_wide;
 use entry_format::Sealed;
 use evidence::entries_give_one_graph;
 use roster::Roster;
-use rule_engine::Verdict;
+use rule_engine::{Unjudged, Verdict};
 use rule_language::Rule;
 use std::alloc::{AllocError, Global};
 use std::marker::Model;
@@ -155,8 +155,8 @@ impl Live {
                 self.added.push_reserved(s);
                 Ok(Fresh::New)
             }
-            Err(Unsummed::TooWide(place)) => Err(LiveFault::TooWide(s, place)),
-            Err(Unsummed::Memory) => Err(LiveFault::Memory),
+            Err(Unjudged::TooWide { place }) => Err(LiveFault::TooWide(s, place)),
+            Err(Unjudged::Memory) => Err(LiveFault::Memory),
         }
     }
 
@@ -219,8 +219,8 @@ impl Live {
                 self.survivors = summed.survivors;
                 Ok(Fresh::New)
             }
-            Err(Unsummed::TooWide(place)) => Err(LiveFault::TooWide(s, place)),
-            Err(Unsummed::Memory) => Err(LiveFault::Memory),
+            Err(Unjudged::TooWide { place }) => Err(LiveFault::TooWide(s, place)),
+            Err(Unjudged::Memory) => Err(LiveFault::Memory),
         }
     }
 

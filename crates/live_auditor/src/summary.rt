@@ -1,14 +1,13 @@
 //! What is said of entries.
 ghost use Rattle.std.specs.Prelude.{◌≡◌, ◌+◌, ◌<◌, ◌≤◌, length, map, IfOk, IfErr};
 ghost use Rattle.rule_language.specs.Forms.{rule_tree};
-ghost use Rattle.auditor.specs.Judged.{AreJudged, nodes_of};
-ghost use Rattle.auditor.specs.Rows.{HaveMakers, row_of};
+ghost use Rattle.rule_engine.specs.Judged.{AreJudged, IsUnjudged};
+ghost use Rattle.auditor.specs.Nodes.{nodes_of};
+ghost use Rattle.survivor_rows.specs.Rows.{HaveMakers, row_of};
 ghost use Rattle.live_auditor.specs.inside.Grown.{said_with};
 ghost use Rattle.live_auditor.specs.inside.Kept.{IsSummed};
 ghost use Rattle.live_auditor.specs.inside.KeptOf.{IsSummedBy, kept_of};
-ghost use Rattle.live_auditor.specs.inside.Unsummed.{IsUnjudged, IsUnsummed};
-ghost use Rattle.precedence.specs.Graph.{Graph as PathGraph};
-ghost use Rattle.precedence.specs.Known.{IsKnownOf, known_count};
+ghost use Rattle.live_auditor.specs.inside.Unsummed.{IsUnsummed};
 
 use crate::borrowed::Borrowed;
 use crate::survivors::Survivors;
@@ -16,9 +15,9 @@ use auditor::rows;
 use entry_graph::Graph;
 use precedence::{Arrows, Rows};
 use roster::Roster;
-use rule_engine::{Judge, JudgeFault, Verdict};
+use rule_engine::{Unjudged, Verdict, judge_all};
 use rule_language::{Row, Rule};
-use std::alloc::{AllocError, AllocFailed, Global};
+use std::alloc::{AllocError, Global};
 use std::marker::Model;
 
 /// What is said of entries.
@@ -71,69 +70,13 @@ impl Summary {
     }
 }
 
-/// Why nothing is said of entries.
-#[derive(Clone, Copy)]
-pub(crate) enum Unsummed {
-    /// The rule at this place, counted from 0, is the first that is too wide.
-    TooWide(usize),
-    Memory,
-}
-
-impl From<AllocError> for Unsummed {
-    ghost use Rattle.std.specs.Prelude.{◌≡◌};
-    ghost use Rattle.live_auditor.specs.declared.summary.Unsummed.TheVariants.{Memory};
-
-    ghost from_gives = { λ _ e. e ≡ Memory };
-
-    fn from(_refused: AllocError) -> Unsummed {
-        Unsummed::Memory
-    }
-}
-
-impl<T: Drop> From<AllocFailed<T>> for Unsummed {
-    ghost use Rattle.std.specs.Prelude.{◌≡◌};
-    ghost use Rattle.live_auditor.specs.declared.summary.Unsummed.TheVariants.{Memory};
-
-    ghost from_gives = { λ _ e. e ≡ Memory };
-
-    fn from(_refused: AllocFailed<T>) -> Unsummed {
-        Unsummed::Memory
-    }
-}
-
-/// Judges the rules in their order by the survivors' rows and their order, up to the first that is
-/// too wide.
-fn judge_all(
-    alloc: Global,
-    rules: &[Rule],
-    rows: &[Row],
-    order: &Rows,
-) -> Result<Vec<Verdict>, Unsummed>
-    requires { length rows.now ≡ known_count order.now }
-    ensures ok { IfOk result (λ verdicts. (graph : PathGraph) → IsKnownOf graph order.now →
-        AreJudged rows.now graph (map rule_tree rules.now) verdicts.items) }
-    ensures err { IfErr result (λ fault. (graph : PathGraph) → IsKnownOf graph order.now →
-        IsUnjudged rows.now (map rule_tree rules.now) fault) }
-{
-    let judge = Judge::over(alloc, rows, order)?;
-    let mut verdicts = Vec::with_capacity(alloc, rules.len())?;
-    for place in 0..rules.len() {
-        match judge.judge(alloc, &rules[place]) {
-            Ok(verdict) => verdicts.push(verdict)?,
-            Err(JudgeFault::TooWide) => return Err(Unsummed::TooWide(place)),
-            Err(JudgeFault::Memory) => return Err(Unsummed::Memory),
-        }
-    }
-    Ok(verdicts)
-}
-
 /// Judges the rules by the survivors' rows and the graph.
 fn judge_over(
     alloc: Global,
     rules: &[Rule],
     rows: &[Row],
     graph: &Graph<Borrowed<'_>>,
-) -> Result<Vec<Verdict>, Unsummed>
+) -> Result<Vec<Verdict>, Unjudged>
     requires one_each { length rows.now ≡ length graph.now.survivors }
     requires few { length graph.now.survivors ≤ 16384 }
     requires linked { length graph.now.links ≡ length graph.now.survivors }
@@ -185,7 +128,7 @@ fn summed_by(
     roster: &Roster,
     rules: &[Rule],
     graph: &Graph<Borrowed<'_>>,
-) -> Result<Summed, Unsummed>
+) -> Result<Summed, Unjudged>
     requires makers { HaveMakers roster.now.machines graph.now.survivors }
     requires few { length graph.now.survivors ≤ 16384 }
     requires linked { length graph.now.links ≡ length graph.now.survivors }
@@ -211,7 +154,7 @@ pub(crate) fn summed_of(
     roster: &Roster,
     rules: &[Rule],
     entries: Vec<Borrowed<'_>>,
-) -> Result<Summed, Unsummed>
+) -> Result<Summed, Unjudged>
     requires { HaveMakers roster.now.machines entries.items }
     ensures ok { IfOk result (λ summed. IsSummed roster.now.machines (map rule_tree rules.now)
         entries.entry.items summed.summary (kept_of summed.survivors)) }
@@ -220,6 +163,6 @@ pub(crate) fn summed_of(
 {
     match Graph::make(alloc, entries) {
         Ok(graph) => summed_by(alloc, roster, rules, &graph),
-        Err(_) => Err(Unsummed::Memory),
+        Err(_) => Err(Unjudged::Memory),
     }
 }

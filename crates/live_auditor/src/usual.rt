@@ -1,20 +1,18 @@
 //! Whether an entry is usual: one after which nothing needs to be said anew of the other survivors.
-ghost use Rattle.std.specs.Prelude.{◌≡◌, ◌<◌, ◌≤◌, ◌&&◌, ◌==◌, nat_lt, length, map, slice_get};
+ghost use Rattle.std.specs.Prelude.{◌≡◌, ◌<◌, ◌≤◌, ◌&&◌, ◌==◌, nat_lt, length, slice_get};
 ghost use Rattle.std.specs.Prelude.{IfNone, IfOk, IfSome, Some};
 ghost use Rattle.std.specs.List.{Contains, list_all, list_any};
 ghost use Rattle.std.specs.Str.{bytes_eq};
-ghost use Rattle.auditor.specs.Rows.{HaveMakers, row_of};
+ghost use Rattle.survivor_rows.specs.Rows.{row_of};
 ghost use Rattle.live_auditor.specs.inside.Found.{FindsNames, IsApartBy, IsUsualBy};
 
-use crate::borrowed::Borrowed;
 use crate::survivors::Survivors;
-use auditor::rows;
 use entry_format::Sealed;
-use entry_graph::Graph;
 use entry_order::Knot;
 use roster::Roster;
 use rule_language::Row;
 use std::alloc::{AllocError, Global};
+use survivor_rows::row_of;
 
 /// The most survivors of a graph.
 const MOST_SURVIVORS: usize = 16_384;
@@ -119,34 +117,6 @@ fn usual_names(
     apart_names(alloc, gaps, survivors, entry)
 }
 
-/// The row of the entry, unless it names itself.
-fn row_alone(alloc: Global, roster: &Roster, entry: &Sealed) -> Result<Option<Row>, AllocError>
-    requires { entry.now.entry.maker < length roster.now.machines }
-    ensures { IfOk result (λ found. IfSome found
-        (λ row. row ≡ row_of roster.now.machines entry.now)) }
-{
-    let mut alone = Vec::with_capacity(alloc, 1)?;
-    alone.push(Borrowed::of(entry))?;
-    match Graph::make(alloc, alone) {
-        Ok(graph) => first_row(alloc, roster, &graph),
-        Err(_) => Ok(None),
-    }
-}
-
-/// The row of the first survivor.
-fn first_row(
-    alloc: Global,
-    roster: &Roster,
-    graph: &Graph<Borrowed<'_>>,
-) -> Result<Option<Row>, AllocError>
-    requires { HaveMakers roster.now.machines graph.now.survivors }
-    ensures { IfOk result (λ found. IfSome found (λ row.
-        slice_get (map (row_of roster.now.machines) graph.now.survivors) 0 ≡ Some row)) }
-{
-    let rows = rows(alloc, graph, roster)?;
-    Ok(rows.as_slice().first().copied())
-}
-
 /// What a usual entry is for the survivors: what it names among them, and its row.
 #[derive(Drop)]
 pub(crate) struct Usual {
@@ -173,8 +143,8 @@ pub(crate) fn usual_in(
     let Some(named) = usual_names(alloc, added, gaps, survivors, entry)? else {
         return Ok(None);
     };
-    match row_alone(alloc, roster, entry)? {
-        Some(row) => Ok(Some(Usual { named, row })),
-        None => Ok(None),
-    }
+    Ok(Some(Usual {
+        named,
+        row: row_of(roster, entry),
+    }))
 }

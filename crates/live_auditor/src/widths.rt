@@ -1,6 +1,6 @@
 //! The first rule that is too wide.
 ghost use Rattle.std.specs.Prelude.{ℕ, map, IfNone, IfSome};
-ghost use Rattle.auditor.specs.Judged.{IsFirstTooWide};
+ghost use Rattle.rule_engine.specs.Judged.{IsFirstTooWide};
 ghost use Rattle.rule_language.specs.Forms.{rule_tree};
 
 use rule_language::{Row, Rule};

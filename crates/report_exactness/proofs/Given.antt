@@ -28,8 +28,9 @@ use Rattle.rule_language.specs.Trees.{RuleTree}
 use Rattle.rule_language.specs.Standard.{standard_rules}
 use Rattle.rule_engine.specs.declared.verdict.Verdict.{Verdict}
 use Rattle.auditor.specs.Audits.{AndThen, RulesThen, GivesReport, GivesVerdicts, WithGraph, WithLogs}
-use Rattle.auditor.specs.Judged.{nodes_of, AreJudged}
-use Rattle.auditor.specs.Rows.{row_of}
+use Rattle.rule_engine.specs.Judged.{AreJudged}
+use Rattle.auditor.specs.Nodes.{nodes_of}
+use Rattle.survivor_rows.specs.Rows.{row_of}
 use Rattle.auditor.specs.Report.{AuditReport, IsReport, report_on}
 use Rattle.auditor.specs.Sources.{RuleSource, standard, in_file, GivesRules}
 use Rattle.auditor.proofs.Makers.{survivors_have_makers, logs_have_makers, a_log_each}

@@ -28,9 +28,10 @@ use Rattle.rule_engine.specs.Verdicts.{IsJudged}
 use Rattle.rule_exactness.specs.Exact.{IsMade, IsWellFormed, AreWellFormed, MayComplete, IsOpen}
 use Rattle.rule_exactness.proofs.AllRules.{standard_rules_are_exact}
 use Rattle.rule_exactness.proofs.TwoSided.{two_sided_rules_are_exact}
-use Rattle.auditor.specs.Rows.{row_of, row_said}
+use Rattle.survivor_rows.specs.Rows.{row_of, row_said}
 use Rattle.auditor.specs.Report.{AuditReport, IsReport}
-use Rattle.auditor.specs.Judged.{nodes_of, AreJudged}
+use Rattle.rule_engine.specs.Judged.{AreJudged}
+use Rattle.auditor.specs.Nodes.{nodes_of}
 use Rattle.auditor.proofs.Lower.{no_double}
 use Rattle.report_exactness.specs.ReportExact.{MayBe, rows_of, MayBeEither, UnsettledIsExact, ReportsAreExact}
 use Rattle.report_exactness.proofs.Said.{made, plain_can_say, made_said, made_rising, made_digest, made_election}

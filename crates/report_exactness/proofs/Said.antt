@@ -27,7 +27,7 @@ use Rattle.rule_language.specs.declared.kind.Kind.{Kind}
 use Rattle.rule_language.specs.declared.kind.Kind.TheVariants as kind
 use Rattle.rule_language.specs.Kinds.{has_session, has_ballot, has_booth}
 use Rattle.rule_exactness.specs.Exact.{Saying, CanSay, AreDigests, IsMade, IsWellFormed}
-use Rattle.auditor.specs.Rows.{row_said, kind_of, session_of, ballot_of, booth_of}
+use Rattle.survivor_rows.specs.Rows.{row_said, kind_of, session_of, ballot_of, booth_of}
 
 -- the deed of a kind
 abbrev pub deed_said : Kind → ℕ → List ℕ → ℕ → Deed

@@ -15,7 +15,7 @@ use Rattle.rule_engine.specs.declared.verdict.Verdict.TheVariants as verdict
 use Rattle.rule_exactness.specs.TwoSided.{IsTwoSided}
 use Rattle.rule_exactness.specs.Exact.{IsOpen, NoEarlyEnd}
 use Rattle.auditor.specs.Audits.{GivesReport}
-use Rattle.auditor.specs.Rows.{row_said}
+use Rattle.survivor_rows.specs.Rows.{row_said}
 use Rattle.auditor.specs.Report.{AuditReport}
 use Rattle.auditor.specs.Sources.{RuleSource}
 

@@ -14,7 +14,7 @@ use Rattle.log_files.specs.declared.sealed_log.Kept.{Kept}
 use Rattle.log_files.specs.declared.sealed_log.LogRead.{LogRead}
 use Rattle.auditor.specs.Report.{AuditReport}
 use Rattle.auditor.specs.ReportText.{maker_name}
-use Rattle.auditor.specs.Rows.{session_of}
+use Rattle.survivor_rows.specs.Rows.{session_of}
 use Rattle.report_page.specs.declared.words.TheConstants.{A_LOST_ONE}
 use Rattle.report_page.specs.Cells.{TableRow, text_cell, number_cell, places_cell}
 

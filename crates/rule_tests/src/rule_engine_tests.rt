@@ -1,7 +1,7 @@
 use listed_graphs::{Listed, ListedGraph};
 use precedence::{Arrows, Rows};
 use roster::Role;
-use rule_engine::{JudgeFault, Verdict, judge};
+use rule_engine::{JudgeFault, Unjudged, Verdict, judge, judge_all};
 use rule_language::{Kind, Row, Rule, read, standard};
 use std::alloc::{AllocError, Global};
 use std::test::Fail;
@@ -331,5 +331,48 @@ fn a_rule_may_be_as_wide_as_the_limit(rt: HostRuntime) -> Result<(), Fail> {
     for &(count, want) in WIDTHS {
         assert!(rt; is_wide(rt.alloc(), count, want)?, "{count}");
     }
+    Ok(())
+}
+
+/// Rules of which the second is too wide over 129 entries, and no other.
+const SEVERAL: &str = "(rule A (every x entry (kind x opened)))
+(rule B (every a entry (every b entry (every c entry (every d entry (kind a cast))))))
+(rule C (every x entry (kind x cast)))";
+
+/// The verdicts in words, one after another.
+fn words_of(alloc: Global, verdicts: Vec<Verdict>) -> Result<String, Fail> {
+    let mut words = String::new(alloc);
+    for verdict in verdicts {
+        write!(words, " {}", word_of(alloc, Ok(verdict))?)?;
+    }
+    Ok(words)
+}
+
+/// The verdicts on all rules, or the place of the first that is too wide.
+fn answers_together(alloc: Global, rules: &[Rule], place: &Place) -> Result<String, Fail> {
+    if place.graph.count() > 16384 {
+        return Ok(String::new(alloc));
+    }
+    let order = Rows::make(alloc, &place.graph)?;
+    if place.rows.len() != order.count() {
+        return Ok(String::new(alloc));
+    }
+    match judge_all(alloc, rules, &place.rows, &order) {
+        Ok(verdicts) => words_of(alloc, verdicts),
+        Err(Unjudged::TooWide { place }) => Ok(format!(in alloc; " W {place}")?),
+        Err(Unjudged::Memory) => Ok(String::from_str(alloc, " memory")?),
+    }
+}
+
+#[test]
+fn several_rules_are_judged_or_the_first_that_is_too_wide_is_named(
+    rt: HostRuntime,
+) -> Result<(), Fail> {
+    let alloc = rt.alloc();
+    let rules = read(alloc, SEVERAL.as_bytes())?;
+    let few = answers_together(alloc, &rules, &crowd_of(alloc, 2)?)?;
+    let many = answers_together(alloc, &rules, &crowd_of(alloc, 129)?)?;
+    assert_eq!(rt; few.as_str(), " K B[0, 0, 0, 0] B[0]");
+    assert_eq!(rt; many.as_str(), " W 1");
     Ok(())
 }

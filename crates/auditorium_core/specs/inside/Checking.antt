@@ -12,8 +12,9 @@ use Rattle.evidence.specs.declared.roster_file.RosterRead.{RosterRead}
 use Rattle.evidence.specs.Refusal.{Refusal}
 use Rattle.evidence.specs.Logs.{GivesLogs}
 use Rattle.evidence.specs.Graphs.{entries_of, GivesGraph}
-use Rattle.auditor.specs.Rows.{row_of}
-use Rattle.auditor.specs.Judged.{nodes_of, IsFirstTooWide}
+use Rattle.survivor_rows.specs.Rows.{row_of}
+use Rattle.rule_engine.specs.Judged.{IsFirstTooWide}
+use Rattle.auditor.specs.Nodes.{nodes_of}
 use Rattle.auditor.specs.Audits.{AndThen, RulesThen}
 use Rattle.auditor.specs.Sources.{RuleSource}
 use Rattle.auditorium_core.specs.declared.check.Checked.{Checked}

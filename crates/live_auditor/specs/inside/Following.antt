@@ -8,7 +8,7 @@ use Rattle.entry_order.specs.Ascending.{ascending}
 use Rattle.entry_order.specs.Naming.{Distinct}
 use Rattle.roster.specs.declared.post.Post.{Post}
 use Rattle.rule_language.specs.declared.row.Row.{Row}
-use Rattle.auditor.specs.Rows.{row_of}
+use Rattle.survivor_rows.specs.Rows.{row_of}
 use Rattle.live_auditor.specs.declared.base.Base.{Base}
 use Rattle.live_auditor.specs.declared.late.Tail.{Tail}
 use Rattle.live_auditor.specs.inside.Found.{IsApartBy}

@@ -8,7 +8,7 @@ use Rattle.precedence.specs.Graph.{Graph}
 use Rattle.roster.specs.declared.post.Post.{Post}
 use Rattle.rule_language.specs.declared.formula.Rule.{Rule}
 use Rattle.rule_language.specs.declared.row.Row.{Row}
-use Rattle.auditor.specs.Rows.{row_of}
+use Rattle.survivor_rows.specs.Rows.{row_of}
 use Rattle.rule_language.specs.Trees.{RuleTree}
 use Rattle.live_auditor.specs.Live.{LiveState, IsLive}
 use Rattle.live_auditor.specs.Summary.{Summary, After}

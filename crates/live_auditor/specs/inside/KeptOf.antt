@@ -4,8 +4,9 @@ use Rattle.entry_format.specs.SealedEntry.{SealedEntry}
 use Rattle.entry_graph.specs.EntryGraph.{EntryGraph}
 use Rattle.roster.specs.declared.post.Post.{Post}
 use Rattle.rule_language.specs.Trees.{RuleTree}
-use Rattle.auditor.specs.Judged.{AreJudged, nodes_of}
-use Rattle.auditor.specs.Rows.{row_of}
+use Rattle.rule_engine.specs.Judged.{AreJudged}
+use Rattle.auditor.specs.Nodes.{nodes_of}
+use Rattle.survivor_rows.specs.Rows.{row_of}
 use Rattle.live_auditor.specs.declared.summary.Summed.{Summed}
 use Rattle.live_auditor.specs.declared.survivors.Survivors.{Survivors}
 use Rattle.live_auditor.specs.inside.Kept.{SurvivorsKept, AreSurvivorsOf}

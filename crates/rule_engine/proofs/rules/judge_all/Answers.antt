@@ -1,7 +1,7 @@
-use Rattle.live_auditor.proofs.Imports.{◌+◌, List, arith, map, take, sym, subst, Ok, Err, take_all, IsKnownOf, Rule}
-use Rattle.live_auditor.proofs.Imports.{rule_tree, Ready, IsJudged, Verdict, AreJudged, judged_more, first_too_wide}
-use Rattle.live_auditor.proofs.Imports.{wide_by}
-use Rattle.live_auditor.proofs.summary.judge_all.Goals as goal
+use Rattle.rule_engine.proofs.Imports.{◌+◌, List, arith, map, take, sym, subst, Ok, Err, take_all, IsKnownOf, Rule}
+use Rattle.rule_engine.proofs.Imports.{rule_tree, Ready, IsJudged, Verdict, AreJudged}
+use Rattle.rule_engine.proofs.OneByOne.{judged_more, first_too_wide, wide_by}
+use Rattle.rule_engine.proofs.rules.judge_all.Goals as goal
 
 pub returns-in-Err-TooWide-clause-err : goal.returns-in-Err-TooWide-clause-err
 returns-in-Err-TooWide-clause-err c = λ graph known.

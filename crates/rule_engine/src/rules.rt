@@ -1,27 +1,32 @@
 //! Judging rules one after another.
-ghost use Rattle.std.specs.Prelude.{◌≡◌, length, map, IfOk, IfErr};
+ghost use Rattle.std.specs.Prelude.{◌≡◌, IfErr, IfOk, length, map};
 ghost use Rattle.precedence.specs.Graph.{Graph};
 ghost use Rattle.precedence.specs.Known.{IsKnownOf, known_count};
 ghost use Rattle.rule_language.specs.Forms.{rule_tree};
-ghost use Rattle.auditor.specs.Judged.{AreJudged};
-ghost use Rattle.auditor.specs.inside.Unjudged.{IsUnjudged};
+ghost use Rattle.rule_engine.specs.Judged.{AreJudged, IsUnjudged};
 
+use crate::ready::Judge;
+use crate::verdict::{JudgeFault, Verdict};
 use precedence::Rows;
-use rule_engine::{JudgeFault, Verdict, judge};
 use rule_language::{Row, Rule};
 use std::alloc::{AllocError, AllocFailed, Global};
+use thiserror::Error;
 
 /// Why rules aren't judged.
-#[derive(Clone, Copy)]
-pub(crate) enum Unjudged {
-    /// The rule at this place, counted from 0, is the first that is too wide.
-    TooWide(usize),
+#[derive(Clone, Copy, Debug, PartialEq, Eq, Error)]
+pub enum Unjudged {
+    #[error("rule {place}: quantifiers go over more than 268,435,456 entries together")]
+    TooWide {
+        /// The place of the first rule that is too wide, counted from 0.
+        place: usize,
+    },
+    #[error("out of memory")]
     Memory,
 }
 
 impl From<AllocError> for Unjudged {
     ghost use Rattle.std.specs.Prelude.{◌≡◌};
-    ghost use Rattle.auditor.specs.declared.judging.Unjudged.TheVariants.{Memory};
+    ghost use Rattle.rule_engine.specs.declared.rules.Unjudged.TheVariants.{Memory};
 
     ghost from_gives = { λ _ e. e ≡ Memory };
 
@@ -32,7 +37,7 @@ impl From<AllocError> for Unjudged {
 
 impl<T: Drop> From<AllocFailed<T>> for Unjudged {
     ghost use Rattle.std.specs.Prelude.{◌≡◌};
-    ghost use Rattle.auditor.specs.declared.judging.Unjudged.TheVariants.{Memory};
+    ghost use Rattle.rule_engine.specs.declared.rules.Unjudged.TheVariants.{Memory};
 
     ghost from_gives = { λ _ e. e ≡ Memory };
 
@@ -41,9 +46,12 @@ impl<T: Drop> From<AllocFailed<T>> for Unjudged {
     }
 }
 
-/// Judges the rules in their order by the survivors' rows and their order, up to the first that is
-/// too wide.
-pub(crate) fn judge_all(
+/// Judges the rules in their order by the survivors' rows and their order.
+///
+/// # Errors
+///
+/// `TooWide` of the first rule that is too wide, after which none is judged; or `Memory`.
+pub fn judge_all(
     alloc: Global,
     rules: &[Rule],
     rows: &[Row],
@@ -55,11 +63,12 @@ pub(crate) fn judge_all(
     ensures err { IfErr result (λ fault. (graph : Graph) → IsKnownOf graph order.now →
         IsUnjudged rows.now (map rule_tree rules.now) fault) }
 {
-    let mut verdicts = Vec::new(alloc);
+    let judge = Judge::over(alloc, rows, order)?;
+    let mut verdicts = Vec::with_capacity(alloc, rules.len())?;
     for place in 0..rules.len() {
-        match judge(alloc, &rules[place], rows, order) {
+        match judge.judge(alloc, &rules[place]) {
             Ok(verdict) => verdicts.push(verdict)?,
-            Err(JudgeFault::TooWide) => return Err(Unjudged::TooWide(place)),
+            Err(JudgeFault::TooWide) => return Err(Unjudged::TooWide { place }),
             Err(JudgeFault::Memory) => return Err(Unjudged::Memory),
         }
     }

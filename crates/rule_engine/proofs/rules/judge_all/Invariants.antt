@@ -1,5 +1,5 @@
-use Rattle.live_auditor.proofs.Imports.{map, take, Graph, IsKnownOf, rule_tree, AreJudged}
-use Rattle.live_auditor.proofs.summary.judge_all.Given as goal
+use Rattle.rule_engine.proofs.Imports.{map, take, Graph, IsKnownOf, rule_tree, AreJudged}
+use Rattle.rule_engine.proofs.rules.judge_all.Given as goal
 
 -- the verdicts on the rules so far
 abbrev pub invariant-loop-place : goal.invariant-loop-place

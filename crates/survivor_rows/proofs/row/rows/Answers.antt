@@ -1,6 +1,6 @@
-use Rattle.auditor.proofs.Imports.{rules, ◌∙◌, ◌<◌, ap, length, subst, sym, SealedEntry, row_of}
-use Rattle.auditor.proofs.Makers.{rows_more, maker_at}
-use Rattle.auditor.proofs.row.rows.Goals as goal
+use Rattle.survivor_rows.proofs.Imports.{rules, ◌∙◌, ◌<◌, ap, length, subst, sym, SealedEntry, row_of}
+use Rattle.survivor_rows.proofs.Survivors.{rows_more, maker_at}
+use Rattle.survivor_rows.proofs.row.rows.Goals as goal
 
 pub loop-i-preserved : goal.loop-i-preserved
 loop-i-preserved g c = record {

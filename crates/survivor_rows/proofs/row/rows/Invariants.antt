@@ -1,5 +1,5 @@
-use Rattle.auditor.proofs.Imports.{◌≡◌, ◌≤◌, map, take, vec_capacity, row_of}
-use Rattle.auditor.proofs.row.rows.Given as goal
+use Rattle.survivor_rows.proofs.Imports.{◌≡◌, ◌≤◌, map, take, vec_capacity, row_of}
+use Rattle.survivor_rows.proofs.row.rows.Given as goal
 
 -- the rows of the survivors so far, and room for the rest
 abbrev pub invariant-loop-i : goal.invariant-loop-i

@@ -1,7 +1,7 @@
 //! What rules see of the survivors.
 ghost use Rattle.std.specs.Prelude.{◌≡◌, ◌<◌, length, map, IfOk};
 ghost use Rattle.entry_format.specs.SealedEntry.{SealedEntry};
-ghost use Rattle.auditor.specs.Rows.{HaveMakers, kind_of, session_of, ballot_of, booth_of, row_of};
+ghost use Rattle.survivor_rows.specs.Rows.{HaveMakers, kind_of, session_of, ballot_of, booth_of, row_of};
 
 use entry_format::{Deed, How, Sealed};
 use entry_graph::{Graph, SignedText};
@@ -50,8 +50,8 @@ pub fn rows<T: ShowsSealed + Drop>(
     Ok(rows)
 }
 
-/// What a rule sees of the entry.
-fn row_of(roster: &Roster, sealed: &Sealed) -> Row
+/// What a rule sees of the entry, which was unsealed with this roster. It takes no memory.
+pub fn row_of(roster: &Roster, sealed: &Sealed) -> Row
     requires { sealed.now.entry.maker < length roster.now.machines }
     ensures { result ≡ row_of roster.now.machines sealed.now }
 {

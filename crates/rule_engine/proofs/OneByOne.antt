@@ -1,9 +1,8 @@
 -- Rules judged one after another.
-use Rattle.auditor.proofs.Imports.{◌≡◌, ◌∙◌, ℕ, zero, suc, ◌+◌, ◌<◌, List, [], ◌∷◌, ◌++◌, length, take, get_or, map}
-use Rattle.auditor.proofs.Imports.{true, false, ap, sym, subst, arith, Some, slice_get, Ok, Err, all_zipped_more}
-use Rattle.auditor.proofs.Imports.{take_more, map-append, Graph, Rule, Row, RuleTree, rule_tree, is_too_wide}
-use Rattle.auditor.proofs.Imports.{IsJudged, Verdict, JudgeFault, Memory, AreJudged, IsFirstTooWide}
-use Rattle.rule_engine.specs.declared.verdict.JudgeFault.TheVariants.{TooWide}
+use Rattle.rule_engine.proofs.Imports.{◌≡◌, ◌∙◌, ℕ, zero, suc, ◌+◌, ◌<◌, List, [], ◌∷◌, ◌++◌, length, take, get_or, map}
+use Rattle.rule_engine.proofs.Imports.{true, false, ap, sym, subst, arith, Some, slice_get, Ok, Err, all_zipped_more}
+use Rattle.rule_engine.proofs.Imports.{take_more, map-append, Graph, Rule, Row, RuleTree, rule_tree, is_too_wide}
+use Rattle.rule_engine.proofs.Imports.{IsJudged, Verdict, JudgeFault, Memory, TooWide, AreJudged, IsFirstTooWide}
 
 -- the first rules and one more
 trees_more : (rules : List Rule) (i : ℕ) (rule : Rule) → i < length rules → rule ≡ get_or rules i rule →

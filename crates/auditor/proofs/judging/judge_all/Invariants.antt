@@ -1,8 +1,0 @@
-use Rattle.auditor.proofs.Imports.{map, take, Graph, IsKnownOf, rule_tree, AreJudged}
-use Rattle.auditor.proofs.judging.judge_all.Given as goal
-
--- the verdicts on the rules so far
-abbrev pub invariant-loop-place : goal.invariant-loop-place
-invariant-loop-place l =
-    (graph : Graph) → IsKnownOf graph l.order →
-    AreJudged l.rows graph (map rule_tree (take l.place l.rules)) l.verdicts.items

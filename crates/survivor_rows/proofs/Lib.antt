@@ -1,0 +1,2 @@
+mod Imports
+pub mod Survivors
