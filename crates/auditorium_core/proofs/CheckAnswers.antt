@@ -7,7 +7,7 @@ use Rattle.auditorium_core.proofs.Imports.{EntryGraph, LogRead, RuleTree, Line, 
 use Rattle.auditorium_core.proofs.Imports.{Refusal, refused, too_long, refusal_of, IsAbsent, IsFaultOf, GivesLogs}
 use Rattle.auditorium_core.proofs.Imports.{entries_of, GivesGraph, OnOneFile, IsReadFrom, IsReadFromFile, of_refusal}
 use Rattle.auditorium_core.proofs.Imports.{on_refusal, read_then, read_ends, some_as_read, AndThen, nodes_of, row_of}
-use Rattle.auditorium_core.proofs.Imports.{RuleSource, standard, in_file, source_word, max_rules, GivesRules, Checked}
+use Rattle.auditorium_core.proofs.Imports.{RuleSource, standard, in_file, source_word, Checked}
 use Rattle.auditorium_core.proofs.Imports.{Unchecked, source_named, CheckReport, ChecksFiles, ChecksLines, ChecksLogs}
 use Rattle.auditorium_core.proofs.Imports.{ChecksProof, max_proof, GivesProof, report_by, IsUnchecked}
 use Rattle.auditorium_core.proofs.Imports.{of_one, on_one, and_then, and_refused}
@@ -24,12 +24,6 @@ pub long_proof : (name : List ℕ) (graph : Graph) (this : Option (List ℕ)) �
     IsFileRefused max_proof file.TooLong this → GivesProof name graph this (Err (too_long name))
 long_proof name graph None is = absurd is
 long_proof name graph (Some bytes) is = inl (is, refl)
-
--- a file of rules that is too long is refused as too long
-pub long_rules : (name : List ℕ) (this : Option (List ℕ)) → IsFileRefused max_rules file.TooLong this →
-    GivesRules name this (Err (too_long name))
-long_rules name None is = absurd is
-long_rules name (Some bytes) is = inl (is, refl)
 
 -- rules are named in a refusal by the word that named them
 pub names_itself : (word : List ℕ) → source_word (source_named word) ≡ word

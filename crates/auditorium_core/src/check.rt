@@ -40,10 +40,9 @@ ghost use Rattle.auditorium_core.specs.inside.Meaning.{IsReadAs};
 ghost use Rattle.auditorium_core.specs.inside.Promise.{IsAnsweredBy};
 
 use crate::proof_file::read_proof_file;
-use crate::rules_file::read_rules;
 use crate::words::Request;
 use audit_proof::{CheckFault, Proof, Verdict};
-use auditor::{RulesFrom, rows};
+use auditor::{RulesFrom, read_rules, rows};
 use command_line::{Answer, Fault, Status, are_logs, rules_from};
 use entry_graph::Graph;
 use evidence::{AuditFault, RosterRead, graph_from, read_logs, read_roster};

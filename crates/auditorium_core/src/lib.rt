@@ -24,7 +24,6 @@ mod program;
 mod proof_file;
 mod prove;
 mod repair;
-mod rules_file;
 mod run;
 mod script_file;
 mod watch;

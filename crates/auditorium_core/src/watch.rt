@@ -44,16 +44,15 @@ ghost use Rattle.auditorium_core.specs.inside.Watching.{
   second_half,
 };
 
-use crate::rules_file::read_rules;
 use crate::words::Request;
-use auditor::{Outcome, RulesFrom, rows};
+use auditor::{RulesFrom, outcome_of, read_rules, rows};
 use command_line::{Answer, Fault, Status, are_logs, rules_from, status_by};
 use entry_format::Sealed;
 use entry_graph::Graph;
 use evidence::{AuditFault, RosterRead, entries_give_one_graph, graph_of, read_logs, read_roster};
 use hall_outside::Store;
 use live_auditor::{Live, LiveFault};
-use log_files::{End, Kept, LogRead};
+use log_files::{Kept, LogRead};
 use roster::Roster;
 use rule_engine::Verdict;
 use rule_language::{Rule, standard};
@@ -555,69 +554,5 @@ pub(crate) fn watch<S: Store>(
     match watch_all(alloc, store, roster, rules, logs) {
         Ok(answer) => Ok(answer),
         Err(fault) => Answer::of_fault(alloc, &fault),
-    }
-}
-
-/// Whether the log has a refused record, an end that isn't clean, or a break.
-fn log_has_finding(log: &LogRead) -> bool
-    ensures { result ≡ log_has_finding log.now }
-{
-    !log.refused.is_empty() || !matches!(log.end, End::Clean) || log.broke.is_some()
-}
-
-/// Whether the graph has a stray, a fork or a gap.
-fn graph_has_finding(graph: &Graph) -> bool
-    ensures { result ≡ graph_has_finding graph.now }
-{
-    !graph.strays().is_empty() || !graph.forks().is_empty() || !graph.gaps().is_empty()
-}
-
-fn is_broken(verdict: &Verdict) -> bool
-    ensures { result ≡ is_broken verdict.now }
-{
-    matches!(verdict, Verdict::Broken(_))
-}
-
-fn is_unsettled(verdict: &Verdict) -> bool
-    ensures { result ≡ is_unsettled verdict.now }
-{
-    matches!(verdict, Verdict::Unsettled)
-}
-
-/// Whether one of the logs has a finding.
-fn logs_have_finding(logs: &[LogRead]) -> bool
-    ensures { result ≡ list_any log_has_finding logs.now }
-{
-    logs.iter().any(|log| log_has_finding(log))
-}
-
-/// Whether some rule is broken.
-fn some_are_broken(verdicts: &[Verdict]) -> bool
-    ensures { result ≡ list_any is_broken verdicts.now }
-{
-    verdicts.iter().any(|verdict| is_broken(verdict))
-}
-
-/// Whether some rule is unsettled.
-fn some_are_unsettled(verdicts: &[Verdict]) -> bool
-    ensures { result ≡ list_any is_unsettled verdicts.now }
-{
-    verdicts.iter().any(|verdict| is_unsettled(verdict))
-}
-
-/// What these logs, this graph and these verdicts come to.
-fn outcome_of(logs: &[LogRead], graph: &Graph, verdicts: &[Verdict]) -> Outcome
-    ensures { result ≡ outcome_by (list_any is_broken verdicts.now)
-        (list_any is_unsettled verdicts.now)
-        (list_any log_has_finding logs.now || graph_has_finding graph.now) }
-{
-    if some_are_broken(verdicts) {
-        Outcome::Broken
-    } else if some_are_unsettled(verdicts) {
-        Outcome::Unsettled
-    } else if logs_have_finding(logs) || graph_has_finding(graph) {
-        Outcome::Findings
-    } else {
-        Outcome::Kept
     }
 }
