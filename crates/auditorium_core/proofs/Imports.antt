@@ -33,7 +33,7 @@ pub use Rattle.auditor.specs.Report.{AuditReport, IsReport, ReportParts, report_
 pub use Rattle.auditor.specs.ReportText.{report_text}
 pub use Rattle.survivor_rows.specs.Rows.{HaveMakers, row_of, row_said}
 pub use Rattle.auditor.specs.Same.{SameReport, SameVerdict}
-pub use Rattle.auditor.specs.Sources.{GivesRules, RuleSource, in_file, max_rules, rule_files, source_of, source_word}
+pub use Rattle.auditor.specs.Sources.{RuleSource, in_file, rule_files, source_of, source_word}
 pub use Rattle.auditor.specs.Sources.{standard}
 pub use Rattle.auditor.specs.declared.outcome.Outcome.{Outcome}
 pub use Rattle.auditor.specs.inside.Begun.{WithRoster, WithRules}
