@@ -45,7 +45,7 @@ roster         .               entry_format     .               .
 .              .               .                .               office_key
 item_list      canonical_sexp  .                lms_sign        hss_sign
 .              hall_outside    hall_text        lms_ots         .
-page_markup    folder_calls    .                .               .
+page_markup    folder_calls    .                ways_of_work    .
 """
 
 # Blue, vermilion and bluish green can be told apart by everybody (Okabe and Ito).

@@ -19,7 +19,7 @@ unfoldable pub use Rattle.lms_sign.specs.Tree.{interior, leaf, lms_public, lms_s
 pub use Rattle.lms_sign.specs.declared.leaves.Leaf.{Leaf}
 pub use Rattle.lms_sign.specs.declared.secret.SignFault.{SignFault}
 pub use Rattle.lms_sign.specs.declared.secret.SignFault.TheVariants.{Memory}
-pub use Rattle.lms_sign.specs.inside.Leaves.{AreBlank, IsLeaf}
+pub use Rattle.lms_sign.specs.inside.Leaves.{AreBlank}
 pub use Rattle.lms_sign.specs.inside.Nodes.{HoldsFrom, HoldsTree}
 pub use Rattle.sha2.proofs.Facts256.{length-sha256}
 pub use Rattle.std.proofs.Common.{Bool, Bor, Err, IsTrue, List, Ok, Result, [], add-one, ap, arith, bit_xor, drop}

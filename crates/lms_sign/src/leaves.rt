@@ -7,19 +7,12 @@ ghost use Rattle.lms_sign.specs.inside.Leaves.{AreBlank, AreLeaves, IsLeaf};
 use crate::nodes::{leaf, leaf_count};
 use lms_ots::{OtsKind, ots_public_into};
 use std::alloc::{AllocError, Global};
-use std::thread::{self, Threads};
-
-// The most threads that make a key. There are more of them than most machines have processors, so
-// that one which is held up delays the others by a small part of the work only.
-const MOST_THREADS: usize = 16;
-
-// The bytes that have to be free for threads to be started, and are kept free until they have
-// ended. So a limit on the address space, which their stacks take up, leaves room for the rest.
-const ROOM: usize = 67_108_864;
+use std::thread::Threads;
+use ways_of_work::{Alone, InThreads, Work, each_in_threads, each_in_turn};
 
 /// A leaf of a tree: its value, and the checkpoints of its one-time key.
 #[derive(Drop)]
-pub(crate) struct Leaf {
+pub struct Leaf {
     pub(crate) value: [u8; 32],
     pub(crate) checkpoints: Vec<[u8; 32]>,
 }
@@ -45,69 +38,67 @@ pub(crate) fn blank_leaves(
     Ok(leaves)
 }
 
-// Makes all leaves.
-pub(crate) fn make_leaves(
-    kind: OtsKind,
-    height: u32,
-    id: &[u8; 16],
-    seed: &[u8; 32],
-    leaves: &mut [Leaf],
-)
-    requires height { IsHeight height }
-    requires count { length leaves.old ≡ 2 ^ height }
-    requires room { AreBlank kind leaves.old }
-    ensures { AreLeaves kind height id.now seed.now leaves.new }
-{
-    'leaves: for q in 0..leaf_count(height) {
-        make_leaf(kind, height, id, seed, q as usize, &mut leaves[q as usize]);
+/// A way to work by which trees get their leaves.
+pub trait LeafWork: Work {
+    /// Makes all leaves of a tree.
+    fn make_leaves(
+        &self,
+        alloc: Global,
+        kind: OtsKind,
+        height: u32,
+        id: &[u8; 16],
+        seed: &[u8; 32],
+        leaves: &mut [Leaf],
+    )
+        requires shared { Self.may_share self.now }
+        requires height { IsHeight height }
+        requires count { length leaves.old ≡ 2 ^ height }
+        requires room { AreBlank kind leaves.old }
+        ensures { AreLeaves kind height id.now seed.now leaves.new };
+}
+
+impl LeafWork for Alone {
+    fn make_leaves(
+        &self,
+        _alloc: Global,
+        kind: OtsKind,
+        height: u32,
+        id: &[u8; 16],
+        seed: &[u8; 32],
+        leaves: &mut [Leaf],
+    ) {
+        each_in_turn(
+            leaves,
+            &|q: usize, leaf: &mut Leaf|
+                requires { IsHeight height × (q < 2 ^ height)
+                    × (vec_len leaf.now.checkpoints ≤ checkpoint_count kind) }
+                ensures { IsLeaf kind height id.entry.now seed.entry.now q leaf.exit.now }
+            { make_leaf(kind, height, id, seed, q, leaf) },
+        );
     }
 }
 
-// Makes all leaves, in threads if there is room for them.
-pub(crate) fn make_leaves_in<R: Threads + Sync>(
-    rt: &R,
-    alloc: Global,
-    kind: OtsKind,
-    height: u32,
-    id: &[u8; 16],
-    seed: &[u8; 32],
-    leaves: &mut [Leaf],
-)
-    requires height { IsHeight height }
-    requires count { length leaves.old ≡ 2 ^ height }
-    requires room { AreBlank kind leaves.old }
-    ensures { AreLeaves kind height id.now seed.now leaves.new }
-{
-    match Vec::<u8>::with_capacity(alloc, ROOM) {
-        Ok(_room) => make_each_in(rt, kind, height, id, seed, leaves),
-        Err(_) => make_leaves(kind, height, id, seed, leaves),
+impl<R: Threads + Sync> LeafWork for InThreads<'_, R> {
+    fn make_leaves(
+        &self,
+        alloc: Global,
+        kind: OtsKind,
+        height: u32,
+        id: &[u8; 16],
+        seed: &[u8; 32],
+        leaves: &mut [Leaf],
+    ) {
+        each_in_threads(
+            self.rt,
+            alloc,
+            leaves,
+            &|q: usize, leaf: &mut Leaf|
+                requires { IsHeight height × (q < 2 ^ height)
+                    × (vec_len leaf.now.checkpoints ≤ checkpoint_count kind) }
+                ensures { IsLeaf kind height id.entry.now seed.entry.now q leaf.exit.now }
+            { make_leaf(kind, height, id, seed, q, leaf) },
+        );
     }
-}
-
-// Makes all leaves, in threads.
-fn make_each_in<R: Threads + Sync>(
-    rt: &R,
-    kind: OtsKind,
-    height: u32,
-    id: &[u8; 16],
-    seed: &[u8; 32],
-    leaves: &mut [Leaf],
-)
-    requires height { IsHeight height }
-    requires count { length leaves.old ≡ 2 ^ height }
-    requires room { AreBlank kind leaves.old }
-    ensures { AreLeaves kind height id.now seed.now leaves.new }
-{
-    thread::for_each_mut(
-        rt,
-        leaves,
-        MOST_THREADS,
-        &|q: usize, leaf: &mut Leaf|
-            requires { IsHeight height × (q < 2 ^ height)
-                × (vec_len leaf.now.checkpoints ≤ checkpoint_count kind) }
-            ensures { IsLeaf kind height id.entry.now seed.entry.now q leaf.exit.now }
-        { make_leaf(kind, height, id, seed, q, leaf) },
-    );
 }
 
 // Makes leaf `q`.

@@ -18,7 +18,7 @@ ghost use Rattle.lms_sign.specs.Secret.{public_of, signed_by};
 ghost use Rattle.lms_sign.specs.Signs.{Signs, index_in, lms_signature_len};
 ghost use Rattle.lms_sign.specs.inside.Leaves.{AreLeaves};
 
-use crate::leaves::{Leaf, blank_leaves, make_leaves, make_leaves_in};
+use crate::leaves::{Leaf, LeafWork, blank_leaves};
 use crate::nodes::{leaf_count, nodes_of, write_path};
 use crate::public::{LmsPublic, lms_typecode, signature_len};
 use lms_ots::{OtsKind, ots_sign_into, u32_bytes, write_at};
@@ -26,6 +26,7 @@ use std::alloc::{AllocError, Global};
 use std::marker::Model;
 use std::thread::Threads;
 use thiserror::Error;
+use ways_of_work::{Alone, InThreads};
 
 /// Out of memory.
 pub type Memory = AllocError;
@@ -98,7 +99,7 @@ impl LmsSecret {
           next = 0;
         }) }
     {
-        LmsSecret::make_at(alloc, kind, height, id, seed, 0)
+        LmsSecret::make_by(&Alone, alloc, kind, height, id, seed)
     }
 
     /// The key whose indexes before `next` are used up. `height` is 5 or 10.
@@ -120,8 +121,54 @@ impl LmsSecret {
           next = next;
         }) }
     {
+        LmsSecret::make_at_by(&Alone, alloc, kind, height, id, seed, next)
+    }
+
+    /// The key of `make`, whose leaves are made in this way.
+    pub fn make_by<W: LeafWork>(
+        work: &W,
+        alloc: Global,
+        kind: OtsKind,
+        height: u32,
+        id: [u8; 16],
+        seed: [u8; 32],
+    ) -> Result<LmsSecret, Memory>
+        requires shared { W.may_share work.now }
+        requires height { IsHeight height }
+        ensures { IfOk result (λ s. s ≡ record {
+          kind = kind;
+          height = height;
+          id = id;
+          seed = seed;
+          next = 0;
+        }) }
+    {
+        LmsSecret::make_at_by(work, alloc, kind, height, id, seed, 0)
+    }
+
+    /// The key of `make_at`, whose leaves are made in this way.
+    pub fn make_at_by<W: LeafWork>(
+        work: &W,
+        alloc: Global,
+        kind: OtsKind,
+        height: u32,
+        id: [u8; 16],
+        seed: [u8; 32],
+        next: u32,
+    ) -> Result<LmsSecret, Memory>
+        requires shared { W.may_share work.now }
+        requires height { IsHeight height }
+        requires next { next ≤ 2 ^ height }
+        ensures { IfOk result (λ s. s ≡ record {
+          kind = kind;
+          height = height;
+          id = id;
+          seed = seed;
+          next = next;
+        }) }
+    {
         let mut leaves = blank_leaves(alloc, kind, height)?;
-        make_leaves(kind, height, &id, &seed, leaves.as_mut_slice());
+        work.make_leaves(alloc, kind, height, &id, &seed, leaves.as_mut_slice());
         LmsSecret::of_leaves(alloc, kind, height, id, seed, next, leaves)
     }
 
@@ -143,7 +190,7 @@ impl LmsSecret {
           next = 0;
         }) }
     {
-        LmsSecret::make_at_in(rt, alloc, kind, height, id, seed, 0)
+        LmsSecret::make_by(&InThreads { rt }, alloc, kind, height, id, seed)
     }
 
     /// The key of `make_at`, whose leaves are made in threads.
@@ -166,9 +213,7 @@ impl LmsSecret {
           next = next;
         }) }
     {
-        let mut leaves = blank_leaves(alloc, kind, height)?;
-        make_leaves_in(rt, alloc, kind, height, &id, &seed, leaves.as_mut_slice());
-        LmsSecret::of_leaves(alloc, kind, height, id, seed, next, leaves)
+        LmsSecret::make_at_by(&InThreads { rt }, alloc, kind, height, id, seed, next)
     }
 
     // The key of these leaves.
