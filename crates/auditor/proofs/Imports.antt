@@ -27,7 +27,6 @@ pub use Rattle.entry_order.proofs.Lists.{Contains-at, Contains-cons_cases, Conta
 pub use Rattle.entry_order.proofs.Lists.{Contains-later, Contains-map}
 pub use Rattle.entry_order.specs.Ancestors.{Descends, before, is_whole, reaches}
 pub use Rattle.entry_order.specs.Node.{Node}
-pub use Rattle.entry_order.specs.Survivors.{is_stray}
 pub use Rattle.entry_order.specs.declared.three.Three.{Three}
 pub use Rattle.entry_order.specs.declared.three.Three.TheVariants.{False, True, Unknown}
 pub use Rattle.evidence.proofs.FilesRead.{not_read, was_read}

@@ -3,7 +3,7 @@ use Rattle.auditor.proofs.Imports.{◌≡◌, ℕ, suc, ◌+◌, ◌<◌, List, 
 use Rattle.auditor.proofs.Imports.{sym, subst, refl, inl, inr, Option, Some, None, All, Result, Ok, Err}
 use Rattle.auditor.proofs.Imports.{Contains, filter, bytes_eq, All-contains}
 use Rattle.auditor.proofs.Imports.{All-from_recursion, Contains-get_or, Sexp, Post, EntryFault}
-use Rattle.auditor.proofs.Imports.{SealedEntry, node_of_sealed, is_stray, Contains-at, Contains-later}
+use Rattle.auditor.proofs.Imports.{SealedEntry, node_of_sealed, Contains-at, Contains-later}
 use Rattle.auditor.proofs.Imports.{Contains-cons_cases, Contains-filter_cases, LogRead, kept_of, Gives, EachGives}
 use Rattle.auditor.proofs.Imports.{IsReadSealed, IsSealedLogOf, distinct, EntryGraph, AreForks, GivesLogs}
 use Rattle.auditor.proofs.Imports.{entries_of_records, entries_of, GivesGraph, HaveMakers}
@@ -45,11 +45,8 @@ pub survivors_have_makers : (machines : List Post) (given : List SealedEntry) (g
 survivors_have_makers machines given graph makers gives = λ k d within.
     let e : SealedEntry = get_or graph.survivors k d in
     let kept = (gives.2.members e).0 (Contains-get_or graph.survivors k d within) in
-    let first = Contains-filter_cases (λ (f : SealedEntry).
-    not (is_stray node_of_sealed (distinct node_of_sealed given) f))
-    (distinct node_of_sealed given) e kept in
     All-contains (λ (sealed : SealedEntry). sealed.entry.maker < length machines) given e makers
-    (distinct_is_given given e first.0)
+    (distinct_is_given given e kept.0)
 
 -- each entry's maker is a machine, one entry after another
 abbrev Each : List Post → List SealedEntry → Type 0

@@ -3,8 +3,8 @@ use Rattle.auditorium_core.proofs.Imports.{None, ◌≡◌, ◌≢◌, ◌∙◌
 use Rattle.auditorium_core.proofs.Imports.{inr, refl, sym, ap, subst, take-append-drop, Result, Ok, Err, count_by}
 use Rattle.auditorium_core.proofs.Imports.{filter, cond-false, Contains-append_left, length-filter, slice_get-get_or}
 use Rattle.auditorium_core.proofs.Imports.{Script, node_of_sealed, SealedEntry, EntryGraph, parents_of, ragged_of}
-use Rattle.auditorium_core.proofs.Imports.{distinct, distinct_given, Distinct, is_stray, World, sent_in, Contains-head}
-use Rattle.auditorium_core.proofs.Imports.{Contains-later, Contains-filter_cases, member_at, LogRead, Post}
+use Rattle.auditorium_core.proofs.Imports.{distinct, distinct_given, Distinct, World, sent_in, Contains-head}
+use Rattle.auditorium_core.proofs.Imports.{Contains-later, member_at, LogRead, Post}
 use Rattle.auditorium_core.proofs.Imports.{standard_rules, RuleTree, three_in, roster_of, election_of, RosterRead}
 use Rattle.auditorium_core.proofs.Imports.{entries_of, GivesLogs, Refusal, refused, IsHonestWorld}
 use Rattle.auditorium_core.proofs.Imports.{IsOfScript, left_agrees, scripts_are_honest, IsHonest, WereSentIn}
@@ -13,7 +13,7 @@ use Rattle.auditorium_core.proofs.Imports.{is_broken, outcome_of, row_of, standa
 use Rattle.auditorium_core.proofs.Imports.{Answer, refusal_answer, AreSummaries, Evidence, GivesEvidence}
 use Rattle.auditorium_core.proofs.Imports.{GivesSummaries, Watches, watch_answer, BreaksNoRule}
 use Rattle.auditorium_core.proofs.Imports.{HonestWatchesBreakNoRule}
-use Rattle.std.proofs.Common.{Bool, false, not, Option}
+use Rattle.std.proofs.Common.{Bool, false, Option}
 use Rattle.std.specs.Prelude.{All, length, codes}
 use Rattle.std.specs.List.{Contains}
 use Rattle.entry_order.specs.declared.three.Three.TheVariants as three
@@ -52,9 +52,7 @@ module _ (script : Script) (w : World SealedEntry) (roster : Option (List ℕ)) 
   survivors_sent : (es : List SealedEntry) → WereSent es → (graph : EntryGraph SealedEntry) →
       IsSealedGraph es (Ok graph) → WereSentIn w graph.survivors
   survivors_sent es sent graph graphed e inside =
-      let kept = Contains-filter_cases (λ (f : SealedEntry). not (is_stray node_of_sealed (distinct node_of_sealed es) f))
-      (distinct node_of_sealed es) e ((graphed.2.members e).0 inside) in
-      sent e (distinct_given node_of_sealed es e kept.0)
+      sent e (distinct_given node_of_sealed es e ((graphed.2.members e).0 inside).0)
 
   -- over survivors of entries that were sent no standard rule is too wide
   never_too_wide : (es : List SealedEntry) → WereSent es → (at : ℕ) → ¬ IsTooWideOver posts standard_rules es at

@@ -154,14 +154,13 @@ pub use Rattle.entry_graph.specs.declared.fault.GraphFault.{GraphFault}
 pub use Rattle.entry_order.proofs.Completions.{paths_are_settled}
 pub use Rattle.entry_order.proofs.Filled.{completions_exist, order_is_exact}
 pub use Rattle.entry_order.proofs.Images.{completion_seen, order_back, order_seen, whole_back, whole_seen}
-pub use Rattle.entry_order.proofs.Lists.{Contains-filter_cases, Contains-head, Contains-later, Contains-map}
+pub use Rattle.entry_order.proofs.Lists.{Contains-head, Contains-later, Contains-map}
 pub use Rattle.entry_order.proofs.Lists.{Contains-map_cases, Contains-none}
 pub use Rattle.entry_order.proofs.Machines.{length_play, length_start}
 pub use Rattle.entry_order.proofs.MergedOrder.{worlds_have_one_merged_order}
 pub use Rattle.entry_order.proofs.Naming.{has_digest_from, has_digest_of}
 pub use Rattle.entry_order.proofs.Orders.{one_order}
 pub use Rattle.entry_order.proofs.Places.{all_from_places, element_at, last_at, member_at, one_at, push_before}
-pub use Rattle.entry_order.proofs.Strays.{survivors_are_no_strays}
 pub use Rattle.entry_order.specs.Ancestors.{before, is_whole, reaches}
 pub use Rattle.entry_order.specs.Completion.{Completion}
 pub use Rattle.entry_order.specs.Exact.{AreSurvivors}
@@ -172,7 +171,6 @@ pub use Rattle.entry_order.specs.Node.{Node}
 pub use Rattle.entry_order.specs.Precedes.{IsPath, Precedes}
 pub use Rattle.entry_order.specs.Receipt.{OrderIsReceiptIn, OrderIsReceiptInOrderlyWorlds, StampsRise}
 pub use Rattle.entry_order.specs.Settled.{GraphsAreExact, IsGraphOf, IsWhole, PathsAreSettled}
-pub use Rattle.entry_order.specs.Survivors.{is_stray}
 pub use Rattle.entry_order.specs.World.{World, happens, history, sent_in, start}
 pub use Rattle.entry_order.specs.declared.event.Event.{Event}
 pub use Rattle.entry_order.specs.declared.step.Step.{Step}

@@ -2,7 +2,7 @@
 use Rattle.std.proofs.Common.{length}
 use Rattle.auditorium_core.proofs.Imports.{◌≡◌, ◌∙◌, ◌<◌, List, [], refl, sym, ap, subst, Ok, All-contains}
 use Rattle.auditorium_core.proofs.Imports.{Completion, Contains-none, Contains-map, Contains-map_cases}
-use Rattle.auditorium_core.proofs.Imports.{survivors_are_no_strays, Post, Plain, SealedEntry, node_of, node_of_sealed}
+use Rattle.auditorium_core.proofs.Imports.{Post, Plain, SealedEntry, node_of, node_of_sealed}
 use Rattle.auditorium_core.proofs.Imports.{EntryGraph, GivesGraph, survivors_distinct, HaveMakers}
 use Rattle.auditorium_core.proofs.Imports.{AreSurvivors, plain_of, plains, completions_exist, order_is_exact, made}
 use Rattle.auditorium_core.proofs.Imports.{order_seen, order_back, whole_seen, whole_back}
@@ -13,7 +13,7 @@ module _ (machines : List Post) (given : List SealedEntry) (graph : EntryGraph S
   -- the survivors' makers are in the roster, and no two have one digest
   pub are_survivors : AreSurvivors node_of (length machines) (plains graph.survivors)
   are_survivors =
-      let apart = survivors_distinct (survivors_are_no_strays node_of_sealed) given graph gives in
+      let apart = survivors_distinct given graph gives in
       record {
         in_roster = λ v there.
             let (x, in_x, to_v) = Contains-map_cases plain_of graph.survivors v there in

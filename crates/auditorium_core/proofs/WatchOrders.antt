@@ -4,7 +4,7 @@ use Rattle.auditorium_core.proofs.Imports.{◌≡◌, ◌≢◌, ◌∙◌, ◌|
 use Rattle.auditorium_core.proofs.Imports.{refl, sym, ap, subst, arith, Ok, length-map, All-nil, All-append}
 use Rattle.auditorium_core.proofs.Imports.{All-map, All-contains, Contains-head, Contains-later, Contains-none}
 use Rattle.auditorium_core.proofs.Imports.{list_any, node_of_sealed, SealedEntry, EntryGraph, HasNoCollision, distinct}
-use Rattle.auditorium_core.proofs.Imports.{distinct_bears, distinct_given, text_of_sealed, survivors_are_no_strays}
+use Rattle.auditorium_core.proofs.Imports.{distinct_bears, distinct_given, text_of_sealed}
 use Rattle.auditorium_core.proofs.Imports.{Post, LogRead, IsSealedLogOf, log_is_valid, standard_rules, RuleTree}
 use Rattle.auditorium_core.proofs.Imports.{RosterRead, GivesLogs, GivesGraph, entries_of}
 use Rattle.auditorium_core.proofs.Imports.{entries_of_records, same_entries, AuditReport, report_on, outcome_of}
@@ -203,7 +203,7 @@ module _ (machines : List Post) (election : List ℕ) (logs moved : List LogRead
       λ e f ce cf digest. graphed.0 e f (back e ce) (back f cf) digest in (
         none,
         few,
-        graph_moved (survivors_are_no_strays node_of_sealed) (distinct node_of_sealed (entries_of logs))
+        graph_moved (distinct node_of_sealed (entries_of logs))
             (distinct node_of_sealed (entries_of moved)) (λ e. (
               distinct_moves machines election (entries_of logs) (entries_of moved) (λ x. (forth x, back x))
                   (λ x has. all x (back x has)) none e,

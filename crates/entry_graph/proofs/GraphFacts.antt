@@ -3,7 +3,7 @@ use Rattle.entry_graph.proofs.Imports.{◌≡◌, ◌≤◌, Bool, true, false, 
 use Rattle.entry_graph.proofs.Imports.{subst, arith, AllPairs, filter, IsPermutation, Contains-permutation}
 use Rattle.entry_graph.proofs.Imports.{IsPermutation-sym, length_permutation, Node, is_stray, survivors, gaps}
 use Rattle.entry_graph.proofs.Imports.{EntryGraph, IsLower, AreLinks, AreForks, AreStrays, IsEntryGraph}
-use Rattle.entry_graph.proofs.Imports.{IsGraphOfGiven, HasNoDigestTwice}
+use Rattle.entry_graph.proofs.Imports.{IsGraphOfGiven, HasNoDigestTwice, survivors_are_no_strays}
 use Rattle.entry_graph.proofs.Places.{one_place, single_filter}
 use Rattle.entry_graph.proofs.NumberFacts.{single_moved}
 
@@ -60,9 +60,11 @@ module _ {T : Type 0} (node : T → Node) where
       record {
         kept = kept;
         members = λ e. (
-          Contains-permutation graph.survivors (survivors node given) e
-              (IsPermutation-sym (survivors node given) graph.survivors same),
-          Contains-permutation (survivors node given) graph.survivors e same,
+          λ has. (survivors_are_no_strays node given e).0
+              (Contains-permutation graph.survivors (survivors node given) e
+              (IsPermutation-sym (survivors node given) graph.survivors same) has),
+          λ sound. Contains-permutation (survivors node given) graph.survivors e same
+              ((survivors_are_no_strays node given e).1 sound),
         );
         strays = strays;
       }

@@ -9,7 +9,7 @@ use Rattle.std.specs.declared.cmp.Ordering.{Ordering}
 use Rattle.std.specs.declared.cmp.Ordering.TheVariants.{Less}
 use Rattle.entry_order.specs.Node.{Node}
 use Rattle.entry_order.specs.Ascending.{IsAscending}
-use Rattle.entry_order.specs.Survivors.{IsStray, survivors, gaps as gaps_of}
+use Rattle.entry_order.specs.Survivors.{IsStray, gaps as gaps_of}
 use Rattle.entry_order.specs.Settled.{IsGraphOf}
 
 -- what a survivor names: other survivors, by their numbers, and whether a gap too
@@ -88,8 +88,8 @@ module _ {T : Type 0} (node : T → Node) where
     pub gaps : graph.gaps ≡ gaps_of node graph.survivors
     pub forks : AreForks graph.survivors graph.forks
 
-  -- the graph of distinct entries: its survivors are theirs, and so are its strays
+  -- the graph of distinct entries: its survivors are those that are no strays
   pub record IsGraphOfGiven (given : List T) (graph : EntryGraph T) : Type 0 where
     pub kept : IsEntryGraph graph
-    pub members : (e : T) → Contains graph.survivors e ↔ Contains (survivors node given) e
+    pub members : (e : T) → Contains graph.survivors e ↔ (Contains given e × (¬ IsStray node given e))
     pub strays : AreStrays given graph.strays

@@ -97,9 +97,8 @@ module _ (w : World SealedEntry) (orderly : IsOrderly node_of_sealed w) where
       members : (e : SealedEntry) → Contains graph.survivors e ↔ Contains given e
       members e = (
         λ c. distinct_given node_of_sealed given e
-            (subst (λ (es : List SealedEntry). Contains es e) all_survive ((is.members e).0 c)),
-        λ c. (is.members e).1
-            (subst (λ (es : List SealedEntry). Contains es e) (sym all_survive) (is_distinct e c)),
+            ((is.members e).0 c).0,
+        λ c. (is.members e).1 (is_distinct e c, no_stray e (is_distinct e c)),
       )
 
       -- the survivors agree with the world on who held what before

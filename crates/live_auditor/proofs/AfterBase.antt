@@ -5,7 +5,7 @@ use Rattle.live_auditor.proofs.Imports.{List, [], ◌∷◌, ◌++◌, map, leng
 use Rattle.live_auditor.proofs.Imports.{◌↔◌, nat_lt, Contains, IsNew, take_more, take_all, length-append, length-map}
 use Rattle.live_auditor.proofs.Imports.{cases_Bool, cases_lt, ltb-true, true≢false, Contains-append_cases, Contains-append_left}
 use Rattle.live_auditor.proofs.Imports.{Contains-append_right, Contains-push, Contains-push_cases, Contains-none}
-use Rattle.live_auditor.proofs.Imports.{slice_get_within, get_or_from_slice_get, Descends, survivors_are_no_strays}
+use Rattle.live_auditor.proofs.Imports.{slice_get_within, get_or_from_slice_get, Descends}
 use Rattle.live_auditor.proofs.Imports.{distinct, distinct_given, SealedEntry, node_of_sealed, EntryGraph, Links}
 use Rattle.live_auditor.proofs.Imports.{IsGraphOfGiven, IsSealedGraph, parents_of, grown, Post, Row, RuleTree, row_of}
 use Rattle.live_auditor.proofs.Imports.{Verdict, AreJudged, nodes_of, nodes_by, HasRoomFor, Summary, SurvivorsKept}
@@ -82,7 +82,7 @@ module _ (added : List SealedEntry) (below : ℕ) where
 pub graph_of_apart : (given : List SealedEntry) (graph : EntryGraph SealedEntry) → Distinct node_of_sealed given →
     IsSealedGraph given (Ok graph) → IsGraphOfGiven node_of_sealed given graph
 graph_of_apart given graph apart is =
-    graph_moved (survivors_are_no_strays node_of_sealed) (distinct node_of_sealed given) given (λ f. (
+    graph_moved (distinct node_of_sealed given) given (λ f. (
       distinct_given node_of_sealed given f,
       λ has.
           (let (g, there, same) = distinct_bears node_of_sealed given f has in
@@ -95,12 +95,12 @@ pub all_survive : (given : List SealedEntry) (graph : EntryGraph SealedEntry) �
     IsGraphOfGiven node_of_sealed given graph → graph.strays ≡ [] → (f : SealedEntry) →
     Contains graph.survivors f ↔ Contains given f
 all_survive given graph is none f = (
-  λ has. ((survivors_are_no_strays node_of_sealed given f).0 ((is.members f).0 has)).0,
-  λ has. (is.members f).1 ((survivors_are_no_strays node_of_sealed given f).1 (
+  λ has. ((is.members f).0 has).0,
+  λ has. (is.members f).1 (
     has,
     λ stray. Contains-none f.digest
         (subst (λ ds. Contains ds f.digest) none ((is.strays.members f.digest).1 (f, has, stray, refl))),
-  )),
+  ),
 )
 
 -- the row at the place of an entry is the entry's
@@ -326,7 +326,7 @@ module _ (machines : List Post) (trees : List RuleTree) (added : List SealedEntr
     sealed_all : IsSealedGraph all (Ok is.graph)
     sealed_all =
         sealed_more added e now is.graph is_now once room
-        (graph_moved (survivors_are_no_strays node_of_sealed) (B ++ graph.survivors) all same is.graph is.graphed.graphed)
+        (graph_moved (B ++ graph.survivors) all same is.graph is.graphed.graphed)
 
     -- what is said by verdicts on all rows is said of all entries
     pub tail_summed : (said : Summary) (kept : SurvivorsKept) (verdicts : List Verdict) → said ≡ record {

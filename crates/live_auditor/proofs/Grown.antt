@@ -6,10 +6,10 @@ use Rattle.live_auditor.proofs.Imports.{◌↔◌, ◌⊎◌, Contains, cases_Bo
 use Rattle.live_auditor.proofs.Imports.{Contains-append_right, Contains-append_cases, Contains-push}
 use Rattle.live_auditor.proofs.Imports.{Contains-push_cases, Contains-get_or, all_pairs_push, slice_get_within}
 use Rattle.live_auditor.proofs.Imports.{slice_get_past, ascending, Descends, Node, Names, IsNew, IsBorneIn, IsNamedIn}
-use Rattle.live_auditor.proofs.Imports.{IsGraphOf, NamesNoGap, IsStray, is_stray, survivors, gaps, IsGaps}
+use Rattle.live_auditor.proofs.Imports.{IsGraphOf, NamesNoGap, IsStray, is_stray, gaps, IsGaps}
 use Rattle.live_auditor.proofs.Imports.{Contains-ascending, Contains-ascending_cases, ascending_ascending}
 use Rattle.live_auditor.proofs.Imports.{gaps_are_unique, Contains-head, Contains-none, is_stray_of, is_stray_from}
-use Rattle.live_auditor.proofs.Imports.{survivors_are_no_strays, EntryGraph, Links, parents_in, ragged_in, parents_of}
+use Rattle.live_auditor.proofs.Imports.{EntryGraph, Links, parents_in, ragged_in, parents_of}
 use Rattle.live_auditor.proofs.Imports.{ragged_of, IsLower, AreStrays, IsFork, AreForks, IsGraphOfGiven, link_to}
 use Rattle.live_auditor.proofs.Imports.{IsUsual, AreParents, AreMissing, grown}
 use Rattle.live_auditor.proofs.Ends.{slice_get_old, slice_get_last, at_cases, at_contains}
@@ -40,10 +40,10 @@ module _ {T : Type 0} (node : T → Node) (given : List T) (graph : EntryGraph T
 
   -- a survivor is given, and no stray
   is_given : (x : T) → Contains S x → Contains given x
-  is_given x has = ((survivors_are_no_strays node given x).0 ((is.members x).0 has)).0
+  is_given x has = ((is.members x).0 has).0
 
   is_no_stray : (x : T) → Contains S x → ¬ IsStray node given x
-  is_no_stray x has = ((survivors_are_no_strays node given x).0 ((is.members x).0 has)).1
+  is_no_stray x has = ((is.members x).0 has).1
 
   -- the gaps are those of the survivors
   gaps_are : IsGaps node S graph.gaps
@@ -69,12 +69,12 @@ module _ {T : Type 0} (node : T → Node) (given : List T) (graph : EntryGraph T
       by : ((is_stray node given x ≡ true) ⊎ (is_stray node given x ≡ false)) → Names node x e → IsStray node given x
       by (inl found) to = is_stray_from node given x found
       by (inr none) to = absurd (not_named x
-          ((is.members x).1 ((survivors_are_no_strays node given x).1 (
+          ((is.members x).1 (
             has,
             λ stray.
                 (let t = is_stray_of node given x stray in
                 let no : true ≡ false = sym t ∙ none in cc),
-          ))) to)
+          )) to)
 
   stray_after : (x : T) → IsStray node given x → IsStray node more x
   stray_after x (g, there, names, late) = (g, Contains-append_left given (e ∷ []) g there, names, late)
@@ -87,9 +87,9 @@ module _ {T : Type 0} (node : T → Node) (given : List T) (graph : EntryGraph T
   ]
 
   -- so the survivors are those before and it
-  members_grown : (x : T) → Contains next x ↔ Contains (survivors node more) x
+  members_grown : (x : T) → Contains next x ↔ (Contains more x × (¬ IsStray node more x))
   members_grown x = (
-    λ has. (survivors_are_no_strays node more x).1 (elim (Contains-push_cases S e x has) [
+    λ has. elim (Contains-push_cases S e x has) [
       | inl old ↦ (
         Contains-append_left given (e ∷ []) x (is_given x old),
         λ stray. is_no_stray x old (stray_before x (is_given x old) stray),
@@ -98,15 +98,13 @@ module _ {T : Type 0} (node : T → Node) (given : List T) (graph : EntryGraph T
         subst (λ y. Contains more y) same (Contains-push given e),
         λ stray. itself_no_stray (subst (λ y. IsStray node more y) (sym same) stray),
       )
-    ]),
-    λ has.
-        (let (there, sound) = (survivors_are_no_strays node more x).0 has in
+    ],
+    λ (there, sound).
         elim (Contains-push_cases given e x there) [
           | inl old ↦
-              Contains-append_left S (e ∷ []) x ((is.members x).1 ((survivors_are_no_strays node given x).1
-              (old, λ stray. sound (stray_after x stray))))
+              Contains-append_left S (e ∷ []) x ((is.members x).1 (old, λ stray. sound (stray_after x stray)))
           | inr same ↦ subst (λ y. Contains next y) same (Contains-push S e)
-        ]),
+        ],
   )
 
   -- the strays are those before

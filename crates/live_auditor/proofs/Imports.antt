@@ -21,13 +21,13 @@ pub use Rattle.entry_order.proofs.Ascending.{Contains-ascending, Contains-ascend
 pub use Rattle.entry_order.proofs.Completions.{gaps_are_unique}
 pub use Rattle.entry_order.proofs.Lists.{Contains-cons_cases, Contains-head, Contains-later, Contains-map}
 pub use Rattle.entry_order.proofs.Lists.{Contains-none, list_any_of}
-pub use Rattle.entry_order.proofs.Strays.{is_stray_from, is_stray_of, survivors_are_no_strays}
+pub use Rattle.entry_order.proofs.Strays.{is_stray_from, is_stray_of}
 pub use Rattle.entry_order.specs.Ancestors.{Descends, before, is_whole, reaches}
 pub use Rattle.entry_order.specs.Ascending.{ascending}
 pub use Rattle.entry_order.specs.Naming.{IsBorneIn, IsNamedIn, IsNew, Names}
 pub use Rattle.entry_order.specs.Node.{Node}
 pub use Rattle.entry_order.specs.Settled.{IsGraphOf, NamesNoGap}
-pub use Rattle.entry_order.specs.Survivors.{IsGaps, IsStray, SurvivorsAreNoStrays, gaps, is_stray, survivors}
+pub use Rattle.entry_order.specs.Survivors.{IsGaps, IsStray, gaps, is_stray}
 pub use Rattle.entry_order.specs.declared.three.Three.{Three}
 pub use Rattle.entry_order.specs.declared.three.Three.TheVariants.{False, True, Unknown}
 pub use Rattle.evidence.proofs.Survivors.{survivors_distinct}

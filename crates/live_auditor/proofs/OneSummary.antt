@@ -1,7 +1,7 @@
 -- Entries have one summary, in whatever order they came.
 use Rattle.std.proofs.Common.{◌≡◌}
 use Rattle.live_auditor.proofs.Imports.{◌∙◌, ◌≤◌, List, length, map, ap, sym, subst, arith, ◌↔◌, Ok, AllZip, Contains}
-use Rattle.live_auditor.proofs.Imports.{length-map, Descends, IsStray, SurvivorsAreNoStrays, survivors, SealedEntry}
+use Rattle.live_auditor.proofs.Imports.{length-map, Descends, IsStray, SealedEntry}
 use Rattle.live_auditor.proofs.Imports.{node_of_sealed, distinct, EntryGraph, IsGraphOfGiven, parents_of, Post, Rule}
 use Rattle.live_auditor.proofs.Imports.{rule_tree, Verdict, IsSealedGraph, EntriesGiveOneGraph, SameGraph, AreJudged}
 use Rattle.live_auditor.proofs.Imports.{nodes_of, row_of, standard, SameVerdict, verdicts_agree, AreOneVerdict}
@@ -25,21 +25,20 @@ turned : (given other : List SealedEntry) → AreSame given other → AreSame ot
 turned given other same e = ((same e).1, (same e).0)
 
 -- a survivor among entries is one among the same
-survivor_moved : SurvivorsAreNoStrays node_of_sealed → (given other : List SealedEntry) → AreSame given other →
-    (e : SealedEntry) → Contains (survivors node_of_sealed given) e → Contains (survivors node_of_sealed other) e
-survivor_moved strays given other same e has =
-    let (in_given, sound) = (strays given e).0 has in
-    (strays other e).1 ((same e).0 in_given, λ stray. sound (stray_moved other given (turned given other same) e stray))
+survivor_moved : (given other : List SealedEntry) → AreSame given other → (e : SealedEntry) →
+    Contains given e × (¬ IsStray node_of_sealed given e) → Contains other e × (¬ IsStray node_of_sealed other e)
+survivor_moved given other same e (has, sound) =
+    ((same e).0 has, λ stray. sound (stray_moved other given (turned given other same) e stray))
 
 -- so the graph of entries is one of the same
-pub graph_moved : SurvivorsAreNoStrays node_of_sealed → (given other : List SealedEntry) → AreSame given other →
+pub graph_moved : (given other : List SealedEntry) → AreSame given other →
     (graph : EntryGraph SealedEntry) → IsGraphOfGiven node_of_sealed given graph →
     IsGraphOfGiven node_of_sealed other graph
-graph_moved strays given other same graph is = record {
+graph_moved given other same graph is = record {
   kept = is.kept;
   members = λ e. (
-    λ has. survivor_moved strays given other same e ((is.members e).0 has),
-    λ has. (is.members e).1 (survivor_moved strays other given (turned given other same) e has),
+    λ has. survivor_moved given other same e ((is.members e).0 has),
+    λ has. (is.members e).1 (survivor_moved other given (turned given other same) e has),
   );
   strays = record {
     rises = is.strays.rises;
@@ -55,14 +54,14 @@ graph_moved strays given other same graph is = record {
 }
 
 -- what is answered of entries, each of them once, is an answer for the same entries in any order
-answer_moved : SurvivorsAreNoStrays node_of_sealed → (given other : List SealedEntry) → AreSame given other →
+answer_moved : (given other : List SealedEntry) → AreSame given other →
     distinct node_of_sealed given ≡ given → distinct node_of_sealed other ≡ other → length other ≤ 1024 →
     (graph : EntryGraph SealedEntry) → IsSealedGraph given (Ok graph) → IsSealedGraph other (Ok graph)
-answer_moved strays given other same once also few graph (none, _, is) = (
+answer_moved given other same once also few graph (none, _, is) = (
   λ e f has_e has_f digest. none e f ((same e).1 has_e) ((same f).1 has_f) digest,
   subst (λ es. length es ≤ 16384) (sym also) (omega (arith, few)),
   subst (λ es. IsGraphOfGiven node_of_sealed es graph) (sym also)
-      (graph_moved strays given other same graph (subst (λ es. IsGraphOfGiven node_of_sealed es graph) once is)),
+      (graph_moved given other same graph (subst (λ es. IsGraphOfGiven node_of_sealed es graph) once is)),
 )
 
 -- by rows of the same survivors, each rule has one verdict
@@ -82,9 +81,9 @@ one_verdict_each machines others rules more g h vs ws one_roster one_list same d
     (length-map g.survivors (row_of machines)) standard (map rule_tree rules) (Ok vs) (Ok ws) a by_rows)
 
 -- audits by the same rules of the same entries say the same
-pub one_summary : SurvivorsAreNoStrays node_of_sealed → EntriesGiveOneGraph → OrdersGiveOneSummary
-one_summary strays graphs live other a b machines rules entries =
-    let moved = answer_moved strays other.added live.added (turned live.added other.added entries) b.once a.once a.few
+pub one_summary : EntriesGiveOneGraph → OrdersGiveOneSummary
+one_summary graphs live other a b machines rules entries =
+    let moved = answer_moved other.added live.added (turned live.added other.added entries) b.once a.once a.few
     b.after.graph b.after.graphed in
     let same : SameGraph a.after.graph b.after.graph =
     graphs live.added (Ok a.after.graph) (Ok b.after.graph) a.after.graphed moved in

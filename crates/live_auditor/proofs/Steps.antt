@@ -6,7 +6,7 @@ use Rattle.live_auditor.proofs.Imports.{[], ◌∷◌, ◌++◌, map, length, ar
 use Rattle.live_auditor.proofs.Imports.{◌&&◌, ◌==◌, ◌⊎◌, nat_lt, Ok, Contains, list_all, list_any, bytes_eq}
 use Rattle.live_auditor.proofs.Imports.{option_map, true≢false, ltb-true, and_from, length-map, map-append}
 use Rattle.live_auditor.proofs.Imports.{slice_get-map, bytes_eq-Decides, Descends, ascending, Contains-cons_cases}
-use Rattle.live_auditor.proofs.Imports.{Contains-none, Contains-map, list_any_of, survivors_are_no_strays}
+use Rattle.live_auditor.proofs.Imports.{Contains-none, Contains-map, list_any_of}
 use Rattle.live_auditor.proofs.Imports.{SealedEntry, node_of_sealed, EntryGraph, Links, IsGraphOfGiven, parents_of}
 use Rattle.live_auditor.proofs.Imports.{distinct, no_collision_new, IsSealedGraph, survivors_distinct, Row, rule_tree}
 use Rattle.live_auditor.proofs.Imports.{Verdict, AreJudged, IsFirstTooWide, nodes_of, row_of, HasRoomFor, LiveState}
@@ -48,7 +48,7 @@ module _ (machines : List Post) (given : List SealedEntry) (graph : EntryGraph S
     (missing : List (List ℕ)) (apart : IsApartBy gaps kept.digests kept.rows e parents missing) where
   -- a survivor is given
   is_given : (f : SealedEntry) → Contains graph.survivors f → Contains given f
-  is_given f has = ((survivors_are_no_strays node_of_sealed given f).0 ((is.graphed.members f).0 has)).0
+  is_given f has = ((is.graphed.members f).0 has).0
 
   -- no two survivors have one digest
   one_digest : (f g : SealedEntry) → Contains graph.survivors f → Contains graph.survivors g → f.digest ≡ g.digest →

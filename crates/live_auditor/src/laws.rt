@@ -2,14 +2,11 @@
 //! contract of a function that does nothing.
 ghost use Rattle.live_auditor.specs.Same.{OrdersGiveOneSummary};
 
-use entry_format::Sealed;
-use entry_order::survivors_are_no_strays;
 use evidence::entries_give_one_graph;
 
 /// The same entries give the same answers, in whatever order they came.
 pub fn orders_give_one_summary()
     ensures { OrdersGiveOneSummary }
 {
-    survivors_are_no_strays::<Sealed>();
     entries_give_one_graph();
 }

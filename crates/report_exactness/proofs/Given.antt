@@ -1,13 +1,10 @@
 -- The survivors of a report that files give are sealed, and of one election.
 use Rattle.std.proofs.Common.{◌≡◌, ℕ, ◌+◌, List, [], ◌∷◌, ◌++◌, map, sym, subst, inl, inr}
 use Rattle.std.proofs.Common.{Option, Some, None, Result, Ok, Err}
-use Rattle.std.specs.Prelude.{not}
 use Rattle.std.specs.List.{Contains, AllByRecursion as ByRecursion}
 use Rattle.std.proofs.lemmas.List.Elements.{All-contains, All-from_recursion}
 use Rattle.canonical_sexp.specs.declared.sexp.Sexp.{Sexp}
 use Rattle.roster.specs.declared.post.Post.{Post}
-use Rattle.entry_order.specs.Survivors.{is_stray}
-use Rattle.entry_order.proofs.Lists.{Contains-filter_cases}
 use Rattle.entry_format.specs.Nodes.{node_of_sealed}
 use Rattle.entry_format.specs.SealedEntry.{SealedEntry}
 use Rattle.entry_format.specs.Sealing.{IsSealed}
@@ -114,12 +111,9 @@ given_by machines election names files logs graph rules verdicts gives_logs give
   election = election;
   each = λ e there.
       let kept = (gives_graph.2.members e).0 there in
-      let first = Contains-filter_cases (λ (f : SealedEntry).
-      not (is_stray node_of_sealed (distinct node_of_sealed (entries_of logs)) f))
-      (distinct node_of_sealed (entries_of logs)) e kept in
       All-contains (IsOf election) (entries_of logs) e
       (All-from_recursion (IsOf election) (entries_of logs) (logs_each machines election names files logs gives_logs))
-      (distinct_given node_of_sealed (entries_of logs) e first.0);
+      (distinct_given node_of_sealed (entries_of logs) e kept.0);
 }
 
 from_logs : (machines : List Post) (election : List ℕ) (source : RuleSource) (rules : List RuleTree)

@@ -10,7 +10,6 @@ use Rattle.entry_order.specs.Exact.{AreSurvivors}
 use Rattle.entry_order.specs.Precedes.{IsAcyclic}
 use Rattle.entry_order.proofs.Lists.{Contains-none, Contains-head, Contains-map_cases}
 use Rattle.entry_order.proofs.Images.{same_graph}
-use Rattle.entry_order.proofs.Strays.{survivors_are_no_strays}
 use Rattle.entry_format.specs.Nodes.{node_of, node_of_sealed}
 use Rattle.entry_format.specs.EntryText.{IsDigest}
 use Rattle.entry_format.specs.SealedEntry.{SealedEntry}
@@ -77,7 +76,7 @@ module _ (report : AuditReport) (here : IsGiven report) where
         subst (λ (u : Plain). u.entry.maker < length machines) to_v
         (All-contains (λ (sealed : SealedEntry). sealed.entry.maker < length machines) graph.survivors x is.makers in_x);
     distinct = λ v u in_v in_u same.
-        let apart = survivors_distinct (survivors_are_no_strays node_of_sealed) _ graph is.graphed in
+        let apart = survivors_distinct _ graph is.graphed in
         let (x, in_x, to_v) = Contains-map_cases plain_of graph.survivors v in_v in
         let (z, in_z, to_u) = Contains-map_cases plain_of graph.survivors u in_u in
         let digests : x.digest ≡ z.digest =
