@@ -56,21 +56,11 @@ to_make s top (Some tree) low (i, at, kept) spent =
     sym (ap (λ (k : Secret). k.next) kept.key) ∙ spent ∙ ap (λ (k : Secret). 2 ^ k.height) kept.key in
     at ∙ ap (top_tree s) (sym (next_tree s.low i kept.leaf s.next low kept.next all))
 
--- a kept top tree is that of the next signature where its next leaf is
-pub at_next : (s : TwoLevelSecret) (top : Secret) (old : Option LowTree) → Keeps s top old
-    → top.next ≡ s.next / 2 ^ s.low → top ≡ top_tree s (s.next / 2 ^ s.low)
-at_next s top None keeps e = keeps
-at_next s top (Some tree) (i, at, kept) e = at ∙ ap (top_tree s) (sym (ap (λ (t : Secret). t.next) at) ∙ e)
-
 -- the top tree's public key is that of the secret
 pub top_public : (s : TwoLevelSecret) (top : Secret) (old : Option LowTree) → Keeps s top old
     → public_of top ≡ public_of (top_tree s 0)
 top_public s top None keeps = ap public_of keeps
 top_public s top (Some tree) (i, at, kept) = ap public_of at
-
--- a tree that is ready is kept
-pub keeps_ready : (s : TwoLevelSecret) (top : Secret) (tree : LowTree) → IsReady s top tree → Keeps s top (Some tree)
-keeps_ready s top tree (i, at, kept, below) = (i, at, kept)
 
 -- what it signs is the next signature
 pub ready_signs : (s : TwoLevelSecret) (top : Secret) (tree : LowTree) (items message : List ℕ) → IsHeight s.low

@@ -1,4 +1,4 @@
--- Calls of `sign` and of `sign_in` on one key, in any mixture.
+-- Calls of `sign` and of `sign_by` on one key, in any mixture.
 use Rattle.std.specs.Prelude.{◌≡◌, ◌↔◌, ℕ, ◌+◌, ◌^◌, ◌≤◌, List, [], ◌∷◌, ◌++◌, All, length, map, ⊤}
 use Rattle.std.specs.Prelude.{Result, IfOk, IsErrOf, OnErr, OnOk}
 use Rattle.std.specs.Global.{Vec}
@@ -16,7 +16,7 @@ pub record Signing : Type 0 where
   pub answer : Result (Vec ℕ) HssFault
   pub after : TwoLevelSecret
 
--- a call of `sign` or `sign_in` on the key: its answer, the leaves that its signature names, and what
+-- a call of `sign` or `sign_by` on the key: its answer, the leaves that its signature names, and what
 -- it uses up
 pub record IsSigningBy (key : TwoLevelSecret) (call : Signing) : Type 0 where
   pub answered : IsHssAnswer key call.message call.answer

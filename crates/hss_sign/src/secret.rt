@@ -10,11 +10,11 @@ ghost use Rattle.hss_sign.specs.inside.Kept.{Keeps};
 use crate::derived::{low_id, low_seed};
 use crate::low_tree::{LowTree, unspent};
 use lms_ots::{OtsKind, u32_bytes, write_at};
-use lms_sign::LmsSecret;
+use lms_sign::{LeafWork, LmsSecret};
 use std::alloc::{AllocError, Global};
 use std::marker::Model;
-use std::thread::Threads;
 use thiserror::Error;
+use ways_of_work::Alone;
 
 /// Out of memory.
 pub type Memory = AllocError;
@@ -109,22 +109,12 @@ impl HssSecret {
           next = next;
         }) }
     {
-        let top_key = LmsSecret::make_at(alloc, kind, top, id, seed, next >> low)?;
-        Ok(HssSecret {
-            kind,
-            top,
-            low,
-            id,
-            seed,
-            next,
-            top_key,
-            tree: None,
-        })
+        HssSecret::make_by(&Alone, alloc, kind, top, low, id, seed, next)
     }
 
-    /// The key of `make`, whose top tree is made in threads.
-    pub fn make_in<R: Threads + Sync>(
-        rt: &R,
+    /// The key of `make`, whose top tree is made in this way.
+    pub fn make_by<W: LeafWork>(
+        work: &W,
         alloc: Global,
         kind: OtsKind,
         top: u32,
@@ -133,6 +123,7 @@ impl HssSecret {
         seed: [u8; 32],
         next: u32,
     ) -> Result<HssSecret, Memory>
+        requires shared { W.may_share work.now }
         requires top { IsHeight top }
         requires low { IsHeight low }
         requires next { next ≤ 2 ^ (top + low) }
@@ -145,7 +136,7 @@ impl HssSecret {
           next = next;
         }) }
     {
-        let top_key = LmsSecret::make_at_in(rt, alloc, kind, top, id, seed, next >> low)?;
+        let top_key = LmsSecret::make_at_by(work, alloc, kind, top, id, seed, next >> low)?;
         Ok(HssSecret {
             kind,
             top,
@@ -190,30 +181,17 @@ impl HssSecret {
         ensures call { IsSigningBy self.old
             (record { message = message.now; answer = result; after = self.new }) }
     {
-        if self.is_spent() {
-            return Err(HssFault::Spent);
-        }
-        let mut tree = match unspent(self.tree.take()) {
-            Some(tree) => tree,
-            None => {
-                let key = self.next_tree(alloc)?;
-                LowTree::make(alloc, &mut self.top_key, key)?
-            }
-        };
-        let answer = tree.sign(alloc, message);
-        self.tree = Some(tree);
-        let signature = answer?;
-        self.next += 1;
-        Ok(signature)
+        self.sign_by(&Alone, alloc, message)
     }
 
-    /// Signs as `sign` does. A low tree that has to be made is made in threads.
-    pub fn sign_in<R: Threads + Sync>(
+    /// Signs as `sign` does. A low tree that has to be made is made in this way.
+    pub fn sign_by<W: LeafWork>(
         &mut self,
-        rt: &R,
+        work: &W,
         alloc: Global,
         message: &[u8],
     ) -> Result<Vec<u8>, HssFault>
+        requires { W.may_share work.now }
         ensures ok { IfOk result (λ s. s.items ≡ hss_signed self.old self.old.next message.now) }
         ensures signs { IfOk result (λ s. HssSigns (hss_public self.old) message.now s.items) }
         ensures leaves { IfOk result (λ s. leaves_in self.old.kind self.old.top s.items
@@ -228,46 +206,29 @@ impl HssSecret {
         if self.is_spent() {
             return Err(HssFault::Spent);
         }
-        // With no leaf left in the kept tree, the top tree is to sign that of the next signature.
-        if self.top_key.next() == self.next >> self.low {
-            let key = self.next_tree_in(rt, alloc)?;
-            self.keep(alloc, key)?;
-        }
-        self.sign(alloc, message)
-    }
-
-    // Keeps the low tree of the next signature, which has this key, unless it is kept already: then
-    // the top tree's next leaf is another one.
-    fn keep(&mut self, alloc: Global, key: LmsSecret) -> Result<(), Memory>
-        requires key { key ≡ low_tree_of self.old self.old.next }
-        requires left { self.old.next < 2 ^ (self.old.top + self.old.low) }
-        ensures { self.new ≡ self.old }
-    {
-        if self.top_key.next() != self.next >> self.low {
-            return Ok(());
-        }
-        self.tree = Some(LowTree::make(alloc, &mut self.top_key, key)?);
-        Ok(())
+        let mut tree = match unspent(self.tree.take()) {
+            Some(tree) => tree,
+            None => {
+                let key = self.next_tree(work, alloc)?;
+                LowTree::make(alloc, &mut self.top_key, key)?
+            }
+        };
+        let answer = tree.sign(alloc, message);
+        self.tree = Some(tree);
+        let signature = answer?;
+        self.next += 1;
+        Ok(signature)
     }
 
     // The key of the low tree of the next signature, at its leaf.
-    fn next_tree(&self, alloc: Global) -> Result<LmsSecret, Memory>
+    fn next_tree<W: LeafWork>(&self, work: &W, alloc: Global) -> Result<LmsSecret, Memory>
+        requires { W.may_share work.now }
         ensures { IfOk result (λ key. key ≡ low_tree_of self.now self.now.next) }
     {
         let (i, q) = self.place();
         let id = low_id(&self.id, &self.seed, i);
         let seed = low_seed(&self.id, &self.seed, i);
-        LmsSecret::make_at(alloc, self.kind, self.low, id, seed, q)
-    }
-
-    // The same key, made in threads.
-    fn next_tree_in<R: Threads + Sync>(&self, rt: &R, alloc: Global) -> Result<LmsSecret, Memory>
-        ensures { IfOk result (λ key. key ≡ low_tree_of self.now self.now.next) }
-    {
-        let (i, q) = self.place();
-        let id = low_id(&self.id, &self.seed, i);
-        let seed = low_seed(&self.id, &self.seed, i);
-        LmsSecret::make_at_in(rt, alloc, self.kind, self.low, id, seed, q)
+        LmsSecret::make_at_by(work, alloc, self.kind, self.low, id, seed, q)
     }
 
     // The number of the low tree of the next signature, and its leaf.

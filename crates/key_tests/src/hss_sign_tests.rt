@@ -4,6 +4,7 @@ use lms_ots::OtsKind;
 use sha2::{Digest, Sha256};
 use std::alloc::Global;
 use std::test::Fail;
+use ways_of_work::InThreads;
 
 // The public key, and the numbers of signatures of `ballot` with their digests: those of a plain
 // program written from RFC 8554, section 6. Low trees have 32 leaves.
@@ -94,16 +95,17 @@ fn a_key_is_spent_after_its_last_leaf(rt: HostRuntime) -> Result<(), Fail> {
     assert!(rt; matches!(secret.sign(alloc, b"ballot"), Err(HssFault::Spent)));
     let mut made = secret_at(alloc, 1024)?;
     assert!(rt; matches!(made.sign(alloc, b"ballot"), Err(HssFault::Spent)));
-    assert!(rt; matches!(made.sign_in(&rt, alloc, b"ballot"), Err(HssFault::Spent)));
+    assert!(rt; matches!(made.sign_by(&InThreads { rt: &rt }, alloc, b"ballot"), Err(HssFault::Spent)));
     Ok(())
 }
 
 #[test]
 fn keys_made_in_threads_are_the_same(rt: HostRuntime) -> Result<(), Fail> {
     let alloc = rt.alloc();
-    let mut secret = HssSecret::make_in(&rt, alloc, OtsKind::W2, 5, 5, ID, SEED, 31)?;
+    let work = InThreads { rt: &rt };
+    let mut secret = HssSecret::make_by(&work, alloc, OtsKind::W2, 5, 5, ID, SEED, 31)?;
     for &(number, digest) in FROM_TREE_TO_TREE {
-        let signature = secret.sign_in(&rt, alloc, b"ballot")?;
+        let signature = secret.sign_by(&work, alloc, b"ballot")?;
         assert!(rt; has_digest(alloc, &signature, digest)?, "{number}");
     }
     Ok(())

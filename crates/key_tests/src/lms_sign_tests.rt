@@ -5,6 +5,7 @@ use sha2::{Digest, Sha256};
 use std::alloc::{AllocError, Global};
 use std::fmt::Write;
 use std::test::Fail;
+use ways_of_work::InThreads;
 
 // Appends a signature's length and its digest, and whether it is one of the text and of no other.
 fn push_signature(
@@ -205,12 +206,13 @@ fn a_key_is_made_at_any_index(rt: HostRuntime) -> Result<(), Fail> {
 #[test]
 fn a_key_made_in_threads_is_the_same(rt: HostRuntime) -> Result<(), Fail> {
     let alloc = rt.alloc();
+    let work = InThreads { rt: &rt };
     let made = LmsSecret::make(alloc, OtsKind::W4, 5, ID, SEED)?;
-    let in_threads = LmsSecret::make_in(&rt, alloc, OtsKind::W4, 5, ID, SEED)?;
+    let in_threads = LmsSecret::make_by(&work, alloc, OtsKind::W4, 5, ID, SEED)?;
     assert!(rt; made.public().bytes() == in_threads.public().bytes());
     let signature = made.signature(alloc, b"ballot")?;
     assert!(rt; signature == in_threads.signature(alloc, b"ballot")?);
-    let at_one = LmsSecret::make_at_in(&rt, alloc, OtsKind::W4, 5, ID, SEED, 1)?;
+    let at_one = LmsSecret::make_at_by(&work, alloc, OtsKind::W4, 5, ID, SEED, 1)?;
     assert!(rt; at_one.next() == 1 && at_one.public().bytes() == made.public().bytes());
     Ok(())
 }

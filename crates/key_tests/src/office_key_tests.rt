@@ -1,10 +1,11 @@
 //! Offices: what their texts say, and what their keys sign.
 use crate::key_rows::push_hex;
 use hss_sign::hss_verify;
-use office_key::{Office, endorse, public_key, public_key_in, read_office, write_office};
+use office_key::{Office, endorse, public_key, public_key_by, read_office, write_office};
 use sha2::{Digest, Sha256};
 use std::alloc::Global;
 use std::test::Fail;
+use ways_of_work::InThreads;
 
 /// The public key of the office `county` whose seed has the octets from 0 to 31, and the digest of
 /// its signature of `a report` and a newline with the number 7: those of a plain program written
@@ -73,7 +74,7 @@ fn texts_are_those_of_offices(rt: HostRuntime) -> Result<(), Fail> {
 fn an_office_signs_as_another_program_does(rt: HostRuntime) -> Result<(), Fail> {
     let alloc = rt.alloc();
     let key = public_key(alloc, b"county", &seed())?;
-    assert!(rt; key == public_key_in(&rt, alloc, b"county", &seed())?);
+    assert!(rt; key == public_key_by(&InThreads { rt: &rt }, alloc, b"county", &seed())?);
     let office = Office {
         seed: seed(),
         next: 7,

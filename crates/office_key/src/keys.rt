@@ -8,9 +8,11 @@ ghost use Rattle.office_key.specs.Offices.{max_signatures};
 use crate::office::Office;
 use hss_sign::{HssFault, HssSecret, Memory};
 use lms_ots::OtsKind;
+use lms_sign::LeafWork;
 use sha2::{Digest, Sha256};
 use std::alloc::{AllocError, Global};
 use std::thread::Threads;
+use ways_of_work::{Alone, InThreads};
 
 /// The heights of the trees.
 const TOP: u32 = 5;
@@ -21,11 +23,7 @@ const LOW: u32 = 10;
 pub fn public_key(alloc: Global, name: &[u8], seed: &[u8; 32]) -> Result<[u8; 60], Memory>
     ensures { IfOk result (λ key. key ≡ office_public name.now seed.now) }
 {
-    let office = Office {
-        seed: *seed,
-        next: 0,
-    };
-    Ok(secret_of(alloc, name, &office)?.public())
+    public_key_by(&Alone, alloc, name, seed)
 }
 
 /// The same key, whose top tree is made in threads.
@@ -37,11 +35,24 @@ pub fn public_key_in<R: Threads + Sync>(
 ) -> Result<[u8; 60], Memory>
     ensures { IfOk result (λ key. key ≡ office_public name.now seed.now) }
 {
+    public_key_by(&InThreads { rt }, alloc, name, seed)
+}
+
+/// The same key, whose top tree is made in this way.
+pub fn public_key_by<W: LeafWork>(
+    work: &W,
+    alloc: Global,
+    name: &[u8],
+    seed: &[u8; 32],
+) -> Result<[u8; 60], Memory>
+    requires { W.may_share work.now }
+    ensures { IfOk result (λ key. key ≡ office_public name.now seed.now) }
+{
     let office = Office {
         seed: *seed,
         next: 0,
     };
-    Ok(secret_in(rt, alloc, name, &office)?.public())
+    Ok(secret_of(work, alloc, name, &office)?.public())
 }
 
 /// Signs `message` as the office of this name, with the number of its next signature, which is then
@@ -55,13 +66,7 @@ pub fn endorse(
     requires { office.now.next < max_signatures }
     ensures { IfOk result (λ s. s.items ≡ endorsement name.now office.now message.now) }
 {
-    let mut secret = secret_of(alloc, name, office)?;
-    match secret.sign(alloc, message) {
-        Ok(signature) => Ok(signature),
-        Err(HssFault::Memory) => Err(AllocError),
-        // The office has a number left.
-        Err(HssFault::Spent) => unreachable!(),
-    }
+    endorse_by(&Alone, alloc, name, office, message)
 }
 
 /// Signs as `endorse` does. The trees are made in threads.
@@ -75,8 +80,23 @@ pub fn endorse_in<R: Threads + Sync>(
     requires { office.now.next < max_signatures }
     ensures { IfOk result (λ s. s.items ≡ endorsement name.now office.now message.now) }
 {
-    let mut secret = secret_in(rt, alloc, name, office)?;
-    match secret.sign_in(rt, alloc, message) {
+    endorse_by(&InThreads { rt }, alloc, name, office, message)
+}
+
+/// Signs as `endorse` does. The trees are made in this way.
+pub fn endorse_by<W: LeafWork>(
+    work: &W,
+    alloc: Global,
+    name: &[u8],
+    office: &Office,
+    message: &[u8],
+) -> Result<Vec<u8>, Memory>
+    requires shared { W.may_share work.now }
+    requires left { office.now.next < max_signatures }
+    ensures { IfOk result (λ s. s.items ≡ endorsement name.now office.now message.now) }
+{
+    let mut secret = secret_of(work, alloc, name, office)?;
+    match secret.sign_by(work, alloc, message) {
         Ok(signature) => Ok(signature),
         Err(HssFault::Memory) => Err(AllocError),
         // The office has a number left.
@@ -85,28 +105,19 @@ pub fn endorse_in<R: Threads + Sync>(
 }
 
 /// The key of the office of this name, at the number of its next signature.
-fn secret_of(alloc: Global, name: &[u8], office: &Office) -> Result<HssSecret, Memory>
-    requires { office.now.next ≤ max_signatures }
-    ensures { IfOk result (λ secret. secret ≡ office_secret name.now office.now) }
-{
-    let id = top_id(&office.seed, name);
-    let seed = top_seed(&office.seed, name);
-    HssSecret::make(alloc, OtsKind::W4, TOP, LOW, id, seed, office.next)
-}
-
-/// The same key, made in threads.
-fn secret_in<R: Threads + Sync>(
-    rt: &R,
+fn secret_of<W: LeafWork>(
+    work: &W,
     alloc: Global,
     name: &[u8],
     office: &Office,
 ) -> Result<HssSecret, Memory>
-    requires { office.now.next ≤ max_signatures }
+    requires shared { W.may_share work.now }
+    requires next { office.now.next ≤ max_signatures }
     ensures { IfOk result (λ secret. secret ≡ office_secret name.now office.now) }
 {
     let id = top_id(&office.seed, name);
     let seed = top_seed(&office.seed, name);
-    HssSecret::make_in(rt, alloc, OtsKind::W4, TOP, LOW, id, seed, office.next)
+    HssSecret::make_by(work, alloc, OtsKind::W4, TOP, LOW, id, seed, office.next)
 }
 
 /// The seed of the top tree.

@@ -6,11 +6,12 @@ use Rattle.hss_sign.specs.declared.low_tree.LowTree.{LowTree}
 use Rattle.hss_sign.proofs.Keeping.{IsReady, advances, from_kept, from_made, ready_signs, stays, to_make}
 use Rattle.hss_sign.proofs.Numbers.{left_of}
 use Rattle.hss_sign.proofs.Signed.{leaves_named, signed_verifies}
-use Rattle.hss_sign.proofs.secret.HssSecret.sign.Goals as goal
-use Rattle.hss_sign.proofs.secret.HssSecret.sign.Goals.{in-Some, in-None+in_ok-key-in-None+in_ok-tree-in-None}
+use Rattle.hss_sign.proofs.secret.HssSecret.sign_by.Given.{Over}
+use Rattle.hss_sign.proofs.secret.HssSecret.sign_by.Goals as goal
+use Rattle.hss_sign.proofs.secret.HssSecret.sign_by.Goals.{in-Some, in-None+in_ok-key-in-None+in_ok-tree-in-None}
 
 -- the secret is as before
-same : (c : goal.After-self-2-1) → record {
+same : (g : Over) (c : goal.After-self-2-1 g) → record {
   kind = c.match-unspent.self-inside.kind;
   top = c.match-unspent.self-inside.top;
   low = c.match-unspent.self-inside.low;
@@ -18,13 +19,13 @@ same : (c : goal.After-self-2-1) → record {
   seed = c.match-unspent.self-inside.seed;
   next = c.match-unspent.self-inside.next;
 } ≡ c.args.self.now
-same c = elim c.match-unspent.branch [
+same g c = elim c.match-unspent.branch [
   | in-Some w ↦ rw w.self-inside-is c.self.view_is
   | in-None+in_ok-key-in-None+in_ok-tree-in-None w ↦ rw w.self-inside-is c.self.view_is
 ]
 
 -- the tree has a leaf for the message
-ready : (c : goal.After-self-2-1) → IsReady (record {
+ready : (g : Over) (c : goal.After-self-2-1 g) → IsReady (record {
   kind = c.match-unspent.self-inside.kind;
   top = c.match-unspent.self-inside.top;
   low = c.match-unspent.self-inside.low;
@@ -32,7 +33,7 @@ ready : (c : goal.After-self-2-1) → IsReady (record {
   seed = c.match-unspent.self-inside.seed;
   next = c.match-unspent.self-inside.next;
 }) c.match-unspent.self-inside.top_key c.match-unspent.tree
-ready c =
+ready g c =
     let x = c.self.inside in
     let s : TwoLevelSecret = record {
       kind = x.kind;
@@ -57,15 +58,15 @@ ready c =
           at w.in_ok-key-in-None.ensures made.key made.head made.next))
     ]
 
-left : (c : goal.After-self-2-1) → c.args.self.now.next < 2 ^ (c.args.self.now.top + c.args.self.now.low)
-left c =
+left : (g : Over) (c : goal.After-self-2-1 g) → c.args.self.now.next < 2 ^ (c.args.self.now.top + c.args.self.now.low)
+left g c =
     let most : c.args.self.now.next ≤ 2 ^ (c.args.self.now.top + c.args.self.now.low) =
     subst (λ (v : TwoLevelSecret). v.next ≤ 2 ^ (v.top + v.low)) c.self.view_is c.self.invariant.2 in
     left_of c.args.self.now.next (2 ^ (c.args.self.now.top + c.args.self.now.low)) c.is_spent.result
     c.is_spent.ensures c.if-is_spent.false most
 
 pub invariant_of-self-2 : goal.invariant_of-self-2
-invariant_of-self-2 c =
+invariant_of-self-2 g c =
     let x = c.match-unspent.self-inside in
     let s : TwoLevelSecret = record {
       kind = x.kind;
@@ -75,18 +76,18 @@ invariant_of-self-2 c =
       seed = x.seed;
       next = x.next;
     } in
-    let back = c.self.view_is ∙ sym (same c) in
-    let below = left c in (
+    let back = c.self.view_is ∙ sym (same g c) in
+    let below = left g c in (
       subst (λ (v : TwoLevelSecret). IsHeight v.top) back c.self.invariant.0,
       subst (λ (v : TwoLevelSecret). IsHeight v.low) back c.self.invariant.1,
-      subst (λ (v : TwoLevelSecret). v.next + 1 ≤ 2 ^ (v.top + v.low)) (sym (same c)) (omega (arith, below)),
+      subst (λ (v : TwoLevelSecret). v.next + 1 ≤ 2 ^ (v.top + v.low)) (sym (same g c)) (omega (arith, below)),
       subst (λ (v : TwoLevelSecret). length v.id ≡ 16) back c.self.invariant.3,
-      advances s x.top_key c.match-unspent.tree c.sign-answer.new.self (ready c) c.in_ok-signature.ensures.next
+      advances s x.top_key c.match-unspent.tree c.sign-answer.new.self (ready g c) c.in_ok-signature.ensures.next
           c.in_ok-signature.ensures.head,
     )
 
 pub invariant_of-self-in_err-signature : goal.invariant_of-self-in_err-signature
-invariant_of-self-in_err-signature c =
+invariant_of-self-in_err-signature g c =
     let x = c.self.inside in
     let keeps = c.self.invariant in
     let s : TwoLevelSecret = record {
@@ -120,39 +121,39 @@ invariant_of-self-in_err-signature c =
     ]
 
 pub returns-clause-ok : goal.returns-clause-ok
-returns-clause-ok c =
+returns-clause-ok g c =
     let tree = c.match-unspent.tree in
     let low : IsHeight c.args.self.now.low =
     subst (λ (v : TwoLevelSecret). IsHeight v.low) c.self.view_is c.self.invariant.1 in
     ready_signs c.args.self.now c.match-unspent.self-inside.top_key tree c.in_ok-signature.signature.items
     c.args.message.now low
-    (subst (λ (v : TwoLevelSecret). IsReady v c.match-unspent.self-inside.top_key tree) (same c) (ready c))
+    (subst (λ (v : TwoLevelSecret). IsReady v c.match-unspent.self-inside.top_key tree) (same g c) (ready g c))
     c.in_ok-signature.ensures.ok
 
 pub returns-clause-signs : goal.returns-clause-signs
-returns-clause-signs c =
-    rw (returns-clause-ok c)
+returns-clause-signs g c =
+    rw (returns-clause-ok g c)
     (signed_verifies c.args.self.now c.args.message.now
     (subst (λ (v : TwoLevelSecret). IsHeight v.top) c.self.view_is c.self.invariant.0)
     (subst (λ (v : TwoLevelSecret). IsHeight v.low) c.self.view_is c.self.invariant.1)
-    (subst (λ (v : TwoLevelSecret). length v.id ≡ 16) c.self.view_is c.self.invariant.3) (left c))
+    (subst (λ (v : TwoLevelSecret). length v.id ≡ 16) c.self.view_is c.self.invariant.3) (left g c))
 
 pub returns-clause-leaves : goal.returns-clause-leaves
-returns-clause-leaves c =
-    rw (returns-clause-ok c)
+returns-clause-leaves g c =
+    rw (returns-clause-ok g c)
     (leaves_named c.args.self.now c.args.message.now
     (subst (λ (v : TwoLevelSecret). IsHeight v.top) c.self.view_is c.self.invariant.0)
-    (subst (λ (v : TwoLevelSecret). IsHeight v.low) c.self.view_is c.self.invariant.1) (left c))
+    (subst (λ (v : TwoLevelSecret). IsHeight v.low) c.self.view_is c.self.invariant.1) (left g c))
 
 pub returns-clause-call : goal.returns-clause-call
-returns-clause-call c =
-    let below = left c in
+returns-clause-call g c =
+    let below = left g c in
     record {
       answered = record {
-        signed = returns-clause-ok c;
+        signed = returns-clause-ok g c;
         spent = (λ no. (cc), λ full. absurd (let no : ⊥ = omega (arith, below, full) in no));
       };
-      leaves = returns-clause-leaves c;
-      used = ap (λ (s : TwoLevelSecret). hss_used s 1) (same c);
+      leaves = returns-clause-leaves g c;
+      used = ap (λ (s : TwoLevelSecret). hss_used s 1) (same g c);
       refused = tt;
     }
