@@ -3,11 +3,12 @@ use crate::log_files_tests::{first, joined};
 use hall_outside::MemoryStore;
 use lms_ots::OtsKind;
 use lms_sign::LmsSecret;
-use log_files::{LogFault, LogRead, read_log, read_log_after};
+use log_files::{LogFault, LogRead, read_log, read_log_by};
 use roster::{Roster, election};
 use sha2::{Digest, Sha256};
 use std::alloc::Global;
 use std::test::Fail;
+use ways_of_work::Alone;
 
 /// The keys of a supervisor and a booth, and the texts of their roster and of one in which each has
 /// the other's key.
@@ -574,11 +575,11 @@ fn answer_after(
     roster: &Roster,
     own: &[u8; 32],
 ) -> Result<String, Fail> {
-    let before = read_log_after(alloc, store, "first", roster, own, &[])?;
+    let before = read_log_by(&Alone, alloc, store, "first", roster, own, &[])?;
     let before = vec![in alloc; before]?;
     said_of(
         alloc,
-        read_log_after(alloc, store, "second", roster, own, &before),
+        read_log_by(&Alone, alloc, store, "second", roster, own, &before),
     )
 }
 

@@ -6,10 +6,11 @@ ghost use Rattle.evidence.specs.inside.Faults.{IsLogFault};
 
 use crate::fault::AuditFault;
 use hall_outside::Store;
-use log_files::{LogFault, LogRead, read_log_after, read_log_after_in};
+use log_files::{EntryWork, LogFault, LogRead, read_log_by};
 use roster::Roster;
 use std::alloc::Global;
 use std::thread::Threads;
+use ways_of_work::{Alone, InThreads};
 
 /// Reads the logs of these names, in their order, and verifies the signatures of their entries
 /// under the roster, of the election. An entry that is in several logs is verified once. The
@@ -30,21 +31,7 @@ pub fn read_logs<S: Store>(
         (GivesLogs roster.now.machines election.now (map string_bytes names.now))
         store.old result store.new }
 {
-    let mut logs = Vec::new(alloc);
-    for name in names {
-        match read_log_after(
-            alloc,
-            store,
-            name.as_str(),
-            roster,
-            election,
-            logs.as_slice(),
-        ) {
-            Ok(log) => logs.push(log)?,
-            Err(fault) => return Err(log_fault(alloc, name.as_str(), fault)),
-        }
-    }
-    Ok(logs)
+    read_logs_by(&Alone, alloc, store, names, roster, election)
 }
 
 /// The logs of `read_logs`, of which threads verify the signatures.
@@ -64,10 +51,31 @@ pub fn read_logs_in<R: Threads + Sync, S: Store>(
         (GivesLogs roster.now.machines election.now (map string_bytes names.now))
         store.old result store.new }
 {
+    read_logs_by(&InThreads { rt }, alloc, store, names, roster, election)
+}
+
+/// The logs of `read_logs`, whose entries are read in this way of work.
+///
+/// # Errors
+///
+/// Those of `read_logs`.
+pub fn read_logs_by<W: EntryWork, S: Store>(
+    work: &W,
+    alloc: Global,
+    store: &mut S,
+    names: &[String],
+    roster: &Roster,
+    election: &[u8; 32],
+) -> Result<Vec<LogRead>, AuditFault>
+    requires { W.may_share work.now }
+    ensures { IsReadFrom S.Store (λ logs. logs.items) (map string_bytes names.now)
+        (GivesLogs roster.now.machines election.now (map string_bytes names.now))
+        store.old result store.new }
+{
     let mut logs = Vec::new(alloc);
     for name in names {
-        match read_log_after_in(
-            rt,
+        match read_log_by(
+            work,
             alloc,
             store,
             name.as_str(),

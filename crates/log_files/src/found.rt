@@ -1,4 +1,4 @@
-//! Reading a log whose records are found first, and whose entries are unsealed then, in threads.
+//! Reading a log whose records are found first, and whose entries are unsealed then.
 ghost use Rattle.std.specs.Prelude.{◌≡◌, ◌≢◌, ◌<◌, ℕ, List, Result, IfOk, IfErr, OnOk, Err};
 ghost use Rattle.std.specs.Prelude.{IsTrue, length, slice_index_or};
 ghost use Rattle.canonical_sexp.specs.Text.{text_of};
@@ -26,22 +26,15 @@ use canonical_sexp::{Memory, Text, whole_text};
 use entry_format::{EntryFault, Sealed};
 use std::alloc::{AllocError, Global};
 use std::mem;
-use std::thread::{self, Threads};
-
-// The most threads that unseal entries. They are more than processors mostly are, so that one that
-// is held up keeps the others waiting for a small part alone.
-const MOST_THREADS: usize = 16;
-
-// The bytes that have to be free for threads to be started, and are kept free until they have
-// ended. So a limit on the address space, which their stacks take up, leaves room for the rest.
-const ROOM: usize = 67_108_864;
+use std::thread::Threads;
+use ways_of_work::{Alone, InThreads, Work, each_in_threads, each_in_turn};
 
 // The bytes of the shortest signature, that of W8 at height 5.
 const SHORTEST: usize = 1292;
 
 /// The record of an entry, and what the entry's text is read as.
 #[derive(Drop)]
-pub(crate) struct Found {
+pub struct Found {
     /// The record's place, counted from 0 after the header.
     pub(crate) place: u32,
     /// Whether the owner of the log sent the entry.
@@ -297,45 +290,78 @@ fn read_rest(alloc: Global, reader: &SealedReader<'_>, firsts: &[usize], found: 
     }
 }
 
-/// Reads the entry of each record where its text stands first, in threads if there is room for them.
-fn read_firsts_in<R: Threads + Sync>(
-    rt: &R,
-    alloc: Global,
-    reader: &SealedReader<'_>,
-    firsts: &[usize],
-    found: &mut [Found],
-)
-    ensures { StayReadBy reader.now.machines reader.now.election found.old found.new }
-{
-    let room = Vec::<u8>::with_capacity(alloc, ROOM);
-    let threads = if room.is_ok() { MOST_THREADS } else { 1 };
-    thread::for_each_mut(
-        rt,
-        found,
-        threads,
-        &|at, part: &mut Found|
-            ensures { (said : RecordText) →
-                IsReadBy reader.entry.now.machines reader.entry.now.election
-                said part.entry.now →
-                IsReadBy reader.entry.now.machines reader.entry.now.election
-                said part.exit.now }
-        { read_first(alloc, reader, firsts, at, part) },
-    );
+/// A way to work by which logs are read.
+pub trait EntryWork: Work {
+    /// Reads the entry of each record where its text stands first.
+    fn read_firsts(
+        &self,
+        alloc: Global,
+        reader: &SealedReader<'_>,
+        firsts: &[usize],
+        found: &mut [Found],
+    )
+        requires { Self.may_share self.now }
+        ensures { StayReadBy reader.now.machines reader.now.election found.old found.new };
 }
 
-/// Reads the entry of each record, in threads: a text that comes again is verified once.
-pub(crate) fn read_each_in<R: Threads + Sync>(
-    rt: &R,
+impl EntryWork for Alone {
+    fn read_firsts(
+        &self,
+        alloc: Global,
+        reader: &SealedReader<'_>,
+        firsts: &[usize],
+        found: &mut [Found],
+    ) {
+        each_in_turn(
+            found,
+            &|at: usize, part: &mut Found|
+                ensures { (said : RecordText) →
+                    IsReadBy reader.entry.now.machines reader.entry.now.election
+                    said part.entry.now →
+                    IsReadBy reader.entry.now.machines reader.entry.now.election
+                    said part.exit.now }
+            { read_first(alloc, reader, firsts, at, part) },
+        );
+    }
+}
+
+impl<R: Threads + Sync> EntryWork for InThreads<'_, R> {
+    fn read_firsts(
+        &self,
+        alloc: Global,
+        reader: &SealedReader<'_>,
+        firsts: &[usize],
+        found: &mut [Found],
+    ) {
+        each_in_threads(
+            self.rt,
+            alloc,
+            found,
+            &|at: usize, part: &mut Found|
+                ensures { (said : RecordText) →
+                    IsReadBy reader.entry.now.machines reader.entry.now.election
+                    said part.entry.now →
+                    IsReadBy reader.entry.now.machines reader.entry.now.election
+                    said part.exit.now }
+            { read_first(alloc, reader, firsts, at, part) },
+        );
+    }
+}
+
+/// Reads the entry of each record, in this way of work: a text that comes again is verified once.
+pub(crate) fn read_each<W: EntryWork>(
+    work: &W,
     alloc: Global,
     reader: &SealedReader<'_>,
     firsts: &[usize],
     found: &mut [Found],
 )
+    requires { W.may_share work.now }
     ensures { (said : List RecordText) →
         AreReadBy reader.now.machines reader.now.election said found.old →
         AreReadBy reader.now.machines reader.now.election said found.new }
 {
-    read_firsts_in(rt, alloc, reader, firsts, found);
+    work.read_firsts(alloc, reader, firsts, found);
     read_rest(alloc, reader, firsts, found);
 }
 

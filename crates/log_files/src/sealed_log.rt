@@ -12,7 +12,7 @@ ghost use Rattle.log_files.specs.inside.Found.{IsFound};
 
 use crate::breaks::broke_at;
 use crate::feed::read_records;
-use crate::found::{Finder, Found, firsts_of, read_each_in, split_found};
+use crate::found::{EntryWork, Finder, Found, firsts_of, read_each, split_found};
 use crate::plain_log::{End, LogFault};
 use crate::records::{Records, log_of};
 use crate::sealed_reader::SealedReader;
@@ -22,7 +22,7 @@ use entry_order::Knot;
 use hall_outside::Store;
 use roster::Roster;
 use std::alloc::Global;
-use std::thread::Threads;
+use ways_of_work::Alone;
 
 /// A record whose entry is valid.
 #[derive(Drop)]
@@ -155,16 +155,18 @@ pub fn read_log<S: Store>(
     ensures unchanged { (S.files store.new ≡ S.files store.old)
         × (S.write_faults store.new ≡ S.write_faults store.old) }
 {
-    read_log_after(alloc, store, name, roster, election, &[])
+    read_log_by(&Alone, alloc, store, name, roster, election, &[])
 }
 
-/// Reads a log's file as `read_log` does. The signature of an entry isn't verified again where an
-/// entry of the same text was kept of a log that was read before.
+/// Reads a log's file as `read_log` does, its entries in this way of work. The signature of an
+/// entry isn't verified again where an entry of the same text was kept of a log that was read
+/// before.
 ///
 /// # Errors
 ///
 /// Those of `read_log`.
-pub fn read_log_after<S: Store>(
+pub fn read_log_by<W: EntryWork, S: Store>(
+    work: &W,
     alloc: Global,
     store: &mut S,
     name: &str,
@@ -172,58 +174,8 @@ pub fn read_log_after<S: Store>(
     election: &[u8; 32],
     before: &[LogRead],
 ) -> Result<LogRead, LogFault>
-    requires { All (λ log. AreValid roster.now.machines election.now log.kept.items) before.now }
-    // The log is what each file says that is such as was read, and so is a refusal. The file is read
-    // to its end, or to the first byte past the limit.
-    ensures ok { IfOk result (λ log. OnReadFile S.Store name.now max_bytes
-        (IsSealedLogOf roster.now.machines election.now log) store.old store.new) }
-    ensures err { IfErr result (λ fault. fault ≢ LogFault.Memory →
-        OnReadFile S.Store name.now max_bytes (IsLogRefused fault) store.old store.new) }
-
-    // So it may be among those that were read before.
-    ensures valid { IfOk result (λ log.
-        AreValid roster.now.machines election.now log.kept.items) }
-
-    // Absent and TooLong come exactly when the store said so in this call, ReadFault only so.
-    ensures absent { ComesExactly (S.answered store.old).absences (S.answered store.new).absences
-        (IsErrOf result LogFault.Absent) }
-    ensures absences { (S.answered store.old).absences ≤ (S.answered store.new).absences }
-    ensures too_long { ComesExactly ((S.answered store.old).bytes + max_bytes)
-        (S.answered store.new).bytes (IsErrOf result LogFault.TooLong) }
-    ensures read_fault { HasCause (S.read_faults store.old) (S.read_faults store.new)
-        (IsErrOf result LogFault.ReadFault) }
-
-    ensures unchanged { (S.files store.new ≡ S.files store.old)
-        × (S.write_faults store.new ≡ S.write_faults store.old) }
-{
-    let reader = match SealedReader::make(alloc, roster, election, before) {
-        Ok(reader) => reader,
-        Err(_) => return Err(LogFault::Memory),
-    };
-    match read_records(alloc, store, name, &reader) {
-        Ok(log) => match with_break(alloc, log) {
-            Ok(log) => Ok(log),
-            Err(_) => Err(LogFault::Memory),
-        },
-        Err(fault) => Err(fault),
-    }
-}
-
-/// Reads a log's file as `read_log_after` does, and unseals its entries in threads.
-///
-/// # Errors
-///
-/// Those of `read_log`.
-pub fn read_log_after_in<R: Threads + Sync, S: Store>(
-    rt: &R,
-    alloc: Global,
-    store: &mut S,
-    name: &str,
-    roster: &Roster,
-    election: &[u8; 32],
-    before: &[LogRead],
-) -> Result<LogRead, LogFault>
-    requires { All (λ log. AreValid roster.now.machines election.now log.kept.items) before.now }
+    requires shared { W.may_share work.now }
+    requires before { All (λ log. AreValid roster.now.machines election.now log.kept.items) before.now }
     // The log is what each file says that is such as was read, and so is a refusal. The file is read
     // to its end, or to the first byte past the limit.
     ensures ok { IfOk result (λ log. OnReadFile S.Store name.now max_bytes
@@ -252,7 +204,7 @@ pub fn read_log_after_in<R: Threads + Sync, S: Store>(
         Err(_) => return Err(LogFault::Memory),
     };
     match read_records(alloc, store, name, &Finder { reader: &reader }) {
-        Ok(log) => match unsealed_in(rt, alloc, &reader, log) {
+        Ok(log) => match unsealed(work, alloc, &reader, log) {
             Ok(log) => Ok(log),
             Err(_) => Err(LogFault::Memory),
         },
@@ -260,13 +212,14 @@ pub fn read_log_after_in<R: Threads + Sync, S: Store>(
     }
 }
 
-/// The log whose records were found, with their entries, which are unsealed in threads.
-fn unsealed_in<R: Threads + Sync>(
-    rt: &R,
+/// The log whose records were found, with their entries.
+fn unsealed<W: EntryWork>(
+    work: &W,
     alloc: Global,
     reader: &SealedReader<'_>,
     log: Records<Found>,
 ) -> Result<LogRead, Memory>
+    requires { W.may_share work.now }
     ensures { IfOk result (λ sealed. (bytes : List ℕ) →
         AreLog (IsFound reader.now.machines reader.now.election) bytes log.owner
         log.kept.items log.refused.items log.end →
@@ -279,7 +232,7 @@ fn unsealed_in<R: Threads + Sync>(
         end,
     } = log;
     let firsts = firsts_of(alloc, found.as_slice())?;
-    read_each_in(rt, alloc, reader, firsts.as_slice(), found.as_mut_slice());
+    read_each(work, alloc, reader, firsts.as_slice(), found.as_mut_slice());
     let (kept, refused) = split_found(alloc, found, &early)?;
     with_break(
         alloc,

@@ -1,7 +1,7 @@
 use Rattle.evidence.proofs.Imports.{◌∙◌, ◌+◌, List, ℕ, map, drop, string_bytes, sym, subst, All-nil}
 use Rattle.evidence.proofs.Imports.{IsLogFault, LogRead, AreValid}
 use Rattle.evidence.proofs.LogLists.{none_so_far, next_so_far, more_so_far, all_so_far, refused_so_far, valid_more}
-use Rattle.evidence.proofs.logs.read_logs_in.Goals as goal
+use Rattle.evidence.proofs.logs.read_logs_by.Goals as goal
 
 pub loop-name-init : goal.loop-name-init
 loop-name-init g c =
@@ -29,7 +29,7 @@ loop-name-preserved g c =
     record {
       so_far = rw c.in_ok-push-in-Ok.ensures.items
           (more_so_far g.S.Store machines election names old name rest logs c.in-Ok.log now
-          c.read_log_after_in.new.store given.ok
+          c.read_log_by.new.store given.ok
           (record {
             absent = given.absent;
             absences = given.absences;
@@ -55,7 +55,7 @@ returns-in-Err g c =
     let logs = c.loop-name.logs.items in
     let now = c.loop-name.store in
     let old = c.args.store.now in
-    let new = c.read_log_after_in.new.store in
+    let new = c.read_log_by.new.store in
     refused_so_far g.S.Store machines election names old (λ found. found.items) name rest logs now new
     c.in-Err.why c.log_fault.result
     (subst (λ (n : List ℕ). IsLogFault n c.in-Err.why c.log_fault.result)
