@@ -4,8 +4,12 @@
 #![tactic(auto)]
 
 pub mod atoms;
+pub mod judging;
 pub mod kleene;
+pub mod knowledge;
 mod laws;
+pub mod quantifier;
+pub mod scene;
 pub mod scope;
 pub mod terms;
 pub mod width;
