@@ -14,7 +14,6 @@ pub use Rattle.audit_proof.specs.ProofText.{step_word, survivors_line}
 pub use Rattle.audit_proof.specs.Reads.{IsReadAnswer, IsTextFor}
 pub use Rattle.audit_proof.specs.Trust.{FullProofsSayAll, LinesListAncestors, ProofsAreRight, ProofsSayNoMore}
 pub use Rattle.audit_proof.specs.Trust.{WrittenProofsSayAll}
-pub use Rattle.audit_proof.specs.declared.checking.Quantifier.{Quantifier}
 pub use Rattle.audit_proof.specs.declared.fault.ProofFault.{ProofFault}
 pub use Rattle.audit_proof.specs.declared.fault.ProofFault.TheVariants.{At}
 pub use Rattle.audit_proof.specs.declared.fault.ProofWhy.{ProofWhy}
@@ -27,7 +26,7 @@ pub use Rattle.audit_proof.specs.declared.reading.Unread.TheVariants.{Why}
 pub use Rattle.audit_proof.specs.declared.step.ProofStep.{ProofStep}
 pub use Rattle.audit_proof.specs.inside.Begun.{GoesOn, IsListedTable, IsNextWord, IsReading, IsWordStep, step_tests}
 pub use Rattle.audit_proof.specs.inside.Bytes.{Follows, HasNo}
-pub use Rattle.audit_proof.specs.inside.Checking.{at_place, over_list, places_of}
+pub use Rattle.audit_proof.specs.inside.Kinds.{places_of}
 pub use Rattle.audit_proof.specs.inside.Closed.{closed_at}
 pub use Rattle.audit_proof.specs.inside.Falls.{Falls}
 pub use Rattle.audit_proof.specs.inside.LineAnswers.{IsEntryOf, IsFinished, IsLineAnswer, IsNoEntry, fault_of}
@@ -37,7 +36,7 @@ pub use Rattle.audit_proof.specs.inside.Packing.{step_in, steps_from, unpacked}
 pub use Rattle.audit_proof.specs.inside.Unread.{IsWordFault, IsWordsAnswer, line_with}
 pub use Rattle.audit_proof.specs.inside.Walks.{IsNoted, IsWalking, noted_one, via_at}
 pub use Rattle.audit_proof.specs.inside.Writings.{IsWriting}
-pub use Rattle.entry_order.proofs.Lists.{Contains-cons_cases, Contains-filter_cases, Contains-head, Contains-later}
+pub use Rattle.entry_order.proofs.Lists.{Contains-cons_cases, Contains-head, Contains-later}
 pub use Rattle.entry_order.proofs.Lists.{Contains-map, Contains-map_cases, Contains-none, list_any_of, list_any_some}
 pub use Rattle.entry_order.proofs.Places.{all_at, all_from_places, element_at, last_at, member_at, place_of}
 pub use Rattle.entry_order.proofs.Places.{push_before, push_cases, taken_more}
@@ -52,23 +51,19 @@ pub use Rattle.item_list.specs.Causes.{IsFirstOf}
 pub use Rattle.precedence.specs.Graph.{Graph}
 pub use Rattle.rule_language.specs.Forms.{tree_of}
 pub use Rattle.rule_language.specs.Trees.{Trees}
-pub use Rattle.rule_language.specs.declared.formula.Formula.{Formula}
 pub use Rattle.rule_language.specs.declared.kind.Kind.{Kind}
 pub use Rattle.rule_language.specs.declared.row.Row.{Row}
-pub use Rattle.rule_meaning.proofs.Judges.{value-And, value-Before, value-Equal, value-EveryBefore, value-ForEvery}
-pub use Rattle.rule_meaning.proofs.Judges.{value-ForSome, value-Implies, value-Is, value-Less, value-Next}
-pub use Rattle.rule_meaning.proofs.Judges.{value-OfKind, value-Or, value-SomeBefore}
 pub use Rattle.rule_meaning.proofs.Less.{less_is_known}
-pub use Rattle.rule_meaning.proofs.SameOrders.{row_of_kind, same_values}
+pub use Rattle.rule_meaning.proofs.SameOrders.{same_values}
 pub use Rattle.rule_meaning.proofs.Sounds.{rules_are_settled}
-pub use Rattle.rule_meaning.specs.Judging.{is_in, over, over_before, over_rows, signed, value_of}
-pub use Rattle.rule_meaning.specs.Kleene.{as_three, both, either, is_false, least, opposite}
 pub use Rattle.rule_meaning.specs.Knowledge.{IsLess, IsLessKnown}
-pub use Rattle.rule_meaning.specs.Meaning.{bind, unbound}
+pub use Rattle.rule_meaning.specs.Meaning.{unbound}
+pub use Rattle.rule_meaning.specs.Tests.{has_kind}
+pub use Rattle.rule_meaning.proofs.Visits.{all_visited}
 pub use Rattle.rule_meaning.specs.Scopes.{env_of}
-pub use Rattle.rule_meaning.specs.Tests.{are_equal, has_kind, has_role, is_less, is_next}
-pub use Rattle.rule_meaning.specs.Values.{first_value, row_at, three_in, values}
-pub use Rattle.std.proofs.Common.{IfSome, List, None, Option, Some, [], ap, append_assoc, arith, cond, drop, get_or}
+pub use Rattle.rule_meaning.specs.Visited.{IsVisitedFor}
+pub use Rattle.rule_meaning.specs.Values.{first_value, three_in, values}
+pub use Rattle.std.proofs.Common.{List, None, Option, Some, [], ap, append_assoc, arith, cond, drop, get_or}
 pub use Rattle.std.proofs.Common.{inl, inr, length, nat_eq, refl, replicate, rules, subst, suc, sym, take, true, zero}
 pub use Rattle.std.proofs.Common.{ℕ, ◌%◌, ◌++◌, ◌+◌, ◌-◌, ◌/◌, ◌<◌, ◌^◌, ◌||◌, ◌∙◌, ◌∷◌, ◌≡◌, ◌≢◌, ◌≤◌}
 pub use Rattle.std.proofs.lemmas.Bool.{and_from, and_parts, cases_eq, cases_lt, eq-eqb, eqb-true, false≢true, lt-ltb}

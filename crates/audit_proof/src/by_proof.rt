@@ -4,15 +4,16 @@ ghost use Rattle.rule_language.specs.Forms.{tree_of};
 ghost use Rattle.audit_proof.specs.Lines.{IsProofOf};
 ghost use Rattle.audit_proof.specs.Answers.{IsCheckAnswer, verdict_of};
 
-use crate::checking::value;
 use crate::fault::{CheckFault, Verdict};
 use crate::kinds::Kinds;
 use crate::listing::Listing;
 use crate::proof::Proof;
-use crate::scene::Scene;
+use crate::tables::Tables;
 use entry_order::Three;
 use precedence::Arrows;
 use rule_language::{Row, Rule};
+use rule_meaning::judging::value;
+use rule_meaning::scene::Scene;
 use rule_meaning::scope::Scope;
 use rule_meaning::width::is_too_wide;
 use std::alloc::Global;
@@ -41,8 +42,7 @@ pub fn check<A: Arrows>(
     let kinds = Kinds::make(alloc, rows)?;
     let scene = Scene {
         rows,
-        kinds,
-        listing,
+        known: Tables { kinds, listing },
     };
     Ok(verdict_of(value(&rule.body, &Scope::Empty, &scene)))
 }

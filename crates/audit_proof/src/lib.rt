@@ -3,7 +3,6 @@
 #![tactic(auto)]
 
 mod by_proof;
-mod checking;
 mod fault;
 mod kinds;
 mod laws;
@@ -14,9 +13,9 @@ mod packed;
 mod proof;
 mod proving;
 mod reading;
-mod scene;
 mod step;
 mod steps;
+mod tables;
 mod whole_text;
 
 pub use by_proof::check;
