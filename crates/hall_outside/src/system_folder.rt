@@ -52,7 +52,7 @@ impl<'a, R> SystemFolder<'a, R> {
 }
 
 impl<'a, R: Files<File = File>> Folder for SystemFolder<'a, R> {
-    ghost use Rattle.std.specs.Prelude.{⊤};
+    ghost use Rattle.std.specs.Prelude.{⊤, []};
 
     ghost moments = { λ _. [] };
 
