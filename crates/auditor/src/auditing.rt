@@ -29,11 +29,9 @@ ghost use Rattle.auditor.specs.Audits.{WithGraph, WithLogs, GivesReport, audit_f
 
 use crate::report::Report;
 use entry_graph::Graph;
-use evidence::{
-    AuditFault, RosterRead, file_fault, graph_of, read_logs, read_logs_in, read_roster,
-};
+use evidence::{AuditFault, RosterRead, file_fault, graph_of, read_logs_by, read_roster};
 use hall_outside::{Store, read_file};
-use log_files::LogRead;
+use log_files::{EntryWork, LogRead};
 use precedence::Rows;
 use roster::Roster;
 use rule_engine::{Unjudged, Verdict, judge_all};
@@ -41,6 +39,7 @@ use rule_language::{Rule, RuleFault, read, standard};
 use std::alloc::{AllocError, Global};
 use std::thread::Threads;
 use survivor_rows::rows;
+use ways_of_work::{Alone, InThreads};
 
 /// Where the rules of an audit come from.
 #[derive(Clone, Copy)]
@@ -307,14 +306,7 @@ pub fn audit<S: Store>(
         (GivesReport roster.now (source_of rules.entry) (map string_bytes logs.now))
         store.old result store.new }
 {
-    match begin(alloc, store, roster, rules) {
-        Ok(begun) => {
-            let election = &begun.read.election;
-            let read = read_logs(alloc, store, logs, &begun.read.roster, election);
-            finish::<S>(alloc, begun, rules, logs, read)
-        }
-        Err(fault) => Err(fault),
-    }
+    audit_by(&Alone, alloc, store, roster, rules, logs)
 }
 
 /// The audit of `audit`, for which the entries of the logs are unsealed in threads.
@@ -335,10 +327,32 @@ pub fn audit_in<R: Threads + Sync, S: Store>(
         (GivesReport roster.now (source_of rules.entry) (map string_bytes logs.now))
         store.old result store.new }
 {
+    audit_by(&InThreads { rt }, alloc, store, roster, rules, logs)
+}
+
+/// The audit of `audit`, for which the logs are read in this way of work.
+///
+/// # Errors
+///
+/// Those of `audit`.
+pub fn audit_by<W: EntryWork, S: Store>(
+    work: &W,
+    alloc: Global,
+    store: &mut S,
+    roster: &str,
+    rules: RulesFrom<'_>,
+    logs: &[String],
+) -> Result<Report, AuditFault>
+    requires { W.may_share work.now }
+    ensures { IsReadFrom S.Store report_of
+        (audit_files roster.now (source_of rules.entry) (map string_bytes logs.now))
+        (GivesReport roster.now (source_of rules.entry) (map string_bytes logs.now))
+        store.old result store.new }
+{
     match begin(alloc, store, roster, rules) {
         Ok(begun) => {
             let election = &begun.read.election;
-            let read = read_logs_in(rt, alloc, store, logs, &begun.read.roster, election);
+            let read = read_logs_by(work, alloc, store, logs, &begun.read.roster, election);
             finish::<S>(alloc, begun, rules, logs, read)
         }
         Err(fault) => Err(fault),
