@@ -95,7 +95,8 @@ fn a_key_is_spent_after_its_last_leaf(rt: HostRuntime) -> Result<(), Fail> {
     assert!(rt; matches!(secret.sign(alloc, b"ballot"), Err(HssFault::Spent)));
     let mut made = secret_at(alloc, 1024)?;
     assert!(rt; matches!(made.sign(alloc, b"ballot"), Err(HssFault::Spent)));
-    assert!(rt; matches!(made.sign_by(&InThreads { rt: &rt }, alloc, b"ballot"), Err(HssFault::Spent)));
+    let answer = made.sign_by(&InThreads { rt: &rt }, alloc, b"ballot");
+    assert!(rt; matches!(answer, Err(HssFault::Spent)));
     Ok(())
 }
 
