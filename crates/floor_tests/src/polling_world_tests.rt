@@ -6,10 +6,11 @@ ghost use Rattle.polling_world.specs.Keys.{roster_of};
 use election_script::{Script, read};
 use entangled_log::Event;
 use entry_format::Sealed;
-use polling_world::{Acted, Machine, Memory, World, key_of, keys_in, keys_of, play, roster_of};
+use polling_world::{Acted, Machine, Memory, World, key_of, keys_by, keys_of, play, roster_of};
 use roster::Roster;
 use std::alloc::{AllocError, Global};
 use std::test::Fail;
+use ways_of_work::InThreads;
 
 /// The script of these lines in this version, with logs of this many events.
 pub(crate) fn script_of(alloc: Global, version: u32, log: u32, lines: &str) -> Result<Script, Fail>
@@ -288,7 +289,7 @@ fn keys_made_in_threads_are_the_same(rt: HostRuntime) -> Result<(), Fail> {
     let alloc = rt.alloc();
     let script = script_of(alloc, 1, 64, SESSION)?;
     let made = keys_of(alloc, &script)?;
-    let in_threads = keys_in(&rt, alloc, &script)?;
+    let in_threads = keys_by(&InThreads { rt: &rt }, alloc, &script)?;
     assert!(rt; made.len() == 2 && in_threads.len() == 2);
     for (one, other) in made.iter().zip(in_threads.iter()) {
         assert!(rt; one.public().bytes() == other.public().bytes());

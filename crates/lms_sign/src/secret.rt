@@ -24,9 +24,8 @@ use crate::public::{LmsPublic, lms_typecode, signature_len};
 use lms_ots::{OtsKind, ots_sign_into, u32_bytes, write_at};
 use std::alloc::{AllocError, Global};
 use std::marker::Model;
-use std::thread::Threads;
 use thiserror::Error;
-use ways_of_work::{Alone, InThreads};
+use ways_of_work::Alone;
 
 /// Out of memory.
 pub type Memory = AllocError;
@@ -170,50 +169,6 @@ impl LmsSecret {
         let mut leaves = blank_leaves(alloc, kind, height)?;
         work.make_leaves(alloc, kind, height, &id, &seed, leaves.as_mut_slice());
         LmsSecret::of_leaves(alloc, kind, height, id, seed, next, leaves)
-    }
-
-    /// The key of `make`, whose leaves are made in threads.
-    pub fn make_in<R: Threads + Sync>(
-        rt: &R,
-        alloc: Global,
-        kind: OtsKind,
-        height: u32,
-        id: [u8; 16],
-        seed: [u8; 32],
-    ) -> Result<LmsSecret, Memory>
-        requires { IsHeight height }
-        ensures { IfOk result (λ s. s ≡ record {
-          kind = kind;
-          height = height;
-          id = id;
-          seed = seed;
-          next = 0;
-        }) }
-    {
-        LmsSecret::make_by(&InThreads { rt }, alloc, kind, height, id, seed)
-    }
-
-    /// The key of `make_at`, whose leaves are made in threads.
-    pub fn make_at_in<R: Threads + Sync>(
-        rt: &R,
-        alloc: Global,
-        kind: OtsKind,
-        height: u32,
-        id: [u8; 16],
-        seed: [u8; 32],
-        next: u32,
-    ) -> Result<LmsSecret, Memory>
-        requires height { IsHeight height }
-        requires next { next ≤ 2 ^ height }
-        ensures { IfOk result (λ s. s ≡ record {
-          kind = kind;
-          height = height;
-          id = id;
-          seed = seed;
-          next = next;
-        }) }
-    {
-        LmsSecret::make_at_by(&InThreads { rt }, alloc, kind, height, id, seed, next)
     }
 
     // The key of these leaves.

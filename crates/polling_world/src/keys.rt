@@ -6,11 +6,12 @@ ghost use Rattle.election_script.specs.Lawful.{IsLawful};
 ghost use Rattle.polling_world.specs.Keys.{IsKeyOf, key_of, machine_id, machine_seed, roster_of};
 
 use election_script::{Cast0, Script};
-use lms_sign::LmsSecret;
+use lms_sign::{LeafWork, LmsSecret};
 use roster::{Name, Post, Posts, Roster};
 use sha2::{Digest, Sha256};
 use std::alloc::{AllocError, Global};
 use std::thread::Threads;
+use ways_of_work::{Alone, InThreads};
 
 /// The key of the script's machine at this place, which has signed nothing.
 pub fn key_of(alloc: Global, script: &Script, at: u32) -> Result<LmsSecret, AllocError>
@@ -19,7 +20,7 @@ pub fn key_of(alloc: Global, script: &Script, at: u32) -> Result<LmsSecret, Allo
     ensures { IfOk result (λ key. IsKeyOf script.now at key) }
 {
     let machines = script.machines.as_slice();
-    key_of_cast(alloc, script, &machines[at as usize])
+    key_of_cast(&Alone, alloc, script, &machines[at as usize])
 }
 
 /// The keys of all machines of the script, in their order. Each takes a while to make.
@@ -27,11 +28,7 @@ pub fn keys_of(alloc: Global, script: &Script) -> Result<Vec<LmsSecret>, AllocEr
     requires { IsLawful script.now }
     ensures { IfOk result (λ keys. keys.items ≡ map (key_of script.now) script.now.machines) }
 {
-    let mut keys = Vec::new(alloc);
-    for cast in script.machines.as_slice() {
-        keys.push(key_of_cast(alloc, script, cast)?)?;
-    }
-    Ok(keys)
+    keys_by(&Alone, alloc, script)
 }
 
 /// The keys of `keys_of`, the leaves of each of which are made in threads.
@@ -43,10 +40,22 @@ pub fn keys_in<R: Threads + Sync>(
     requires { IsLawful script.now }
     ensures { IfOk result (λ keys. keys.items ≡ map (key_of script.now) script.now.machines) }
 {
+    keys_by(&InThreads { rt }, alloc, script)
+}
+
+/// The keys of `keys_of`, the leaves of each of which are made in this way of work.
+pub fn keys_by<W: LeafWork>(
+    work: &W,
+    alloc: Global,
+    script: &Script,
+) -> Result<Vec<LmsSecret>, AllocError>
+    requires shared { W.may_share work.now }
+    requires lawful { IsLawful script.now }
+    ensures { IfOk result (λ keys. keys.items ≡ map (key_of script.now) script.now.machines) }
+{
     let mut keys = Vec::new(alloc);
     for cast in script.machines.as_slice() {
-        let (id, seed) = id_and_seed(script, cast);
-        keys.push(LmsSecret::make_in(rt, alloc, script.kind, script.height, id, seed)?)?;
+        keys.push(key_of_cast(work, alloc, script, cast)?)?;
     }
     Ok(keys)
 }
@@ -66,12 +75,18 @@ pub fn roster_of(alloc: Global, script: &Script, keys: &[LmsSecret]) -> Result<R
 }
 
 /// The key of a machine of the script.
-fn key_of_cast(alloc: Global, script: &Script, cast: &Cast0) -> Result<LmsSecret, AllocError>
-    requires { IsLawful script.now }
+fn key_of_cast<W: LeafWork>(
+    work: &W,
+    alloc: Global,
+    script: &Script,
+    cast: &Cast0,
+) -> Result<LmsSecret, AllocError>
+    requires shared { W.may_share work.now }
+    requires lawful { IsLawful script.now }
     ensures { IfOk result (λ key. key ≡ key_of script.now cast.now) }
 {
     let (id, seed) = id_and_seed(script, cast);
-    LmsSecret::make(alloc, script.kind, script.height, id, seed)
+    LmsSecret::make_by(work, alloc, script.kind, script.height, id, seed)
 }
 
 /// The identifier and the seed of the key of a machine of the script.

@@ -1,5 +1,5 @@
 use Rattle.polling_world.proofs.Imports.{◌≡◌, map, take, key_of}
-use Rattle.polling_world.proofs.keys.keys_in.Given as goal
+use Rattle.polling_world.proofs.keys.keys_by.Given as goal
 
 -- the keys so far
 abbrev pub invariant-loop-cast : goal.invariant-loop-cast
