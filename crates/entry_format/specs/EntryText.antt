@@ -72,16 +72,9 @@ IsDeed (Challenge session ballot) = (session < 2 ^ 32) × IsDigest ballot
 
 -- the version has the deed: version 1 has no challenge, and no override that says cast
 abbrev pub IsDeedIn : ℕ → Deed → Type 0
-IsDeedIn version Opened = Unit {0}
-IsDeedIn version (Authorise booth session) = Unit {0}
-IsDeedIn version (Override session how.Cancel) = Unit {0}
 IsDeedIn version (Override session how.Cast) = version ≡ 2
-IsDeedIn version Closed = Unit {0}
-IsDeedIn version (Activate session) = Unit {0}
-IsDeedIn version (Commit session ballot) = Unit {0}
-IsDeedIn version (Cast session ballot) = Unit {0}
-IsDeedIn version (Cancel session) = Unit {0}
 IsDeedIn version (Challenge session ballot) = version ≡ 2
+IsDeedIn version deed = Unit {0}
 
 -- the body of an entry, which is signed (Auditorium, EVT 2007)
 abbrev pub body_tree : Entry → Sexp

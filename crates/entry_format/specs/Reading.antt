@@ -20,16 +20,12 @@ abbrev pub HasRisingNames : List ℕ → Type 0
 HasRisingNames text = (entry : Entry) × (signature : List ℕ) × IsSignedText text entry signature
     × IsAscending entry.names
 
--- the faults that show without a roster, the first that applies
+-- the faults that show without a roster, the first that applies; no other does
 abbrev pub IsFormFault : List ℕ → EntryFault → Type 0
 IsFormFault text NotCanonical = IsCanonical text → ⊥
 IsFormFault text WrongShape = IsCanonical text × (HasForm text → ⊥)
 IsFormFault text NamesNotRising = HasForm text × (HasRisingNames text → ⊥)
-IsFormFault text OtherElection = ⊥
-IsFormFault text UnknownMaker = ⊥
-IsFormFault text WrongIndex = ⊥
-IsFormFault text BadSignature = ⊥
-IsFormFault text Memory = ⊥
+IsFormFault text fault = ⊥
 
 -- The entry that the text is of, with rising names and the digest of the whole text, or its first
 -- fault (FIPS 180-4).

@@ -6,9 +6,8 @@ use Rattle.lms_sign.specs.Signs.{Signs}
 use Rattle.roster.specs.declared.post.Post.{Post}
 use Rattle.entry_format.specs.declared.entry.Entry.{Entry}
 use Rattle.entry_format.specs.declared.plain.EntryFault.{EntryFault}
-use Rattle.entry_format.specs.declared.plain.EntryFault.TheVariants.{NotCanonical, WrongShape, NamesNotRising}
 use Rattle.entry_format.specs.declared.plain.EntryFault.TheVariants.{OtherElection, UnknownMaker, WrongIndex}
-use Rattle.entry_format.specs.declared.plain.EntryFault.TheVariants.{BadSignature, Memory}
+use Rattle.entry_format.specs.declared.plain.EntryFault.TheVariants.{BadSignature}
 use Rattle.entry_format.specs.EntryText.{body_tree, IsSignedText}
 use Rattle.entry_format.specs.Reading.{IsFormFault}
 use Rattle.entry_format.specs.SealedEntry.{SealedEntry}
@@ -28,11 +27,8 @@ pub record IsValid (machines : List Post) (election text : List ℕ) (sealed : S
   pub key : sealed.key ≡ key_at machines sealed.entry.maker
 
 -- the faults of an entry with a signature that show by the election and the machines, the first
--- that applies
+-- that applies; no other does
 abbrev pub IsEntryFault : List Post → List ℕ → Entry → List ℕ → EntryFault → Type 0
-IsEntryFault machines election entry signature NotCanonical = ⊥
-IsEntryFault machines election entry signature WrongShape = ⊥
-IsEntryFault machines election entry signature NamesNotRising = ⊥
 IsEntryFault machines election entry signature OtherElection = entry.election ≢ election
 IsEntryFault machines election entry signature UnknownMaker =
     (entry.election ≡ election) × (length machines ≤ entry.maker)
@@ -41,7 +37,7 @@ IsEntryFault machines election entry signature WrongIndex =
 IsEntryFault machines election entry signature BadSignature =
     (entry.election ≡ election) × (entry.maker < length machines) × HasIndex signature entry.number
     × (Signs (key_at machines entry.maker) (text_of (body_tree entry)) signature → ⊥)
-IsEntryFault machines election entry signature Memory = ⊥
+IsEntryFault machines election entry signature fault = ⊥
 
 -- the text's first fault: one of its form, or else one of the entry that it is of
 abbrev pub IsFault : List Post → List ℕ → List ℕ → EntryFault → Type 0
