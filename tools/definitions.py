@@ -15,7 +15,8 @@ The meaning of each reached definition is its comment, with its public source: p
 and what a clause reaches although it lies in `specs/inside/`.
 
 Some definitions fix no byte of an answer: what is said of answers, as that a kept rule holds whatever was lost.
-They have to be read. All others fix bytes: by the law `one_answer_is_right` an answer that a second
+They have to be read, and so have those that lead from a command's record to them: they fix bytes, but no byte shows
+that they say this as well. All others fix bytes alone: by the law `one_answer_is_right` an answer that a second
 program gives, too, tests them. `read` prints the text of those to be read for a part, in reading order,
 each with its file and line; without PART, all of them. A part is a command's word, `law`, `all` or `laws`. With --html
 it is one page, in which names are links.
@@ -301,6 +302,16 @@ def key_of(known, crate, name):
     sys.exit(f"there is no {name} in {crate}: say in this script where its part begins")
 
 
+def leading_to(known, ends, among):
+    """Those of `among` that name one of the ends, or one that does."""
+    names = {key: set(named_by(known, key)) for key in among}
+    found, new = set(), set(ends)
+    while new:
+        new = {key for key in among if key not in found and names[key] & new}
+        found |= new
+    return found
+
+
 def parts_to_read(known, named):
     """The parts by name, each with the definitions to be read for it, and all that is reached in all."""
     by_word = commands(known)
@@ -308,6 +319,7 @@ def parts_to_read(known, named):
     meaning = [key_of(known, TOP[0], name) for name in MEANING]
     answers = [root for word, roots in by_word.items() if word != MANY_ANSWERS for root in roots]
     fixed = set(reached_from(known, answers, meaning)) - set(law)
+    leading = leading_to(known, meaning, fixed)
     roots = {root for given in by_word.values() for root in given}
     parts = {"law": law, "all": reached_from(known, named[TOP], roots)}
     parts |= {word: reached_from(known, given) for word, given in by_word.items()}
@@ -316,7 +328,8 @@ def parts_to_read(known, named):
     common = set(law) | set(parts["all"])
     read = {}
     for name, keys in parts.items():
-        own = [key for key in keys if key not in fixed and (name in ("law", "all") or key not in common)]
+        read_here = set(keys) - fixed | (leading & set(keys) if name in by_word else set())
+        own = [key for key in keys if key in read_here and (name in ("law", "all") or key not in common)]
         read[name] = from_top(known, own)
     return read, every
 
