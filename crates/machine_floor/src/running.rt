@@ -10,10 +10,11 @@ use crate::work::work_all;
 use election_script::Script;
 use finished_floor::{Floor, finish_floor};
 use hall_outside::Gate;
-use polling_world::{Memory, keys_in};
+use polling_world::{Memory, keys_by};
 use std::alloc::Global;
 use std::sync::Wait;
 use std::thread::Threads;
+use ways_of_work::InThreads;
 
 /// Plays the script on its machines in threads, a hand and an ear for each, each turn of which
 /// passes the gate. What they leave is then done on this thread, until nothing more can be done. It
@@ -35,7 +36,7 @@ pub fn run_floor<R: Threads + Wait + Sync, G: Gate + Sync>(
         roster,
         stations,
         links,
-    } = prepare(alloc, script, keys_in(rt, alloc, script)?)?;
+    } = prepare(alloc, script, keys_by(&InThreads { rt }, alloc, script)?)?;
     let stations = work_all(rt, alloc, gate, &links, turns_of(script), stations)?;
     let gathered = gather(rt, alloc, roster, links, stations)?;
     finish_floor(alloc, script, gathered)
