@@ -5,6 +5,7 @@ usage: python3 tools/definitions.py [--list | --write]
        python3 tools/definitions.py read [PART] [--html]
 
 A public clause is a `requires` or `ensures` of a function that its crate exports, or of a trait's function,
+save one that takes a type of its file which the crate doesn't export, so that nobody outside can call it;
 and so are the members that a trait or a type gives to contracts (`ghost NAME`, `Value`). What a type keeps of
 its own fields (`view`, `invariant`) isn't public. A clause reaches the definitions that it names and those
 that they name in turn, in the `specs/` of all crates. A constructor counts as its type, and so does a field that is given
@@ -224,6 +225,7 @@ def public_texts(crate, path):
     """The texts of the public clauses and ghost members of a source file, each with its function's or its own
     name."""
     text, names = path.read_text(), exported(crate)
+    hidden = set(re.findall(r"^pub (?:struct|enum) (\w+)", text, re.M)) - names
     owner, public = None, False
     for line in re.finditer(r"^.*$", text, re.M):
         content = line.group()
@@ -235,7 +237,9 @@ def public_texts(crate, path):
             yield from ((function.group(1), clause) for clause in clauses_of(text, line.start()))
         elif owner and public:
             shown = r"    fn (\w+)" if owner == "trait" else r"    pub fn (\w+)"
-            if function := re.match(shown, content):
+            function = re.match(shown, content)
+            taken = set(re.findall(r"\w+", text[line.start() : text.find(")\n", line.start())]))
+            if function and not (owner == "trait" and hidden & taken):
                 yield from ((function.group(1), clause) for clause in clauses_of(text, line.start()))
             member = re.match(r"    ghost (?!use|view|invariant)(\w+)(?::| =) (?=\{)", content)
             if member:
