@@ -15,6 +15,7 @@ use Rattle.std.specs.Prelude.{◌&&◌}
 use Rattle.rule_language.specs.declared.kind.Kind.{Kind}
 use Rattle.rule_engine.proofs.Unreached.{AreRows, one_more, numbers_more, same_values}
 use Rattle.rule_engine.proofs.Unreached.{map_same, filter_same, get_old, range_below}
+use Rattle.rule_meaning.proofs.Visits.{range_has}
 
 -- the least of two lists is the least of both leasts
 least_append : (xs ys : List Three) → least (xs ++ ys) ≡ both (least xs) (least ys)
@@ -50,13 +51,6 @@ each_least f [] each = refl
 each_least f (x ∷ xs) each =
     ap (λ (y : Three). both y (least (map f xs))) (each x (Contains-head x xs))
     ∙ each_least f xs (λ i c. each i (Contains-later x xs i c))
-
--- the numbers of a row are in it
-range_has : (a n i : ℕ) → a ≤ i → i < a + n → Contains (range_with_len a n) i
-range_has a n i from below =
-    let low : i - a < n = omega (arith, from, below) in
-    let at : a + (i - a) ≡ i = omega (arith, from) in
-    (i - a, subst (λ (l : ℕ). i - a < l) (sym (length-range_with_len a n)) low, get_or-range_with_len a n (i - a) i low ∙ at)
 
 -- a value that is known to be true is true
 pub is_true_is : (x : Three) → is_true x ≡ true → x ≡ True

@@ -14,16 +14,16 @@ pub use Rattle.rule_engine.specs.declared.index.Index.{Index}
 pub use Rattle.rule_engine.specs.declared.index.Key.{Key}
 pub use Rattle.rule_engine.specs.declared.index.Key.TheVariants.{Entry, Session}
 pub use Rattle.rule_engine.specs.declared.index.Kinds.{Kinds}
-pub use Rattle.rule_engine.specs.declared.quantifier.Quantifier.{Quantifier}
+pub use Rattle.rule_meaning.specs.declared.quantifier.Quantifier.{Quantifier}
 pub use Rattle.rule_engine.specs.declared.verdict.JudgeFault.{JudgeFault}
 pub use Rattle.rule_engine.specs.declared.verdict.JudgeFault.TheVariants.{Memory, TooWide}
 pub use Rattle.rule_engine.specs.declared.verdict.Verdict.{Verdict}
 pub use Rattle.rule_engine.specs.declared.verdict.Verdict.TheVariants.{Broken, Kept, Unsettled}
 pub use Rattle.rule_engine.specs.inside.Growth.{value_said}
-pub use Rattle.rule_engine.specs.inside.Index.{AreRowsOf, AreStarts, IsIndexBy, IsStart, Rises, breadth, entry_group}
+pub use Rattle.rule_engine.specs.inside.Index.{ArePlacesOf, AreStarts, IsIndexBy, IsStart, breadth, entry_group}
 pub use Rattle.rule_engine.specs.inside.Index.{found_at, group_in, least_of, number_in, rank}
 pub use Rattle.rule_engine.specs.inside.Reach.{is_of, kind_of_all, reaches_row}
-pub use Rattle.rule_engine.specs.inside.Visited.{IsVisitedFor}
+pub use Rattle.rule_meaning.specs.Visited.{IsVisitedFor}
 pub use Rattle.rule_language.proofs.Views.{shape}
 pub use Rattle.rule_language.specs.Forms.{in_front, rule_tree, tree_of, trees_of}
 pub use Rattle.rule_language.specs.Trees.{RuleTree, Trees, no_trees, tree_then}
@@ -31,16 +31,16 @@ pub use Rattle.rule_language.specs.declared.form.Form.{Form}
 pub use Rattle.rule_language.specs.declared.formula.Formula.{And, ForEvery, Formula, Implies, Or, the_lemmas}
 pub use Rattle.rule_language.specs.declared.formula.Rule.{Rule}
 pub use Rattle.rule_language.specs.declared.row.Row.{Row}
-pub use Rattle.rule_meaning.proofs.Judges.{both_assoc, both_true, over_step, value-And, value-Before, value-Equal}
-pub use Rattle.rule_meaning.proofs.Judges.{value-EveryBefore, value-ForEvery, value-ForSome, value-Implies, value-Is}
-pub use Rattle.rule_meaning.proofs.Judges.{value-Less, value-Next, value-OfKind, value-Or, value-SomeBefore}
+pub use Rattle.rule_meaning.proofs.Judges.{both_assoc, both_true, value-And, value-Equal}
+pub use Rattle.rule_meaning.proofs.Judges.{value-ForEvery, value-Implies}
+pub use Rattle.rule_meaning.proofs.Judges.{value-Or}
 pub use Rattle.rule_meaning.proofs.SameOrders.{AreRows, one_more, row_of_kind, same_values}
 pub use Rattle.rule_meaning.proofs.Widths.{or_first, or_second}
-pub use Rattle.rule_meaning.specs.Judging.{if_meant, is_in, over, over_before, over_from, over_rows, signed, value_of}
+pub use Rattle.rule_meaning.specs.Judging.{over, over_from, over_rows, signed, value_of}
 pub use Rattle.rule_meaning.specs.Kleene.{as_three, both, either, greatest, is_false, is_true, least, opposite}
 pub use Rattle.rule_meaning.specs.Meaning.{bind, unbound}
 pub use Rattle.rule_meaning.specs.Scopes.{env_of}
-pub use Rattle.rule_meaning.specs.Tests.{are_equal, has_kind, has_role, is_kind, is_less, is_next, passes}
+pub use Rattle.rule_meaning.specs.Tests.{has_kind, is_kind, passes}
 pub use Rattle.rule_meaning.specs.Widths.{is_too_wide}
 pub use Rattle.rule_meaning.specs.Values.{ancestors, first_value, places, rest_of, row_at, second_value, three, value}
 pub use Rattle.rule_meaning.specs.Values.{values, values_before}
@@ -58,9 +58,9 @@ pub use Rattle.std.proofs.lemmas.List.Elements.{Contains-push_cases, filter-appe
 pub use Rattle.std.proofs.lemmas.List.FromFn.{get_or-range_with_len, length-range_with_len}
 pub use Rattle.std.proofs.lemmas.List.Sorted.{Contains-permutation, IsNonDecreasingBy-from_sort_by_key}
 pub use Rattle.std.proofs.lemmas.List.Sorted.{IsPartitionPoint-from_clause, IsPartitionedBy-ltb, IsPermutation-sym}
-pub use Rattle.std.proofs.lemmas.Option.{get_or_from_slice_get, slice_get-get_or, slice_get_cases, slice_get_within}
+pub use Rattle.std.proofs.lemmas.Option.{get_or_from_slice_get, slice_get-get_or, slice_get_within}
 pub use Rattle.std.proofs.lemmas.Slice.Zip.{all_zipped_more}
-pub use Rattle.std.specs.List.{AllWithin, Contains, filter, list_any, range_with_len}
+pub use Rattle.std.specs.List.{Contains, filter, list_any, range_with_len}
 pub use Rattle.std.specs.List.Sorted.{IsPermutation}
 pub use Rattle.std.specs.Prelude.{Err, Ok, OnOk, Result, find, slice_get, slice_index_or, ◌==◌}
 pub use mathlib.Core.Path.{fun_ext}

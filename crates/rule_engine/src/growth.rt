@@ -11,14 +11,14 @@ ghost use Rattle.rule_meaning.specs.Tests.{has_kind};
 ghost use Rattle.rule_engine.specs.Growth.{ComesBeforeNone};
 ghost use Rattle.rule_engine.specs.inside.Index.{AreIndexesOf};
 
-use crate::judging::{over_rows, value_at};
-use crate::quantifier::{Quantifier, quantifier_over};
 use crate::reach::reaches_some;
-use crate::survivors::Survivors;
+use crate::tables::Survivors;
 use entry_order::Three;
 use rule_language::{Formula, Kind};
 use rule_meaning::atoms::has_kind;
+use rule_meaning::judging::{over_rows, value_at};
 use rule_meaning::kleene::{both, is_false};
+use rule_meaning::quantifier::{Quantifier, quantifier_over};
 use rule_meaning::scope::Scope;
 
 /// The value of a rule by its value over the first rows: it is the same where no quantifier over
@@ -30,16 +30,16 @@ pub(crate) fn grown_value(
     before: Three,
     survivors: &Survivors<'_>,
 ) -> Option<Three>
-    requires same { length survivors.now.rows.now ≡ known_count survivors.now.order.now }
-    requires indexed { AreIndexesOf survivors.now.rows.now survivors.now.indexes }
+    requires same { length survivors.now.rows.now ≡ known_count survivors.now.known.order.now }
+    requires indexed { AreIndexesOf survivors.now.rows.now survivors.now.known.indexes }
     requires first { count ≤ length survivors.now.rows.now }
-    requires later { ComesBeforeNone count (known_before survivors.now.order.now) }
+    requires later { ComesBeforeNone count (known_before survivors.now.known.order.now) }
     requires before { before ≡ value_of (take count survivors.now.rows.now)
-        (known_before survivors.now.order.now)
-        (known_whole survivors.now.order.now) formula.now unbound }
+        (known_before survivors.now.known.order.now)
+        (known_whole survivors.now.known.order.now) formula.now unbound }
     ensures { IfSome result (λ value. value ≡ value_of survivors.now.rows.now
-        (known_before survivors.now.order.now)
-        (known_whole survivors.now.order.now) formula.now unbound) }
+        (known_before survivors.now.known.order.now)
+        (known_whole survivors.now.known.order.now) formula.now unbound) }
 {
     let later = &survivors.rows[count..];
     if !reaches_some(formula, later) {
@@ -62,17 +62,17 @@ fn every_grown(
     before: Three,
     survivors: &Survivors<'_>,
 ) -> Option<Three>
-    requires same { length survivors.now.rows.now ≡ known_count survivors.now.order.now }
-    requires indexed { AreIndexesOf survivors.now.rows.now survivors.now.indexes }
+    requires same { length survivors.now.rows.now ≡ known_count survivors.now.known.order.now }
+    requires indexed { AreIndexesOf survivors.now.rows.now survivors.now.known.indexes }
     requires first { count ≤ length survivors.now.rows.now }
-    requires later { ComesBeforeNone count (known_before survivors.now.order.now) }
+    requires later { ComesBeforeNone count (known_before survivors.now.known.order.now) }
     requires before { before ≡ over_rows (take count survivors.now.rows.now)
-        (known_before survivors.now.order.now)
-        (known_whole survivors.now.order.now) false body.now v kind None
+        (known_before survivors.now.known.order.now)
+        (known_whole survivors.now.known.order.now) false body.now v kind None
         unbound }
     ensures { IfSome result (λ value. value ≡ over_rows survivors.now.rows.now
-        (known_before survivors.now.order.now)
-        (known_whole survivors.now.order.now) false body.now v kind None
+        (known_before survivors.now.known.order.now)
+        (known_whole survivors.now.known.order.now) false body.now v kind None
         unbound) }
 {
     if !reaches_some(body, &survivors.rows[count..]) {
@@ -102,16 +102,16 @@ fn pairs_are_true(
     count: usize,
     survivors: &Survivors<'_>,
 ) -> bool
-    requires same { length survivors.now.rows.now ≡ known_count survivors.now.order.now }
-    requires indexed { AreIndexesOf survivors.now.rows.now survivors.now.indexes }
+    requires same { length survivors.now.rows.now ≡ known_count survivors.now.known.order.now }
+    requires indexed { AreIndexesOf survivors.now.rows.now survivors.now.known.indexes }
     requires first { count ≤ length survivors.now.rows.now }
-    requires later { ComesBeforeNone count (known_before survivors.now.order.now) }
+    requires later { ComesBeforeNone count (known_before survivors.now.known.order.now) }
     ensures { IsTrue result → over_rows (take count survivors.now.rows.now)
-        (known_before survivors.now.order.now)
-        (known_whole survivors.now.order.now) false body.now v kind None
+        (known_before survivors.now.known.order.now)
+        (known_whole survivors.now.known.order.now) false body.now v kind None
         unbound ≡ KnownTrue → over_rows survivors.now.rows.now
-        (known_before survivors.now.order.now)
-        (known_whole survivors.now.order.now) false body.now v kind None
+        (known_before survivors.now.known.order.now)
+        (known_whole survivors.now.known.order.now) false body.now v kind None
         unbound ≡ KnownTrue }
 {
     match body {
@@ -141,13 +141,13 @@ fn are_true_with(
     count: usize,
     survivors: &Survivors<'_>,
 ) -> bool
-    requires same { length survivors.now.rows.now ≡ known_count survivors.now.order.now }
-    requires indexed { AreIndexesOf survivors.now.rows.now survivors.now.indexes }
+    requires same { length survivors.now.rows.now ≡ known_count survivors.now.known.order.now }
+    requires indexed { AreIndexesOf survivors.now.rows.now survivors.now.known.indexes }
     requires all { quantifier.within ≡ None }
     ensures { IsTrue result → (j : ℕ) → count ≤ j → j < length survivors.now.rows.now →
         has_kind kind (slice_get survivors.now.rows.now j) ≡ true →
-        over_rows survivors.now.rows.now (known_before survivors.now.order.now)
-        (known_whole survivors.now.order.now) quantifier.some formula.now quantifier.v
+        over_rows survivors.now.rows.now (known_before survivors.now.known.order.now)
+        (known_whole survivors.now.known.order.now) quantifier.some formula.now quantifier.v
         quantifier.kind quantifier.within (bind u j unbound) ≡ KnownTrue }
 {
     for j in count..survivors.rows.len() {
@@ -173,12 +173,12 @@ fn over_later(
     scope: &Scope<'_>,
     survivors: &Survivors<'_>,
 ) -> Three
-    requires same { length survivors.now.rows.now ≡ known_count survivors.now.order.now }
-    requires indexed { AreIndexesOf survivors.now.rows.now survivors.now.indexes }
+    requires same { length survivors.now.rows.now ≡ known_count survivors.now.known.order.now }
+    requires indexed { AreIndexesOf survivors.now.rows.now survivors.now.known.indexes }
     requires within { BindsRows (length survivors.now.rows.now) scope.now }
     requires node { IfSome quantifier.within (λ u. u < length survivors.now.rows.now) }
-    ensures { result ≡ over_from survivors.now.rows.now (known_before survivors.now.order.now)
-        (known_whole survivors.now.order.now) quantifier.some body.now quantifier.v
+    ensures { result ≡ over_from survivors.now.rows.now (known_before survivors.now.known.order.now)
+        (known_whole survivors.now.known.order.now) quantifier.some body.now quantifier.v
         quantifier.kind quantifier.within (env_of scope.now) count
         (length survivors.now.rows.now - count) }
 {

@@ -10,11 +10,12 @@ ghost use Rattle.rule_engine.specs.inside.Index.{AreIndexesOf};
 
 use crate::growth::grown_value;
 use crate::index::Indexes;
-use crate::survivors::Survivors;
+use crate::tables::{Survivors, Tables};
 use crate::verdict::{JudgeFault, Verdict, answer_over, verdict_by, verdict_of};
 use entry_order::Three;
 use precedence::Rows;
 use rule_language::{Formula, Row, Rule};
+use rule_meaning::scene::Scene;
 use rule_meaning::width::is_too_wide;
 use std::alloc::{AllocError, Global};
 use std::marker::Model;
@@ -35,12 +36,12 @@ impl<'a> Model for Judge<'a> {
 
     ghost view = { λ judge. record {
       rows = judge.survivors.rows.now;
-      known = judge.survivors.order.now;
+      known = judge.survivors.known.order.now;
     } };
 
     ghost invariant = { λ judge.
-        (length judge.survivors.rows.now ≡ known_count judge.survivors.order.now)
-        × AreIndexesOf judge.survivors.rows.now judge.survivors.indexes };
+        (length judge.survivors.rows.now ≡ known_count judge.survivors.known.order.now)
+        × AreIndexesOf judge.survivors.rows.now judge.survivors.known.indexes };
 }
 
 impl<'a> Judge<'a> {
@@ -51,10 +52,9 @@ impl<'a> Judge<'a> {
     {
         let indexes = Indexes::all(alloc, rows, order)?;
         Ok(Judge {
-            survivors: Survivors {
+            survivors: Scene {
                 rows,
-                order,
-                indexes,
+                known: Tables { order, indexes },
             },
         })
     }
@@ -95,16 +95,16 @@ fn answer_grown(
     before: &Verdict,
     survivors: &Survivors<'_>,
 ) -> Result<Verdict, JudgeFault>
-    requires same { length survivors.now.rows.now ≡ known_count survivors.now.order.now }
-    requires indexed { AreIndexesOf survivors.now.rows.now survivors.now.indexes }
+    requires same { length survivors.now.rows.now ≡ known_count survivors.now.known.order.now }
+    requires indexed { AreIndexesOf survivors.now.rows.now survivors.now.known.indexes }
     requires first { count ≤ length survivors.now.rows.now }
-    requires later { ComesBeforeNone count (known_before survivors.now.order.now) }
+    requires later { ComesBeforeNone count (known_before survivors.now.known.order.now) }
     requires before { IsJudgeAnswer (take count survivors.now.rows.now)
-        (known_before survivors.now.order.now)
-        (known_whole survivors.now.order.now) (tree_of body.now)
+        (known_before survivors.now.known.order.now)
+        (known_whole survivors.now.known.order.now) (tree_of body.now)
         (Ok before.now) }
-    ensures { IsJudgeAnswer survivors.now.rows.now (known_before survivors.now.order.now)
-        (known_whole survivors.now.order.now) (tree_of body.now) result }
+    ensures { IsJudgeAnswer survivors.now.rows.now (known_before survivors.now.known.order.now)
+        (known_whole survivors.now.known.order.now) (tree_of body.now) result }
 {
     if is_too_wide(body, 1, survivors.rows) {
         return Err(JudgeFault::TooWide);

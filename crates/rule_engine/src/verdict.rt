@@ -11,13 +11,14 @@ ghost use Rattle.rule_meaning.specs.Scopes.{BindsRows, env_of};
 ghost use Rattle.rule_language.specs.Forms.{tree_of};
 
 use crate::index::Indexes;
-use crate::judging::value;
-use crate::survivors::Survivors;
+use crate::tables::{Survivors, Tables};
 use entry_order::Three;
 use precedence::Rows;
 use rule_language::{Formula, Kind, Row, Rule};
 use rule_meaning::atoms::has_kind;
+use rule_meaning::judging::value;
 use rule_meaning::kleene::is_false;
+use rule_meaning::scene::Scene;
 use rule_meaning::scope::Scope;
 use rule_meaning::width::is_too_wide;
 use std::alloc::{AllocError, Global};
@@ -72,10 +73,9 @@ fn answer(alloc: Global, body: &Formula, rows: &[Row], order: &Rows) -> Result<V
         (tree_of body.now) result }
 {
     let indexes = Indexes::make(alloc, body, rows, order)?;
-    let survivors = Survivors {
+    let survivors = Scene {
         rows,
-        order,
-        indexes,
+        known: Tables { order, indexes },
     };
     answer_over(alloc, body, &survivors)
 }
@@ -86,10 +86,10 @@ pub(crate) fn answer_over(
     body: &Formula,
     survivors: &Survivors<'_>,
 ) -> Result<Verdict, JudgeFault>
-    requires same { length survivors.now.rows.now ≡ known_count survivors.now.order.now }
-    requires indexed { AreIndexesOf survivors.now.rows.now survivors.now.indexes }
-    ensures { IsJudgeAnswer survivors.now.rows.now (known_before survivors.now.order.now)
-        (known_whole survivors.now.order.now) (tree_of body.now) result }
+    requires same { length survivors.now.rows.now ≡ known_count survivors.now.known.order.now }
+    requires indexed { AreIndexesOf survivors.now.rows.now survivors.now.known.indexes }
+    ensures { IsJudgeAnswer survivors.now.rows.now (known_before survivors.now.known.order.now)
+        (known_whole survivors.now.known.order.now) (tree_of body.now) result }
 {
     if is_too_wide(body, 1, survivors.rows) {
         return Err(JudgeFault::TooWide);
@@ -103,11 +103,11 @@ pub(crate) fn verdict_of(
     body: &Formula,
     survivors: &Survivors<'_>,
 ) -> Result<Verdict, JudgeFault>
-    requires same { length survivors.now.rows.now ≡ known_count survivors.now.order.now }
-    requires indexed { AreIndexesOf survivors.now.rows.now survivors.now.indexes }
+    requires same { length survivors.now.rows.now ≡ known_count survivors.now.known.order.now }
+    requires indexed { AreIndexesOf survivors.now.rows.now survivors.now.known.indexes }
     ensures ok { IfOk result
-        (IsVerdict survivors.now.rows.now (known_before survivors.now.order.now)
-        (known_whole survivors.now.order.now) (tree_of body.now)) }
+        (IsVerdict survivors.now.rows.now (known_before survivors.now.known.order.now)
+        (known_whole survivors.now.known.order.now) (tree_of body.now)) }
     ensures err { IfErr result (λ fault. fault ≡ JudgeFault.Memory) }
 {
     verdict_by(
@@ -125,13 +125,13 @@ pub(crate) fn verdict_by(
     body: &Formula,
     survivors: &Survivors<'_>,
 ) -> Result<Verdict, JudgeFault>
-    requires same { length survivors.now.rows.now ≡ known_count survivors.now.order.now }
-    requires indexed { AreIndexesOf survivors.now.rows.now survivors.now.indexes }
-    requires value { value ≡ value_of survivors.now.rows.now (known_before survivors.now.order.now)
-        (known_whole survivors.now.order.now) body.now unbound }
+    requires same { length survivors.now.rows.now ≡ known_count survivors.now.known.order.now }
+    requires indexed { AreIndexesOf survivors.now.rows.now survivors.now.known.indexes }
+    requires value { value ≡ value_of survivors.now.rows.now (known_before survivors.now.known.order.now)
+        (known_whole survivors.now.known.order.now) body.now unbound }
     ensures ok { IfOk result
-        (IsVerdict survivors.now.rows.now (known_before survivors.now.order.now)
-        (known_whole survivors.now.order.now) (tree_of body.now)) }
+        (IsVerdict survivors.now.rows.now (known_before survivors.now.known.order.now)
+        (known_whole survivors.now.known.order.now) (tree_of body.now)) }
     ensures err { IfErr result (λ fault. fault ≡ JudgeFault.Memory) }
 {
     match value {
@@ -152,12 +152,12 @@ fn push_broken(
     survivors: &Survivors<'_>,
     places: &mut Vec<u32>,
 ) -> Result<(), AllocError>
-    requires same { length survivors.now.rows.now ≡ known_count survivors.now.order.now }
+    requires same { length survivors.now.rows.now ≡ known_count survivors.now.known.order.now }
     requires within { BindsRows (length survivors.now.rows.now) scope.now }
-    requires indexed { AreIndexesOf survivors.now.rows.now survivors.now.indexes }
+    requires indexed { AreIndexesOf survivors.now.rows.now survivors.now.known.indexes }
     ensures { OnOk result (places.new.items ≡ places.old.items
-        ++ broken survivors.now.rows.now (known_before survivors.now.order.now)
-        (known_whole survivors.now.order.now) (tree_of formula.now) (env_of scope.now)) }
+        ++ broken survivors.now.rows.now (known_before survivors.now.known.order.now)
+        (known_whole survivors.now.known.order.now) (tree_of formula.now) (env_of scope.now)) }
 {
     match formula {
         Formula::ForEvery { v, kind, body } => {
@@ -186,17 +186,17 @@ fn first_broken(
     scope: &Scope<'_>,
     survivors: &Survivors<'_>,
 ) -> Option<u32>
-    requires same { length survivors.now.rows.now ≡ known_count survivors.now.order.now }
+    requires same { length survivors.now.rows.now ≡ known_count survivors.now.known.order.now }
     requires within { BindsRows (length survivors.now.rows.now) scope.now }
-    requires indexed { AreIndexesOf survivors.now.rows.now survivors.now.indexes }
+    requires indexed { AreIndexesOf survivors.now.rows.now survivors.now.known.indexes }
     ensures first { result ≡ first_false survivors.now.rows.now
-        (known_before survivors.now.order.now) (known_whole survivors.now.order.now) kind
-        (λ i. value_of survivors.now.rows.now (known_before survivors.now.order.now)
-        (known_whole survivors.now.order.now) body.now (bind v i (env_of scope.now)))
+        (known_before survivors.now.known.order.now) (known_whole survivors.now.known.order.now) kind
+        (λ i. value_of survivors.now.rows.now (known_before survivors.now.known.order.now)
+        (known_whole survivors.now.known.order.now) body.now (bind v i (env_of scope.now)))
         0 (length survivors.now.rows.now) }
     ensures within { IfSome result (λ place. place < length survivors.now.rows.now) }
 {
-    for i in 0..survivors.order.count() {
+    for i in 0..survivors.known.order.count() {
         let inner = Scope::With {
             v,
             place: i,

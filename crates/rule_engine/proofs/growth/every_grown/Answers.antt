@@ -6,8 +6,8 @@ use Rattle.rule_engine.proofs.growth.every_grown.Goals as goal
 pub returns-then-not-reaches_some : goal.returns-then-not-reaches_some
 returns-then-not-reaches_some c =
     let rows = c.args.survivors.now.rows.now in
-    let P = known_before c.args.survivors.now.order.now in
-    let R = known_whole c.args.survivors.now.order.now in
+    let P = known_before c.args.survivors.now.known.order.now in
+    let R = known_whole c.args.survivors.now.known.order.now in
     let count = c.args.count in
     let body = c.args.body.now in
     let none = none_later body rows count c.reaches_some.result c.reaches_some.ensures (search rules) in

@@ -7,8 +7,8 @@ use Rattle.rule_engine.proofs.growth.grown_value.Goals as goal
 pub returns-then-not-reaches_some : goal.returns-then-not-reaches_some
 returns-then-not-reaches_some c =
     let rows = c.args.survivors.now.rows.now in
-    let P = known_before c.args.survivors.now.order.now in
-    let R = known_whole c.args.survivors.now.order.now in
+    let P = known_before c.args.survivors.now.known.order.now in
+    let R = known_whole c.args.survivors.now.known.order.now in
     let count = c.args.count in
     let formula = c.args.formula.now in
     let none = none_later formula rows count c.reaches_some.result c.reaches_some.ensures (search rules) in
@@ -17,8 +17,8 @@ returns-then-not-reaches_some c =
 pub every_grown-requires-clause-before : goal.every_grown-requires-clause-before
 every_grown-requires-clause-before c =
     let rows = c.args.survivors.now.rows.now in
-    let P = known_before c.args.survivors.now.order.now in
-    let R = known_whole c.args.survivors.now.order.now in
+    let P = known_before c.args.survivors.now.known.order.now in
+    let R = known_whole c.args.survivors.now.known.order.now in
     let count = c.args.count in
     let a = c.in-ForEvery in
     c.requires.before ∙ ap (λ (f : Formula). value_of (take count rows) P R f unbound) a.is
@@ -28,8 +28,8 @@ every_grown-requires-clause-before c =
 pub returns-in-ForEvery : goal.returns-in-ForEvery
 returns-in-ForEvery c =
     let rows = c.args.survivors.now.rows.now in
-    let P = known_before c.args.survivors.now.order.now in
-    let R = known_whole c.args.survivors.now.order.now in
+    let P = known_before c.args.survivors.now.known.order.now in
+    let R = known_whole c.args.survivors.now.known.order.now in
     let count = c.args.count in
     let a = c.in-ForEvery in
     let is : over_rows rows P R false c.deref.result.now a.v a.kind None unbound

@@ -7,8 +7,8 @@ use Rattle.rule_engine.proofs.growth.pairs_are_true.Goals as goal
 pub returns-then-is_true : goal.returns-then-is_true
 returns-then-is_true c = λ yes before.
     let rows = c.args.survivors.now.rows.now in
-    let P = known_before c.args.survivors.now.order.now in
-    let R = known_whole c.args.survivors.now.order.now in
+    let P = known_before c.args.survivors.now.known.order.now in
+    let R = known_whole c.args.survivors.now.known.order.now in
     let a = c.in-ForEvery in
     let body = c.args.body.now in
     let count = c.args.count in

@@ -5,4 +5,4 @@ use Rattle.rule_engine.proofs.index.Kinds.make.Given as goal
 abbrev pub invariant-loop-number : goal.invariant-loop-number
 invariant-loop-number l =
     (length l.starts.items ≡ l.number)
-    × ((n : ℕ) → n < l.number → IsStart l.index.found.items n (slice_index_or l.starts.items n 0))
+    × ((n : ℕ) → n < l.number → IsStart l.index.numbers.items n (slice_index_or l.starts.items n 0))

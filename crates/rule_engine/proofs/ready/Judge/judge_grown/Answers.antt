@@ -7,5 +7,5 @@ returns c graph is =
     let rule = tree_of c.args.rule.now.body in
     let known = subst (λ (r : Ready). IsKnownOf graph r.known) (sym c.self.view_is) is in
     subst (λ (r : Ready). IsJudged r.rows graph rule c.answer_grown.result) c.self.view_is
-    (answer_by_graph c.self.inside.survivors.rows.now graph c.self.inside.survivors.order.now c.self.invariant.0 known
+    (answer_by_graph c.self.inside.survivors.rows.now graph c.self.inside.survivors.known.order.now c.self.invariant.0 known
     rule c.answer_grown.result c.answer_grown.ensures)
