@@ -16,9 +16,9 @@ use command_line::{Answer, Fault, Status, are_logs, rules_from, status_by};
 use entry_format::Sealed;
 use evidence::AuditFault;
 use hall_outside::Store;
+use log_files::EntryWork;
 use rule_meaning::rules_are_settled;
 use std::alloc::{AllocError, Global};
-use std::thread::Threads;
 
 /// The request that the words after `audit` make.
 pub(crate) fn audit_request(rest: &[String]) -> Option<Request<'_>>
@@ -60,32 +60,18 @@ fn answered<S: Store>(alloc: Global, audited: Result<Report, AuditFault>) -> Res
 }
 
 /// The answer of `audit` for the roster, the rules and the logs in these files.
-pub(crate) fn audit<S: Store>(
+pub(crate) fn audit<W: EntryWork, S: Store>(
+    work: &W,
     alloc: Global,
     store: &mut S,
     roster: &str,
     rules: &str,
     logs: &[String],
 ) -> Result<Answer, Fault>
+    requires { W.may_share work.now }
     ensures { IsAnsweredBy S.Store (audit roster.now rules.now (map string_bytes logs.now))
         store.old result store.new }
 {
-    let audited = auditor::audit(alloc, store, roster, rules_from(rules), logs);
-    answered::<S>(alloc, audited)
-}
-
-/// The same answer, for which signatures are verified in threads.
-pub(crate) fn audit_in<R: Threads + Sync, S: Store>(
-    rt: &R,
-    alloc: Global,
-    store: &mut S,
-    roster: &str,
-    rules: &str,
-    logs: &[String],
-) -> Result<Answer, Fault>
-    ensures { IsAnsweredBy S.Store (audit roster.now rules.now (map string_bytes logs.now))
-        store.old result store.new }
-{
-    let audited = auditor::audit_in(rt, alloc, store, roster, rules_from(rules), logs);
+    let audited = auditor::audit_by(work, alloc, store, roster, rules_from(rules), logs);
     answered::<S>(alloc, audited)
 }

@@ -13,10 +13,9 @@ use crate::words::Request;
 use command_line::{Answer, Fault, sessions_of, status_by};
 use demonstration::{Demonstration, write_demonstration};
 use election_script::Script;
-use lms_sign::LmsSecret;
-use polling_world::{keys_in, keys_of};
+use lms_sign::{LeafWork, LmsSecret};
+use polling_world::keys_by;
 use std::alloc::{AllocError, Global};
-use std::thread::Threads;
 
 /// The request that the words after `demo` make.
 pub(crate) fn demonstration_request(rest: &[String]) -> Option<Request<'_>>
@@ -63,25 +62,16 @@ fn answered(
 }
 
 /// The answer of `demo` for this many sessions.
-pub(crate) fn demonstrate(alloc: Global, sessions: u32) -> Result<Answer, Fault>
-    requires { AreSessions sessions }
-    ensures { IsShown sessions result }
-{
-    let script = election_script::make(alloc, sessions)?;
-    let keys = keys_of(alloc, &script)?;
-    answered(alloc, sessions, &script, keys)
-}
-
-/// The same answer, for which the machines' keys are made in threads.
-pub(crate) fn demonstrate_in<R: Threads + Sync>(
-    rt: &R,
+pub(crate) fn demonstrate<W: LeafWork>(
+    work: &W,
     alloc: Global,
     sessions: u32,
 ) -> Result<Answer, Fault>
-    requires { AreSessions sessions }
+    requires shared { W.may_share work.now }
+    requires sessions { AreSessions sessions }
     ensures { IsShown sessions result }
 {
     let script = election_script::make(alloc, sessions)?;
-    let keys = keys_in(rt, alloc, &script)?;
+    let keys = keys_by(work, alloc, &script)?;
     answered(alloc, sessions, &script, keys)
 }

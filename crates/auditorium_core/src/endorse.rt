@@ -18,9 +18,9 @@ use crate::words::Request;
 use command_line::{Answer, Fault, OutputFile};
 use evidence::AuditFault;
 use hall_outside::Store;
+use lms_sign::LeafWork;
 use office_key::{Office, endorsements_are_good, write_office};
 use std::alloc::{AllocError, Global};
-use std::thread::Threads;
 
 /// What is read for a signature.
 #[derive(Drop)]
@@ -111,34 +111,14 @@ fn signed(
 }
 
 /// The answer of `endorse` for the office of this name and this file.
-pub(crate) fn endorse<S: Store>(
+pub(crate) fn endorse<W: LeafWork, S: Store>(
+    work: &W,
     alloc: Global,
     store: &mut S,
     name: &str,
     file: &str,
 ) -> Result<Answer, Fault>
-    ensures { IsAnsweredBy S.Store (endorse name.now file.now)
-        store.old result store.new }
-{
-    let office = office_file(alloc, name)?;
-    match read_to_sign(alloc, store, office.as_str(), name, file) {
-        Ok(read) => {
-            let bytes = read.bytes.as_slice();
-            let signature = office_key::endorse(alloc, name.as_bytes(), &read.office, bytes)?;
-            Ok(signed(alloc, office, name, file, &read, signature)?)
-        }
-        Err(fault) => Answer::of_fault(alloc, &fault),
-    }
-}
-
-/// The same answer, for which the key's trees are made in threads.
-pub(crate) fn endorse_in<R: Threads + Sync, S: Store>(
-    rt: &R,
-    alloc: Global,
-    store: &mut S,
-    name: &str,
-    file: &str,
-) -> Result<Answer, Fault>
+    requires { W.may_share work.now }
     ensures { IsAnsweredBy S.Store (endorse name.now file.now)
         store.old result store.new }
 {
@@ -147,7 +127,7 @@ pub(crate) fn endorse_in<R: Threads + Sync, S: Store>(
         Ok(read) => {
             let bytes = read.bytes.as_slice();
             let key = name.as_bytes();
-            let signature = office_key::endorse_in(rt, alloc, key, &read.office, bytes)?;
+            let signature = office_key::endorse_by(work, alloc, key, &read.office, bytes)?;
             Ok(signed(alloc, office, name, file, &read, signature)?)
         }
         Err(fault) => Answer::of_fault(alloc, &fault),

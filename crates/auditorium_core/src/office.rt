@@ -17,9 +17,9 @@ use crate::words::Request;
 use command_line::{Answer, Fault, OutputFile};
 use hall_outside::{FileFault, Store, read_file};
 use hall_text::digest_hex;
-use office_key::{Office, public_key, public_key_in, write_office};
+use lms_sign::LeafWork;
+use office_key::{Office, public_key_by, write_office};
 use std::alloc::{AllocError, Global};
-use std::thread::Threads;
 
 /// The request that the words after `office` make.
 pub(crate) fn office_request(rest: &[String]) -> Option<Request<'_>>
@@ -82,12 +82,14 @@ fn made_of(
 }
 
 /// The answer of `office` for an office of this name with this seed.
-pub(crate) fn office<S: Store>(
+pub(crate) fn office<W: LeafWork, S: Store>(
+    work: &W,
     alloc: Global,
     store: &mut S,
     name: &str,
     seed: [u8; 32],
 ) -> Result<Answer, Fault>
+    requires { W.may_share work.now }
     ensures { IsAnsweredBy S.Store (office name.now seed)
         store.old result store.new }
 {
@@ -95,29 +97,7 @@ pub(crate) fn office<S: Store>(
     match is_there(alloc, store, file.as_str()) {
         Ok(true) => Ok(Answer::refused(alloc, file.as_str(), 0, "Exists")?),
         Ok(false) => {
-            let key = public_key(alloc, name.as_bytes(), &seed)?;
-            Ok(made_of(alloc, file, name, seed, &key)?)
-        }
-        Err(fault) => Err(fault),
-    }
-}
-
-/// The same answer, for which the key's tree is made in threads.
-pub(crate) fn office_in<R: Threads + Sync, S: Store>(
-    rt: &R,
-    alloc: Global,
-    store: &mut S,
-    name: &str,
-    seed: [u8; 32],
-) -> Result<Answer, Fault>
-    ensures { IsAnsweredBy S.Store (office name.now seed)
-        store.old result store.new }
-{
-    let file = office_file(alloc, name)?;
-    match is_there(alloc, store, file.as_str()) {
-        Ok(true) => Ok(Answer::refused(alloc, file.as_str(), 0, "Exists")?),
-        Ok(false) => {
-            let key = public_key_in(rt, alloc, name.as_bytes(), &seed)?;
+            let key = public_key_by(work, alloc, name.as_bytes(), &seed)?;
             Ok(made_of(alloc, file, name, seed, &key)?)
         }
         Err(fault) => Err(fault),

@@ -40,13 +40,12 @@ use command_line::{Answer, Fault, Status, are_logs};
 use entry_format::Sealed;
 use entry_graph::Graph;
 use entry_order::{Knot, Three, order_is_settled};
-use evidence::{AuditFault, RosterRead, graph_from, read_logs, read_logs_in, read_roster};
+use evidence::{AuditFault, RosterRead, graph_from, read_logs_by, read_roster};
 use hall_outside::Store;
-use log_files::LogRead;
+use log_files::{EntryWork, LogRead};
 use precedence::{Arrows, Rows};
 use roster::Roster;
 use std::alloc::{AllocError, Global};
-use std::thread::Threads;
 
 /// The request that the words after `order` make.
 pub(crate) fn order_request(rest: &[String]) -> Option<Request<'_>>
@@ -68,7 +67,8 @@ fn are_ordered(x: &str, y: &str, logs: &[String]) -> bool
 }
 
 /// The answer of `order` for two words for entries, by the roster and the logs in these files.
-pub(crate) fn order<S: Store>(
+pub(crate) fn order<W: EntryWork, S: Store>(
+    work: &W,
     alloc: Global,
     store: &mut S,
     roster: &str,
@@ -76,34 +76,13 @@ pub(crate) fn order<S: Store>(
     y: &str,
     logs: &[String],
 ) -> Result<Answer, Fault>
+    requires { W.may_share work.now }
     ensures { IsAnsweredBy S.Store (order roster.now x.now y.now (map string_bytes logs.now))
         store.old result store.new }
 {
     match read_roster(alloc, store, roster) {
         Ok(read) => {
-            let found = read_logs(alloc, store, logs, &read.roster, &read.election);
-            order_of::<S>(alloc, &read, x, y, found)
-        }
-        Err(fault) => Answer::of_fault(alloc, &fault),
-    }
-}
-
-/// The same answer, for which signatures are verified in threads.
-pub(crate) fn order_in<R: Threads + Sync, S: Store>(
-    rt: &R,
-    alloc: Global,
-    store: &mut S,
-    roster: &str,
-    x: &str,
-    y: &str,
-    logs: &[String],
-) -> Result<Answer, Fault>
-    ensures { IsAnsweredBy S.Store (order roster.now x.now y.now (map string_bytes logs.now))
-        store.old result store.new }
-{
-    match read_roster(alloc, store, roster) {
-        Ok(read) => {
-            let found = read_logs_in(rt, alloc, store, logs, &read.roster, &read.election);
+            let found = read_logs_by(work, alloc, store, logs, &read.roster, &read.election);
             order_of::<S>(alloc, &read, x, y, found)
         }
         Err(fault) => Answer::of_fault(alloc, &fault),

@@ -21,13 +21,12 @@ use crate::words::Request;
 use command_line::{Answer, Fault, OutputFile};
 use election_script::Script;
 use hall_outside::Store;
-use lms_sign::LmsSecret;
+use lms_sign::{LeafWork, LmsSecret};
 use log_files::log_text;
-use polling_world::{Left, Machine, keys_in, keys_of};
+use polling_world::{Left, Machine, keys_by};
 use roster::Roster;
 use std::alloc::{AllocError, Global};
 use std::fmt::Write;
-use std::thread::Threads;
 
 /// The request that the words after `play` make.
 pub(crate) fn play_request(rest: &[String]) -> Option<Request<'_>>
@@ -159,38 +158,20 @@ fn played(
 }
 
 /// The answer of `play` for the script in this file.
-pub(crate) fn play<S: Store>(
+pub(crate) fn play<W: LeafWork, S: Store>(
+    work: &W,
     alloc: Global,
     store: &mut S,
     name: &str,
     prefix: &str,
 ) -> Result<Answer, Fault>
+    requires { W.may_share work.now }
     ensures { IsAnsweredBy S.Store (play name.now prefix.now)
         store.old result store.new }
 {
     match read_script(alloc, store, name) {
         Ok(script) => {
-            let keys = keys_of(alloc, &script)?;
-            Ok(played(alloc, prefix, &script, keys)?)
-        }
-        Err(fault) => Answer::of_fault(alloc, &fault),
-    }
-}
-
-/// The same answer, for which the machines' keys are made in threads. They play on one.
-pub(crate) fn play_in<R: Threads + Sync, S: Store>(
-    rt: &R,
-    alloc: Global,
-    store: &mut S,
-    name: &str,
-    prefix: &str,
-) -> Result<Answer, Fault>
-    ensures { IsAnsweredBy S.Store (play name.now prefix.now)
-        store.old result store.new }
-{
-    match read_script(alloc, store, name) {
-        Ok(script) => {
-            let keys = keys_in(rt, alloc, &script)?;
+            let keys = keys_by(work, alloc, &script)?;
             Ok(played(alloc, prefix, &script, keys)?)
         }
         Err(fault) => Answer::of_fault(alloc, &fault),

@@ -16,12 +16,11 @@ use command_line::{Answer, Fault};
 use election_script::Script;
 use entry_order::Step;
 use hall_outside::Store;
-use lms_sign::LmsSecret;
-use polling_world::{World, keys_in, keys_of};
+use lms_sign::{LeafWork, LmsSecret};
+use polling_world::{World, keys_by};
 use roster::Roster;
 use std::alloc::{AllocError, Global};
 use std::fmt::Write;
-use std::thread::Threads;
 
 /// The request that the words after `repair` make.
 pub(crate) fn repair_request(rest: &[String]) -> Option<Request<'_>>
@@ -103,38 +102,20 @@ fn repaired(
 }
 
 /// The answer of `repair` for the script in this file.
-pub(crate) fn repair<S: Store>(
+pub(crate) fn repair<W: LeafWork, S: Store>(
+    work: &W,
     alloc: Global,
     store: &mut S,
     name: &str,
     prefix: &str,
 ) -> Result<Answer, Fault>
+    requires { W.may_share work.now }
     ensures { IsAnsweredBy S.Store (repair name.now prefix.now)
         store.old result store.new }
 {
     match read_script(alloc, store, name) {
         Ok(script) => {
-            let keys = keys_of(alloc, &script)?;
-            Ok(repaired(alloc, prefix, &script, keys)?)
-        }
-        Err(fault) => Answer::of_fault(alloc, &fault),
-    }
-}
-
-/// The same answer, for which the machines' keys are made in threads.
-pub(crate) fn repair_in<R: Threads + Sync, S: Store>(
-    rt: &R,
-    alloc: Global,
-    store: &mut S,
-    name: &str,
-    prefix: &str,
-) -> Result<Answer, Fault>
-    ensures { IsAnsweredBy S.Store (repair name.now prefix.now)
-        store.old result store.new }
-{
-    match read_script(alloc, store, name) {
-        Ok(script) => {
-            let keys = keys_in(rt, alloc, &script)?;
+            let keys = keys_by(work, alloc, &script)?;
             Ok(repaired(alloc, prefix, &script, keys)?)
         }
         Err(fault) => Answer::of_fault(alloc, &fault),

@@ -1,5 +1,5 @@
 -- What a request of the source says of the words.
-use Rattle.std.specs.Prelude.{◌≡◌, ℕ, List, ◌∷◌, Option, Some, None, map, string_bytes, ⊤}
+use Rattle.std.specs.Prelude.{◌≡◌, ℕ, List, ◌∷◌, Option, Some, None, map, string_bytes}
 use Rattle.auditorium_core.specs.declared.words.Request.{Request}
 use Rattle.auditorium_core.specs.declared.words.Request.TheVariants as request
 use Rattle.auditorium_core.specs.Words.{Command, audit, check, demonstrate, endorse, endorsed, gaps, generate, office}
@@ -21,18 +21,6 @@ asked (request.Prove roster proof logs) = prove roster.now proof.now (map string
 asked (request.Repair script prefix) = repair script.now prefix.now
 asked (request.Run script prefix) = run script.now prefix.now
 asked (request.Watch roster rules logs) = watch roster.now rules.now (map string_bytes logs.now)
-
--- the command has threads where there is a runtime
-abbrev pub IsThreaded : Command → Type 0
-IsThreaded (audit roster rules logs) = ⊤
-IsThreaded (demonstrate sessions) = ⊤
-IsThreaded (endorse name file) = ⊤
-IsThreaded (office name seed) = ⊤
-IsThreaded (order roster x y logs) = ⊤
-IsThreaded (play script prefix) = ⊤
-IsThreaded (repair script prefix) = ⊤
-IsThreaded (run script prefix) = ⊤
-IsThreaded other = ⊥
 
 -- the words are the command's, whether or not each has the form of a word
 pub record Spells (words : List (List ℕ)) (command : Command) : Type 0 where

@@ -5,11 +5,11 @@ use Rattle.auditorium_core.proofs.audit.audit.Goals as goal
 pub returns : goal.returns
 returns g c =
     let before = c.args.store.now in
-    let after = c.audit-audited.new.store in
+    let after = c.audit_by-audited.new.store in
     let roster = c.args.roster.now in
     let logs = map string_bytes c.args.logs.now in
     let P : RuleSource → Type 0 = λ source.
     IsReadFrom g.S.Store report_of (audit_files roster source logs) (GivesReport roster source logs) before
-    c.audit-audited.result after in
+    c.audit_by-audited.result after in
     c.answered.ensures roster c.args.rules.now logs before after
-    (subst P c.rules_from.ensures c.audit-audited.ensures)
+    (subst P c.rules_from.ensures c.audit_by-audited.ensures)

@@ -22,8 +22,8 @@ returns-in_ok-signed-in-Ok g c =
     c.args.store.now c.read_to_sign.new.store read (Ok answer) c.in-Ok.ensures c.in_ok-signed-in-Ok.ensures
     (endorse_is_there name file (unsigned_of read) answer c.in_ok-signed-in-Ok.ensures) tt
 
-pub endorse-requires : goal.endorse-requires
-endorse-requires g c =
+pub endorse_by-requires-clause-left : goal.endorse_by-requires-clause-left
+endorse_by-requires-clause-left g c =
     let name = c.args.name.now in
     let file = c.args.file.now in
     let read = unsigned_of c.in-Ok.read in

@@ -25,4 +25,4 @@ returns-in-Err g c =
 pub returns-in-Ok : goal.returns-in-Ok
 returns-in-Ok g c =
     c.order_of.ensures c.args.roster.now (map string_bytes c.args.logs.now) c.args.store.now c.read_roster.new.store
-    c.read_logs-found.new.store c.in-Ok.ensures c.read_logs-found.ensures
+    c.read_logs_by-found.new.store c.in-Ok.ensures c.read_logs_by-found.ensures

@@ -1,6 +1,6 @@
 use Rattle.auditorium_core.proofs.Imports.{map, string_bytes, IsStill}
 use Rattle.auditorium_core.proofs.Endings.{was_done}
-use Rattle.auditorium_core.proofs.program.auditorium_still.Goals as goal
+use Rattle.auditorium_core.proofs.program.done_by.Goals as goal
 
 pub returns : goal.returns
 returns g c =
