@@ -19,8 +19,9 @@ Some definitions fix no byte of an answer: what is said of answers, as that a ke
 They have to be read, and so have those that lead from a command's record to them: they fix bytes, but no byte shows
 that they say this as well. All others fix bytes alone: by the law `one_answer_is_right` an answer that a second
 program gives, too, tests them. `read` prints the text of those to be read for a part, in reading order,
-each with its file and line; without PART, all of them. A part is a command's word, `law`, `all` or `laws`. With --html
-it is one page, in which names are links.
+each with its file and line; without PART, all of them. A part is a command's word, `law`, `all` or `laws`; beside
+these `folder` prints what the clauses of the trait of a folder's calls reach. With --html it is one page, in which names
+are links.
 
 docs/BELIEVE.md has the counts between `<!-- figures -->` and `<!-- end -->`; the exit status is 1 where they differ from
 the sources, or a line is printed. --write writes them anew. --list prints each reached definition with its
@@ -47,6 +48,8 @@ MANY_ANSWERS = "run"
 # What the laws of the top crate say of answers.
 LAWS = ("IsCompleteAsRead", "NumbersRise", "WatchesAgreeWithAudits", "HonestWatchesBreakNoRule",
         "ChecksAgreeWithAudits", "PlaysAreReadBack", "RunsAreReadBack")
+# The crate with the trait of a folder's calls.
+FOLDER = "folder_calls"
 WORD = re.compile(r"[A-Za-z_][\w'?]*(?:\.[A-Za-z_][\w'?]*)?")
 GIVEN = re.compile(r"([A-Za-z_][\w'?]*) = ")
 IMPORT = re.compile(r"^\s*(?:pub |ghost )?use Rattle\.(\w+)\.specs\.([\w.]+?)(?:\.\{(.*?)\}| as (\w+));?$", re.S | re.M)
@@ -433,6 +436,8 @@ def print_reading(known, named, words):
     """Prints the reading edition of a part, or of all."""
     read, _ = parts_to_read(known, named)
     names = [word for word in words if not word.startswith("--")] or list(read)
+    folder = set().union(*(keys for (crate, _), keys in named.items() if crate == FOLDER))
+    read["folder"] = from_top(known, reached_from(known, sorted(folder)))
     if unknown := [name for name in names if name not in read]:
         sys.exit(f"no part {unknown[0]}: one of {', '.join(read)}")
     keys = list(dict.fromkeys(key for name in names for key in read[name]))
