@@ -1,5 +1,5 @@
 -- The rules of what booths do.
-use Rattle.honest_rules.proofs.Imports.{◌≡◌, ℕ, List, inl, inr, sym, ap, ◌∙◌, subst, IsTrue, ◌==◌, Contains, bytes_eq}
+use Rattle.honest_rules.proofs.Imports.{◌≡◌, ℕ, List, inl, inr, refl, sym, ap, ◌∙◌, subst, IsTrue, ◌==◌, Contains, bytes_eq}
 use Rattle.honest_rules.proofs.Imports.{eqb-true, eq-eqb, bytes_eq-Decides, node_of_sealed, SealedEntry, Distinct}
 use Rattle.honest_rules.proofs.Imports.{Precedes, World, sent_in, Post, Overrides, Ends, HoldsOwn, authorises_booth}
 use Rattle.honest_rules.proofs.Imports.{authorises_booth_decides, activates, activates_decides, commits_to}
@@ -52,7 +52,7 @@ module _ {posts : List Post} {w : World SealedEntry} (honest : IsHonest posts w)
       × (f.entry.deed ≡ deed.Activate n)
   activated e ce n x de =
       let s = sent_by honest e ce in
-      let (active, _) = booth_row honest e s (deed.Commit n x) de tt in
+      let (active, _) = booth_row honest e s (deed.Commit n x) de refl in
       own_asked honest distinct (activates n) (λ d. d ≡ deed.Activate n) (activates_decides n) e s ce active
 
   -- ---- a session is ended once
@@ -62,7 +62,7 @@ module _ {posts : List Post} {w : World SealedEntry} (honest : IsHonest posts w)
   commitment_authorised e n x (commitment, before, of_maker, commits) =
       let (activation, earlier, of_same, does) = activated commitment before.0 n x commits in
       let s = sent_by honest activation earlier.0 in
-      let (named, _) = booth_row honest activation s (deed.Activate n) does tt in
+      let (named, _) = booth_row honest activation s (deed.Activate n) does refl in
       let (authorising, first, names) = authorised activation s earlier.0 n named in
       let later = precedes_through honest distinct activation commitment e earlier before in (
         authorising,
@@ -74,13 +74,13 @@ module _ {posts : List Post} {w : World SealedEntry} (honest : IsHonest posts w)
   end_authorised : (e : SealedEntry) (s : SentBy w e) → Contains (sent_in w) e → (n : ℕ) → Ends n e.entry.deed →
       (HoldsOwn e.entry.maker (entries_in s.past) (Ends n) → ⊥) × (AuthorisedBefore e n)
   end_authorised e s ce n (inl (x, de)) =
-      let (bound, (unended, _)) = booth_row honest e s (deed.Cast n x) de tt in
+      let (bound, (unended, _)) = booth_row honest e s (deed.Cast n x) de refl in
       (unended, commitment_authorised e n x (committed e s ce n x bound))
   end_authorised e s ce n (inr (inl de)) =
-      let (named, (unended, _)) = booth_row honest e s (deed.Cancel n) de tt in
+      let (named, (unended, _)) = booth_row honest e s (deed.Cancel n) de refl in
       (unended, authorised e s ce n named)
   end_authorised e s ce n (inr (inr (x, de))) =
-      let (bound, (unended, _)) = booth_row honest e s (deed.Challenge n x) de tt in
+      let (bound, (unended, _)) = booth_row honest e s (deed.Challenge n x) de refl in
       (unended, commitment_authorised e n x (committed e s ce n x bound))
 
   -- what ends a session is one entry: it has one authorising, which names one booth
@@ -145,14 +145,14 @@ module _ {posts : List Post} {w : World SealedEntry} (honest : IsHonest posts w)
   pub rule_a1 : Rule a1_body
   rule_a1 e ce ke =
       let s = sent_by honest e (were_sent e ce) in
-      let (named, _) = booth_row honest e s _ (of_kind kind.Activate e.entry.deed ke) tt in
+      let (named, _) = booth_row honest e s _ (of_kind kind.Activate e.entry.deed ke) refl in
       seen_authorised e (authorised honest distinct e s (were_sent e ce) (session_of e.entry.deed) named)
 
   -- a booth cancels what it is authorised for
   pub rule_c5 : Rule c5_body
   rule_c5 e ce ke =
       let s = sent_by honest e (were_sent e ce) in
-      let (named, _) = booth_row honest e s _ (of_kind kind.Cancel e.entry.deed ke) tt in
+      let (named, _) = booth_row honest e s _ (of_kind kind.Cancel e.entry.deed ke) refl in
       seen_authorised e (authorised honest distinct e s (were_sent e ce) (session_of e.entry.deed) named)
 
   -- of the booth's own commitment
@@ -179,7 +179,7 @@ module _ {posts : List Post} {w : World SealedEntry} (honest : IsHonest posts w)
   pub rule_c2 : Rule c2_body
   rule_c2 e ce ke =
       let s = sent_by honest e (were_sent e ce) in
-      let (bound, _) = booth_row honest e s _ (of_kind kind.Cast e.entry.deed ke) tt in
+      let (bound, _) = booth_row honest e s _ (of_kind kind.Cast e.entry.deed ke) refl in
       seen_committed e
       (committed honest distinct e s (were_sent e ce) (session_of e.entry.deed) (ballot_of e.entry.deed) bound)
 
@@ -187,7 +187,7 @@ module _ {posts : List Post} {w : World SealedEntry} (honest : IsHonest posts w)
   pub rule_c6 : Rule c6_body
   rule_c6 e ce ke =
       let s = sent_by honest e (were_sent e ce) in
-      let (bound, _) = booth_row honest e s _ (of_kind kind.Challenge e.entry.deed ke) tt in
+      let (bound, _) = booth_row honest e s _ (of_kind kind.Challenge e.entry.deed ke) refl in
       seen_committed e
       (committed honest distinct e s (were_sent e ce) (session_of e.entry.deed) (ballot_of e.entry.deed) bound)
 
@@ -257,7 +257,7 @@ module _ {posts : List Post} {w : World SealedEntry} (honest : IsHonest posts w)
   rule_v2 e ce ke (f, kf, before, same) =
       let s = sent_by honest e (were_sent e ce) in
       let n = session_of e.entry.deed in
-      let (_, (_, (free, (_, (whole, _))))) = booth_row honest e s _ (of_kind kind.Cast e.entry.deed ke) tt in
+      let (_, (_, (free, (_, (whole, _))))) = booth_row honest e s _ (of_kind kind.Cast e.entry.deed ke) refl in
       none_before_whole honest distinct (λ d. d ≡ deed.Override n how.Cancel) e s (whole_for_sure s.past whole) free f
       before
       (of_kind kind.Override f.entry.deed kf
@@ -267,7 +267,7 @@ module _ {posts : List Post} {w : World SealedEntry} (honest : IsHonest posts w)
   pub rule_p4 : Rule p4_body
   rule_p4 e ce ke (f, kf, before, _) =
       let s = sent_by honest e (were_sent e ce) in
-      let (_, (_, (_, (unclosed, (whole, _))))) = booth_row honest e s _ (of_kind kind.Cast e.entry.deed ke) tt in
+      let (_, (_, (_, (unclosed, (whole, _))))) = booth_row honest e s _ (of_kind kind.Cast e.entry.deed ke) refl in
       none_before_whole honest distinct (λ d. d ≡ deed.Closed) e s (whole_for_sure s.past whole) unclosed f before
       (of_kind kind.Closed f.entry.deed kf)
 
@@ -277,7 +277,7 @@ module _ {posts : List Post} {w : World SealedEntry} (honest : IsHonest posts w)
       Overrides (session_of e.entry.deed) f.entry.deed → ⊥
   no_override e ce ke f before overrides =
       let s = sent_by honest e (were_sent e ce) in
-      let (_, (_, (free, (_, (whole, _))))) = booth_row honest e s _ (of_kind kind.Challenge e.entry.deed ke) tt in
+      let (_, (_, (free, (_, (whole, _))))) = booth_row honest e s _ (of_kind kind.Challenge e.entry.deed ke) refl in
       none_before_whole honest distinct (Overrides (session_of e.entry.deed)) e s (whole_for_sure s.past whole) free f
       before overrides
 

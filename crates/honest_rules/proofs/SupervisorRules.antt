@@ -36,8 +36,8 @@ module _ {posts : List Post} {w : World SealedEntry} (honest : IsHonest posts w)
   one_authorisation e f ce cf b c n de df =
       let s = sent_by honest e ce in
       let t = sent_by honest f cf in
-      let (role, (_, (_, (unused, _)))) = supervisor_row honest e s (deed.Authorise b n) de tt in
-      let (role', (_, (_, (unused', _)))) = supervisor_row honest f t (deed.Authorise c n) df tt in
+      let (role, (_, (_, (unused, _)))) = supervisor_row honest e s (deed.Authorise b n) de refl in
+      let (role', (_, (_, (unused', _)))) = supervisor_row honest f t (deed.Authorise c n) df refl in
       one_alone honest (Authorises n) e f s t (one_supervisor e.entry.maker f.entry.maker role role') (b, de) (c, df)
       unused unused'
 
@@ -54,8 +54,8 @@ module _ {posts : List Post} {w : World SealedEntry} (honest : IsHonest posts w)
       let t = sent_by honest f (were_sent f cf) in
       let de = of_kind kind.Opened e.entry.deed ke in
       let df = of_kind kind.Opened f.entry.deed kf in
-      let (role, (unopened, _)) = supervisor_row honest e s deed.Opened de tt in
-      let (role', (unopened', _)) = supervisor_row honest f t deed.Opened df tt in
+      let (role, (unopened, _)) = supervisor_row honest e s deed.Opened de refl in
+      let (role', (unopened', _)) = supervisor_row honest f t deed.Opened df refl in
       one_alone honest (λ d. d ≡ deed.Opened) e f s t
       (one_supervisor honest e.entry.maker f.entry.maker role role') de df unopened unopened'
 
@@ -66,8 +66,8 @@ module _ {posts : List Post} {w : World SealedEntry} (honest : IsHonest posts w)
       let t = sent_by honest f (were_sent f cf) in
       let de = of_kind kind.Closed e.entry.deed ke in
       let df = of_kind kind.Closed f.entry.deed kf in
-      let (role, (_, (unclosed, _))) = supervisor_row honest e s deed.Closed de tt in
-      let (role', (_, (unclosed', _))) = supervisor_row honest f t deed.Closed df tt in
+      let (role, (_, (unclosed, _))) = supervisor_row honest e s deed.Closed de refl in
+      let (role', (_, (unclosed', _))) = supervisor_row honest f t deed.Closed df refl in
       one_alone honest (λ d. d ≡ deed.Closed) e f s t
       (one_supervisor honest e.entry.maker f.entry.maker role role') de df unclosed unclosed'
 
@@ -85,7 +85,7 @@ module _ {posts : List Post} {w : World SealedEntry} (honest : IsHonest posts w)
   pub rule_o2 : Rule o2_body
   rule_o2 e ce ke =
       let s = sent_by honest e (were_sent e ce) in
-      let (_, (opened, _)) = supervisor_row honest e s _ (of_kind kind.Authorise e.entry.deed ke) tt in
+      let (_, (opened, _)) = supervisor_row honest e s _ (of_kind kind.Authorise e.entry.deed ke) refl in
       let (f, before, _, is) = own_asked honest distinct is_opened (λ d. d ≡ deed.Opened) opened_decides e s
       (were_sent e ce) opened in
       (f, ap (λ d. is_kind kind.Opened (kind_of d)) is, before, tt)
@@ -97,7 +97,7 @@ module _ {posts : List Post} {w : World SealedEntry} (honest : IsHonest posts w)
       × Precedes node_of_sealed (sent_in w) f e × IsTrue (session_of f.entry.deed == session_of e.entry.deed)
   authorised_before e ce h de =
       let s = sent_by honest e (were_sent e ce) in
-      let (_, (authorised, _)) = supervisor_row honest e s _ de tt in
+      let (_, (authorised, _)) = supervisor_row honest e s _ de refl in
       let n = session_of e.entry.deed in
       let (f, before, _, (booth, is)) = own_asked honest distinct (authorises n) (Authorises n)
       (authorises_decides n) e s (were_sent e ce) authorised in (
@@ -116,7 +116,7 @@ module _ {posts : List Post} {w : World SealedEntry} (honest : IsHonest posts w)
   rule_v4 e ce ke =
       let s = sent_by honest e (were_sent e ce) in
       let de = of_kind kind.Forced e.entry.deed ke in
-      let (_, (_, (_, (_, (committed, _))))) = supervisor_row honest e s _ de tt in
+      let (_, (_, (_, (_, (committed, _))))) = supervisor_row honest e s _ de refl in
       let n = session_of e.entry.deed in
       let (f, before, (ballot, is)) = any_asked honest distinct (commits n) (Commits n) (commits_decides n) e s
       (were_sent e ce) (λ none. committed (refl, none)) in (
@@ -139,8 +139,8 @@ module _ {posts : List Post} {w : World SealedEntry} (honest : IsHonest posts w)
       let t = sent_by honest f before.0 in
       let de = of_kind kind.Authorise e.entry.deed ke in
       let df = of_kind kind.Closed f.entry.deed kf in
-      let (role, (_, (unclosed, _))) = supervisor_row honest e s _ de tt in
-      let (role', _) = supervisor_row honest f t deed.Closed df tt in
+      let (role, (_, (unclosed, _))) = supervisor_row honest e s _ de refl in
+      let (role', _) = supervisor_row honest f t deed.Closed df refl in
       unclosed
       (own_was_held honest distinct (λ d. d ≡ deed.Closed) f e t s
       (one_supervisor honest f.entry.maker e.entry.maker role' role) before df)
@@ -159,8 +159,8 @@ module _ {posts : List Post} {w : World SealedEntry} (honest : IsHonest posts w)
       let t = sent_by honest f (were_sent f cf) in
       let de = of_kind kind.Authorise e.entry.deed ke in
       let df = of_kind kind.Closed f.entry.deed kf in
-      let (role, _) = supervisor_row honest e s _ de tt in
-      let (role', (_, (_, (none_left, _)))) = supervisor_row honest f t deed.Closed df tt in
+      let (role, _) = supervisor_row honest e s _ de refl in
+      let (role', (_, (_, (none_left, _)))) = supervisor_row honest f t deed.Closed df refl in
       let n = session_of e.entry.deed in
       let held = own_was_held honest distinct (λ d. d ≡ deed.Authorise _ n) e f s t
       (one_supervisor honest e.entry.maker f.entry.maker role role') before de in
