@@ -39,7 +39,7 @@ deed_history   .               .                booth_core      supervisor_core
 audit_proof    rule_engine     rule_exactness   rule_meaning    rule_language
 entry_graph    precedence      survivor_rows    entry_order     held_counts
 -----
-entry_gaps     log_files       .                entangled_log   log_frontier
+.              log_files       .                entangled_log   log_frontier
 roster         .               entry_format     .               .
 -----
 .              .               .                .               office_key

@@ -37,9 +37,8 @@ use roster::Roster;
 use rule_engine::{Unjudged, Verdict, judge_all};
 use rule_language::{Rule, RuleFault, read, standard};
 use std::alloc::{AllocError, Global};
-use std::thread::Threads;
 use survivor_rows::rows;
-use ways_of_work::{Alone, InThreads};
+use ways_of_work::Alone;
 
 /// Where the rules of an audit come from.
 #[derive(Clone, Copy)]
@@ -307,27 +306,6 @@ pub fn audit<S: Store>(
         store.old result store.new }
 {
     audit_by(&Alone, alloc, store, roster, rules, logs)
-}
-
-/// The audit of `audit`, for which the entries of the logs are unsealed in threads.
-///
-/// # Errors
-///
-/// Those of `audit`.
-pub fn audit_in<R: Threads + Sync, S: Store>(
-    rt: &R,
-    alloc: Global,
-    store: &mut S,
-    roster: &str,
-    rules: RulesFrom<'_>,
-    logs: &[String],
-) -> Result<Report, AuditFault>
-    ensures { IsReadFrom S.Store report_of
-        (audit_files roster.now (source_of rules.entry) (map string_bytes logs.now))
-        (GivesReport roster.now (source_of rules.entry) (map string_bytes logs.now))
-        store.old result store.new }
-{
-    audit_by(&InThreads { rt }, alloc, store, roster, rules, logs)
 }
 
 /// The audit of `audit`, for which the logs are read in this way of work.

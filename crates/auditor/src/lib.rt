@@ -8,7 +8,7 @@ mod lines;
 mod outcome;
 mod report;
 
-pub use auditing::{RulesFrom, audit, audit_by, audit_in, audit_logs, read_rules};
+pub use auditing::{RulesFrom, audit, audit_by, audit_logs, read_rules};
 pub use evidence::AuditFault;
 pub use laws::{files_give_one_report, plain_rules};
 pub use outcome::{Outcome, outcome_of};

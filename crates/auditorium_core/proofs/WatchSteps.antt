@@ -478,8 +478,8 @@ module _ (live : LiveState) (machines : List Post) (rules : List Rule) (es : Lis
       (subst (λ rs. IsUnwatched live.machines (map rule_tree rs) es why) one_list unwatched)
 
 -- a piece after others
-behind : (front pieces piece both : List ℕ) → front ++ pieces ≡ both → front ++ (pieces ++ piece) ≡ both ++ piece
-behind front pieces piece both is = sym (append_assoc front pieces piece) ∙ ap (λ t. t ++ piece) is
+following : (front pieces piece both : List ℕ) → front ++ pieces ≡ both → front ++ (pieces ++ piece) ≡ both ++ piece
+following front pieces piece both is = sym (append_assoc front pieces piece) ∙ ap (λ t. t ++ piece) is
 
 -- the halves of a line make it
 halves : (n survivors gaps kept broken unsettled : ℕ) →
@@ -492,15 +492,15 @@ halves n survivors gaps kept broken unsettled =
     let three = two ++ decimal broken in
     let four = three ++ codes " unsettled " in
     let all = four ++ decimal unsettled in
-    behind front all (10 ∷ []) (front ++ codes " kept " ++ decimal kept ++ codes " broken " ++ decimal broken
+    following front all (10 ∷ []) (front ++ codes " kept " ++ decimal kept ++ codes " broken " ++ decimal broken
     ++ codes " unsettled " ++ decimal unsettled)
-    (behind front four (decimal unsettled) (front ++ codes " kept " ++ decimal kept ++ codes " broken " ++ decimal broken
+    (following front four (decimal unsettled) (front ++ codes " kept " ++ decimal kept ++ codes " broken " ++ decimal broken
     ++ codes " unsettled ")
-    (behind front three (codes " unsettled ") (front ++ codes " kept " ++ decimal kept ++ codes " broken "
+    (following front three (codes " unsettled ") (front ++ codes " kept " ++ decimal kept ++ codes " broken "
     ++ decimal broken)
-    (behind front two (decimal broken) (front ++ codes " kept " ++ decimal kept ++ codes " broken ")
-    (behind front one (codes " broken ") (front ++ codes " kept " ++ decimal kept)
-    (behind front (codes " kept ") (decimal kept) (front ++ codes " kept ") refl)))))
+    (following front two (decimal broken) (front ++ codes " kept " ++ decimal kept ++ codes " broken ")
+    (following front one (codes " broken ") (front ++ codes " kept " ++ decimal kept)
+    (following front (codes " kept ") (decimal kept) (front ++ codes " kept ") refl)))))
 
 -- where both halves of a line are added the line is
 pub halves_added : {T E : Type 0} (result : Result T E) (n survivors gaps kept broken unsettled : ℕ)

@@ -43,7 +43,7 @@ fn lines_of(alloc: Global, name: &str, log: &PlainLog) -> Result<String, AllocEr
     let mut lines = String::new(alloc);
     add_refused(&mut lines, name, log.refused.as_slice())?;
     add_end(&mut lines, name, log.end)?;
-    let gaps = entry_gaps::gaps(alloc, log.kept.as_slice())?;
+    let gaps = log_frontier::gaps(alloc, log.kept.as_slice())?;
     add_gaps(alloc, &mut lines, gaps.as_slice())?;
     Ok(lines)
 }

@@ -7,7 +7,7 @@ use Rattle.canonical_sexp.proofs.Imports.{list_then, in_front, members_of, text_
 use Rattle.canonical_sexp.proofs.Imports.{Fits, IsProperPrefixOfText, max_octets, Why, is_digit, at_start}
 use Rattle.canonical_sexp.proofs.Imports.{length_fault, IsFirstBad, IsSpelt, AreSpelt}
 use Rattle.canonical_sexp.specs.declared.sexp.Sexp.TheVariants.{List as Branch}
-use Rattle.canonical_sexp.proofs.Decimal.{behind_digits}
+use Rattle.canonical_sexp.proofs.Decimal.{after_digits}
 use Rattle.canonical_sexp.proofs.Unique.{one_tree, no_atom, atom_starts}
 use Rattle.canonical_sexp.proofs.Atoms.{cut_in_length}
 use Rattle.canonical_sexp.proofs.Places.{atom_is_cut, is_bad_length}
@@ -83,7 +83,7 @@ text_some (Atom octets) = omega (arith, length-append (decimal (length octets)) 
 text_some (Branch row) = omega arith
 
 -- the row is this tree and the others, whose texts the bytes are
-pub record HasBehind (bytes : List ℕ) (row : Forest) (tree : Sexp) : Type 0 where
+pub record HasAfter (bytes : List ℕ) (row : Forest) (tree : Sexp) : Type 0 where
   pub rest : Forest
   pub is : row ≡ in_front tree rest
   pub fits : Fits (Branch rest)
@@ -92,7 +92,7 @@ pub record HasBehind (bytes : List ℕ) (row : Forest) (tree : Sexp) : Type 0 wh
 -- the member that was found in front, and what follows it
 pub taken : (bytes : List ℕ) (row : Forest) (used : ℕ) (tree : Sexp) → Fits (Branch row) → bytes ≡ texts_of row →
     Fits tree → take used bytes ≡ text_of tree →
-    HasBehind (drop used bytes) row tree
+    HasAfter (drop used bytes) row tree
 taken bytes row used tree fits e tree_fits found =
     let whole : bytes ≡ text_of tree ++ drop used bytes =
     sym (take-append-drop used bytes) ∙ ap (λ bs. bs ++ drop used bytes) found in
@@ -191,16 +191,16 @@ is_atom (c ∷ bytes) (Atom octets) fits e other =
 is_atom bytes (Branch row) fits e other = absurd (other (ap (λ bs. get_or bs 0 0) e))
 
 -- the octets come after the length and its colon
-pub behind_length : (bytes octets : List ℕ) (count used : ℕ) → length octets ≤ max_octets → bytes ≡ atom_text octets →
+pub after_length : (bytes octets : List ℕ) (count used : ℕ) → length octets ≤ max_octets → bytes ≡ atom_text octets →
     count ≤ max_octets → take used bytes ≡ decimal count ++ 58 ∷ [] →
     take (length bytes - used) (drop used bytes) ≡ octets
-behind_length bytes octets count used small e few front =
+after_length bytes octets count used small e few front =
     let whole : decimal count ++ 58 ∷ drop used bytes ≡ decimal (length octets) ++ 58 ∷ octets =
     sym (append_assoc (decimal count) (58 ∷ []) (drop used bytes)) ∙ ap (λ bs. bs ++ drop used bytes) (sym front)
     ∙ take-append-drop used bytes ∙ e in
     take_rest bytes used
-    ∙ elim (behind_digits count (length octets) 58 (drop used bytes) octets (omega arith) (omega arith) whole) [
-      | inl h ↦ h.behind
+    ∙ elim (after_digits count (length octets) 58 (drop used bytes) octets (omega arith) (omega arith) whole) [
+      | inl h ↦ h.following
       | inr h ↦ let low : 58 < 58 = h.high in absurd (omega (arith, low))
     ]
 

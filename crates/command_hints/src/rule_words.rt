@@ -79,7 +79,7 @@ fn last_open(bytes: &[u8]) -> Option<(&[u8], &[u8])> {
     None
 }
 
-/// The bytes without the quantifier that isn't finished at their end: behind `before` its own
+/// The bytes without the quantifier that isn't finished at their end: after `before` its own
 /// variable isn't bound.
 fn without_unfinished(front: &[u8]) -> &[u8] {
     match last_open(front) {

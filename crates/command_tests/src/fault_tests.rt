@@ -304,7 +304,7 @@ fn a_stop_at_each_call_that_writes_leaves_the_files_before_it(rt: HostRuntime) -
 
 /// What the command comes to where the write of the output after this many bytes fails, or where
 /// it has no more bytes.
-fn stopped_behind(command: &Command, sent: usize) -> Ending<'static> {
+fn stopped_after(command: &Command, sent: usize) -> Ending<'static> {
     let (words, _, _, output) = *command;
     if sent < output.len() {
         (
@@ -329,7 +329,7 @@ fn tells_of_write<R: Threads + Wait + Sync>(
     let (words, _, _, _) = *command;
     let mut store = copied(alloc, files, 0, 0)?;
     let mut out = MemorySink::make(alloc, 10, vec![in alloc; failing]?);
-    let want = stopped_behind(command, sent);
+    let want = stopped_after(command, sent);
     leaves(rt, alloc, words, &mut store, &mut out, want)
 }
 

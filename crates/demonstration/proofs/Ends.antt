@@ -28,9 +28,9 @@ module _ (session : ℕ) (events : List (Event SealedEntry)) (more : Event Seale
     event = more;
     stands = last_at events more;
     ends = is_end;
-    last = λ later other behind at. absurd (omega (
+    last = λ later other following at. absurd (omega (
       arith,
-      behind,
+      following,
       slice_get_within (events ++ more ∷ []) later other at,
       length-append events (more ∷ []),
     ));
@@ -67,8 +67,8 @@ module _ (session : ℕ) (events : List (Event SealedEntry)) (more : Event Seale
       -- added
       later_no : (later : ℕ) (other : Event SealedEntry) → place < later →
           slice_get (events ++ more ∷ []) later ≡ Some other → ends_session session other ≡ false
-      later_no later other behind at = elim (either later other at) [
-        | inl inside ↦ is.last later other behind (in_front events more later other inside at)
+      later_no later other following at = elim (either later other at) [
+        | inl inside ↦ is.last later other following (in_front events more later other inside at)
         | inr same ↦
             subst (λ (e : Event SealedEntry). ends_session session e ≡ false) (here later other same at) differs
       ]

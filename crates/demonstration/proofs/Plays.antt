@@ -31,7 +31,7 @@ pub kept_is_left : (session owner : ℕ) (events : List (Event SealedEntry)) (by
     IsKeptOf session owner events bytes → IsLeftOf owner events bytes
 kept_is_left session owner events bytes (inl (place, is, same)) = record {
   place = end_of owner events (place + 1) + 1;
-  behind_header = omega (
+  after_header = omega (
     arith,
     length-append (text_of (header_tree owner)) (flat_map record_text (take (place + 1) events)),
   );

@@ -46,14 +46,14 @@ module _ (owner : ℕ) (events : List (Event SealedEntry)) (k : ℕ) where
 module _ (owner : ℕ) (slice events : List (Event SealedEntry)) (k : ℕ) (text : List ℕ) (same : slice ≡ events)
     (is : text ≡ log_text owner events) where
   -- what the slice has from the place on is all events from there on
-  behind : take (length slice - k) (drop k slice) ≡ drop k events
-  behind =
+  following : take (length slice - k) (drop k slice) ≡ drop k events
+  following =
       take_all (length slice - k) (drop k slice) (omega (arith, length-drop k slice))
       ∙ ap (drop k) same
 
   -- the records of the events from the place on are no longer than the log's text
-  pub behind_within : size (take (length slice - k) (drop k slice)) ≤ length text
-  behind_within = omega (arith, ap size behind, ap length is, rest_within owner events k)
+  pub after_within : size (take (length slice - k) (drop k slice)) ≤ length text
+  after_within = omega (arith, ap size following, ap length is, rest_within owner events k)
 
   -- cut one byte after where these records begin, the text is the log's, cut one byte after its
   -- first k records
@@ -61,5 +61,5 @@ module _ (owner : ℕ) (slice events : List (Event SealedEntry)) (k : ℕ) (text
       take (end + 1) text ≡ take (end_of owner events k + 1) (log_text owner events)
   cut_is end sums =
       let at : end ≡ end_of owner events k =
-      end_is owner events k end (omega (arith, sums, ap size behind, ap length is)) in
+      end_is owner events k end (omega (arith, sums, ap size following, ap length is)) in
       ap (λ (n : ℕ). take (n + 1) text) at ∙ ap (take (end_of owner events k + 1)) is

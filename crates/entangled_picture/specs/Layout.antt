@@ -11,8 +11,8 @@ abbrev pub x_of : Spot → ℕ
 x_of at = 220 + 36 * at.column
 
 -- how far right a mark is after a spot, with this number of marks between
-abbrev pub x_behind : Spot → ℕ → ℕ
-x_behind at order = x_of at + 24 * (order + 1)
+abbrev pub x_after : Spot → ℕ → ℕ
+x_after at order = x_of at + 24 * (order + 1)
 
 -- how far right a gap is: half a column before the entries of its column
 abbrev pub x_of_gap : Spot → ℕ
@@ -29,10 +29,10 @@ right_of (Entry at place number deed digest) = x_of at
 right_of (Gap at digest) = x_of at
 right_of (Loss from number to) = x_of from
 right_of (Fork from to number) = x_of to
-right_of (Stray at order digest) = x_behind at order
-right_of (Refused at order log place fault) = x_behind at order
-right_of (Ending at order log end) = x_behind at order
-right_of (Break at order log place) = x_behind at order
+right_of (Stray at order digest) = x_after at order
+right_of (Refused at order log place fault) = x_after at order
+right_of (Ending at order log end) = x_after at order
+right_of (Break at order log place) = x_after at order
 
 -- the spot of a shape that is furthest down
 abbrev pub foot_of : Shape → Spot

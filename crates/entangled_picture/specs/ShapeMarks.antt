@@ -15,7 +15,7 @@ use Rattle.entangled_picture.specs.declared.shape.Spot.{Spot}
 use Rattle.entangled_picture.specs.declared.shape.Shape.{Shape}
 use Rattle.entangled_picture.specs.declared.shape.Shape.TheVariants.{Lane, Log, Arrow, Bar, Light, Entry, Gap, Loss}
 use Rattle.entangled_picture.specs.declared.shape.Shape.TheVariants.{Fork, Stray, Refused, Ending, Break}
-use Rattle.entangled_picture.specs.Layout.{x_of, x_behind, x_of_gap, y_of}
+use Rattle.entangled_picture.specs.Layout.{x_of, x_after, x_of_gap, y_of}
 use Rattle.entangled_picture.specs.Names.{machine_name, file_name, rule_name, short_name, first_digits, two_words}
 use Rattle.entangled_picture.specs.Names.{entry_name, survivor_words, arrow_words, bar_words, light_words}
 use Rattle.entangled_picture.specs.Names.{refused_words, torn_words, malformed_words, break_words, path_between}
@@ -35,8 +35,8 @@ abbrev pub spot_text : List ℕ → Spot → List ℕ
 spot_text tops at = place_text (x_of at) (y_of tops at)
 
 -- the place of a mark after a spot, with this number of marks between
-abbrev pub behind_text : List ℕ → Spot → ℕ → List ℕ
-behind_text tops at order = place_text (x_behind at order) (y_of tops at)
+abbrev pub after_text : List ℕ → Spot → ℕ → List ℕ
+after_text tops at order = place_text (x_after at order) (y_of tops at)
 
 -- the path between two spots
 abbrev pub spots_path : List ℕ → Spot → Spot → List ℕ
@@ -152,19 +152,19 @@ stray_words digest = two_words (codes "stray ") (first_digits digest)
 -- the mark of a stray
 unfoldable pub stray_shape : List ℕ → Spot → ℕ → List ℕ → List ℕ
 stray_shape tops at order digest =
-    mark (codes "stray") (behind_text tops at order) (stray_words digest) (codes "M0 -10L10 0L0 10L-10 0z") below
+    mark (codes "stray") (after_text tops at order) (stray_words digest) (codes "M0 -10L10 0L0 10L-10 0z") below
     (stray_words digest)
 
 -- the mark of a refused record
 unfoldable pub refused_shape : AuditReport → List ℕ → Spot → ℕ → ℕ → ℕ → List ℕ → List ℕ
 refused_shape report tops at order log record_at cause =
-    mark (codes "refused") (behind_text tops at order) (refused_words (file_name report log) record_at cause)
+    mark (codes "refused") (after_text tops at order) (refused_words (file_name report log) record_at cause)
     (codes "M-7 -7L7 7M-7 7L7 -7") below []
 
 -- the mark of an end with these words
 abbrev pub end_mark : List ℕ → Spot → ℕ → List ℕ → List ℕ → List ℕ
 end_mark tops at order text label =
-    mark (codes "ending") (behind_text tops at order) text (codes "M-6 -10L2 -4L-6 2L2 8") below label
+    mark (codes "ending") (after_text tops at order) text (codes "M-6 -10L2 -4L-6 2L2 8") below label
 
 -- the mark of a log that ends inside a record
 abbrev pub torn_shape : AuditReport → List ℕ → Spot → ℕ → ℕ → ℕ → List ℕ
@@ -186,7 +186,7 @@ ending_shape report tops at order log (Malformed offset why) =
 -- the mark of a break
 unfoldable pub break_shape : AuditReport → List ℕ → Spot → ℕ → ℕ → ℕ → List ℕ
 break_shape report tops at order log record_at =
-    mark (codes "break") (behind_text tops at order) (break_words (file_name report log) record_at)
+    mark (codes "break") (after_text tops at order) (break_words (file_name report log) record_at)
     (codes "M-4 -10V10M4 -10V10") below (codes "break")
 
 -- a mark at the end of a log; other shapes are none

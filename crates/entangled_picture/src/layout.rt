@@ -8,7 +8,7 @@ ghost use Rattle.entangled_picture.specs.Layout.{
   top_of,
   tops_of,
   width_of,
-  x_behind,
+  x_after,
   x_of,
   x_of_gap,
   y_of,
@@ -26,8 +26,8 @@ pub(crate) fn x_of(at: Spot) -> u128
 }
 
 /// How far right a mark is after a spot, with this number of marks between.
-pub(crate) fn x_behind(at: Spot, order: usize) -> u128
-    ensures value { result ≡ x_behind at order }
+pub(crate) fn x_after(at: Spot, order: usize) -> u128
+    ensures value { result ≡ x_after at order }
     ensures fits { result < 2 ^ 100 }
 {
     x_of(at) + 24 * (order as u128 + 1)
@@ -56,10 +56,10 @@ fn right_of(shape: &Shape) -> u128
         Shape::Gap { at, .. } => x_of(at),
         Shape::Loss { from, .. } => x_of(from),
         Shape::Fork { to, .. } => x_of(to),
-        Shape::Stray { at, order, .. } => x_behind(at, order),
-        Shape::Refused { at, order, .. } => x_behind(at, order),
-        Shape::Ending { at, order, .. } => x_behind(at, order),
-        Shape::Break { at, order, .. } => x_behind(at, order),
+        Shape::Stray { at, order, .. } => x_after(at, order),
+        Shape::Refused { at, order, .. } => x_after(at, order),
+        Shape::Ending { at, order, .. } => x_after(at, order),
+        Shape::Break { at, order, .. } => x_after(at, order),
     }
 }
 

@@ -4,7 +4,7 @@ ghost use Rattle.auditor.specs.Report.{report_of};
 ghost use Rattle.entangled_picture.specs.ShapeMarks.{
   arrow_shape,
   bar_shape,
-  behind_text,
+  after_text,
   break_shape,
   count_text,
   drawn_log_mark,
@@ -36,7 +36,7 @@ ghost use Rattle.entangled_picture.specs.ShapeMarks.{
 };
 
 use crate::drawing::{add_line, add_mark, add_title, add_titled_line, add_words, place_text};
-use crate::layout::{x_behind, x_of, x_of_gap, y_of};
+use crate::layout::{x_after, x_of, x_of_gap, y_of};
 use crate::names::{
     arrow_words, bar_words, break_words, deed_word, entry_name, file_name, first_digits,
     light_words, machine_name, malformed_words, path_above, path_along, path_between,
@@ -64,10 +64,10 @@ fn spot_text(alloc: Global, tops: &[u64], at: Spot) -> Result<String, AllocError
 }
 
 /// The place of a mark after a spot, with this number of marks between.
-fn behind_text(alloc: Global, tops: &[u64], at: Spot, order: usize) -> Result<String, AllocError>
-    ensures { IfOk result (λ text. string_bytes text ≡ behind_text tops.now at order) }
+fn after_text(alloc: Global, tops: &[u64], at: Spot, order: usize) -> Result<String, AllocError>
+    ensures { IfOk result (λ text. string_bytes text ≡ after_text tops.now at order) }
 {
-    let x = x_behind(at, order);
+    let x = x_after(at, order);
     let y = y_of(tops, at);
     place_text(alloc, x, y)
 }
@@ -199,7 +199,7 @@ fn add_end(
     ensures { OnOk result (out.new ≡ out.old
         ++ end_mark tops.now at order text.now label.now) }
 {
-    let place = behind_text(alloc, tops, at, order)?;
+    let place = after_text(alloc, tops, at, order)?;
     let path = b"M-6 -10L2 -4L-6 2L2 8";
     add_mark(
         alloc,
@@ -473,7 +473,7 @@ fn add_stray(
 {
     let digits = first_digits(alloc, digest)?;
     let text = two_words(alloc, "stray ", digits.as_str())?;
-    let place = behind_text(alloc, tops, at, order)?;
+    let place = after_text(alloc, tops, at, order)?;
     let words = text.as_bytes();
     let path = b"M0 -10L10 0L0 10L-10 0z";
     add_mark(
@@ -505,7 +505,7 @@ fn add_refused(
         ++ refused_shape (report_of report.now) tops.now at order log record_at cause.now) }
 {
     let text = refused_words(alloc, file_name(report, log), record_at, cause)?;
-    let place = behind_text(alloc, tops, at, order)?;
+    let place = after_text(alloc, tops, at, order)?;
     let path = b"M-7 -7L7 7M-7 7L7 -7";
     add_mark(
         alloc,
@@ -595,7 +595,7 @@ fn add_break(
         ++ break_shape (report_of report.now) tops.now at order log record_at) }
 {
     let text = break_words(alloc, file_name(report, log), record_at)?;
-    let place = behind_text(alloc, tops, at, order)?;
+    let place = after_text(alloc, tops, at, order)?;
     let path = b"M-4 -10V10M4 -10V10";
     add_mark(
         alloc,

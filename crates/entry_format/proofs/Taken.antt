@@ -24,18 +24,18 @@ atom_more [] digest rest = refl
 atom_more (d ∷ digests) digest rest = ap (atom_then d) (atom_more digests digest rest)
 
 -- the member after some atoms of a row of atoms is an atom
-pub atom_behind : (digests all : List (List ℕ)) (tree : Sexp) (rest : Forest) → All IsDigest all →
+pub atom_after : (digests all : List (List ℕ)) (tree : Sexp) (rest : Forest) → All IsDigest all →
     joined (forest_of (map Atom digests)) (in_front tree rest) ≡ forest_of (map Atom all) →
     (digest : List ℕ) × (IsDigest digest × (tree ≡ Atom digest))
-atom_behind [] [] (Atom octets) rest are e = absurd cc
-atom_behind [] [] (Branch row) rest are e = absurd cc
-atom_behind [] (d ∷ all) (Atom octets) rest are e = let same : octets ≡ d = cc in
+atom_after [] [] (Atom octets) rest are e = absurd cc
+atom_after [] [] (Branch row) rest are e = absurd cc
+atom_after [] (d ∷ all) (Atom octets) rest are e = let same : octets ≡ d = cc in
     (d, (All-head IsDigest d all are, ap Atom same))
-atom_behind [] (d ∷ all) (Branch row) rest are e = absurd cc
-atom_behind (c ∷ digests) [] tree rest are e = absurd cc
-atom_behind (c ∷ digests) (d ∷ all) tree rest are e =
-    let behind : joined (forest_of (map Atom digests)) (in_front tree rest) ≡ forest_of (map Atom all) = cc in
-    atom_behind digests all tree rest (All-tail IsDigest d all are) behind
+atom_after [] (d ∷ all) (Branch row) rest are e = absurd cc
+atom_after (c ∷ digests) [] tree rest are e = absurd cc
+atom_after (c ∷ digests) (d ∷ all) tree rest are e =
+    let following : joined (forest_of (map Atom digests)) (in_front tree rest) ≡ forest_of (map Atom all) = cc in
+    atom_after digests all tree rest (All-tail IsDigest d all are) following
 
 -- no digest is a number in decimal
 pub no_number : (number : ℕ) (digest : List ℕ) → number < 2 ^ 32 → IsDigest digest → decimal number ≡ digest → ⊥
@@ -87,7 +87,7 @@ pub next_is_digest : (digests all : List (List ℕ)) (tree member : Sexp) (membe
     All IsDigest all → tree ≡ list_of (map Atom all) → (digest : List ℕ) × (IsDigest digest × (member ≡ Atom digest))
 next_is_digest digests all tree member members left taken first are e =
     let row : joined (forest_of (map Atom digests)) members ≡ forest_of (map Atom all) = cc in
-    atom_behind digests all member left are (ap (joined (forest_of (map Atom digests))) (sym first) ∙ row)
+    atom_after digests all member left are (ap (joined (forest_of (map Atom digests))) (sym first) ∙ row)
 
 -- one digest more was taken
 pub digest_taken : (digests : List (List ℕ)) (digest : List ℕ) (tree member : Sexp) (members left : Forest) →
@@ -129,8 +129,8 @@ head_in entry = record {
 }
 
 -- what is in a body after its head: the names and the deed
-abbrev pub behind_head : Entry → Forest
-behind_head entry = forest_of (list_of (map Atom entry.names) ∷ deed_tree entry.version entry.deed ∷ [])
+abbrev pub after_head : Entry → Forest
+after_head entry = forest_of (list_of (map Atom entry.names) ∷ deed_tree entry.version entry.deed ∷ [])
 
 -- the numbers and the digest of an entry
 pub is_head : (entry : Entry) → IsEntry entry → IsHead (head_in entry)
@@ -139,9 +139,9 @@ is_head entry h =
 
 -- the members of the body of an entry
 pub body_row : (entry : Entry) (tree : Sexp) (row : Forest) → tree ≡ Branch row → tree ≡ body_tree entry →
-    row ≡ head_then (head_in entry) (behind_head entry)
+    row ≡ head_then (head_in entry) (after_head entry)
 body_row entry tree row list is =
-    let same : Branch row ≡ Branch (head_then (head_in entry) (behind_head entry)) = sym list ∙ is in cc
+    let same : Branch row ≡ Branch (head_then (head_in entry) (after_head entry)) = sym list ∙ is in cc
 
 -- a version is a number of 32 bits
 pub version_small : (version : ℕ) → IsVersion version → version < 2 ^ 32
@@ -163,22 +163,22 @@ rest_of_two (Branch a) (Atom b) rest left e = absurd cc
 rest_of_two (Branch a) (Branch b) rest left e = cc
 
 -- what comes after the head of a body, and the version that it says
-pub behind_same : (head : Head) (entry : Entry) (rest : Forest) → IsHead head → IsEntry entry →
-    head_then head rest ≡ head_then (head_in entry) (behind_head entry) →
-    (head.version ≡ entry.version) × (rest ≡ behind_head entry)
-behind_same head entry rest h lawful e =
+pub after_same : (head : Head) (entry : Entry) (rest : Forest) → IsHead head → IsEntry entry →
+    head_then head rest ≡ head_then (head_in entry) (after_head entry) →
+    (head.version ≡ entry.version) × (rest ≡ after_head entry)
+after_same head entry rest h lawful e =
     let same : decimal head.version ≡ decimal entry.version = cc in
     (number_is_version head.version entry.version (version_small head.version h.version) lawful.version same, cc)
 
 -- a tree whose last member is no deed of its version is no body
-pub no_last_deed : (tree names : Sexp) (row behind left : Forest) (head : Head) (entry : Entry) → tree ≡ Branch row →
-    IsHead head → row ≡ head_then head behind → behind ≡ in_front names left →
+pub no_last_deed : (tree names : Sexp) (row following left : Forest) (head : Head) (entry : Entry) → tree ≡ Branch row →
+    IsHead head → row ≡ head_then head following → following ≡ in_front names left →
     ((deed : Deed) → IsVersionDeed head.version deed → left ≢ in_front (deed_tree head.version deed) no_trees) →
     IsEntry entry → tree ≡ body_tree entry → ⊥
-no_last_deed tree names row behind left head entry list is_head found after none lawful is =
-    let (version_is, behind_is) =
-    behind_same head entry behind is_head lawful (sym found ∙ body_row entry tree row list is) in
-    let last : in_front names left ≡ behind_head entry = sym after ∙ behind_is in
+no_last_deed tree names row following left head entry list is_head found after none lawful is =
+    let (version_is, after_is) =
+    after_same head entry following is_head lawful (sym found ∙ body_row entry tree row list is) in
+    let last : in_front names left ≡ after_head entry = sym after ∙ after_is in
     let P : ℕ → Type 0 = λ v. left ≢ in_front (deed_tree v entry.deed) no_trees in
     let lacks : left ≢ in_front (deed_tree head.version entry.deed) no_trees =
     none entry.deed (lawful.deed, subst (λ v. IsDeedIn v entry.deed) (sym version_is) lawful.of_version) in

@@ -5,7 +5,7 @@ ghost use Rattle.entry_graph.specs.inside.Tables.{ArePlaces, number_at};
 ghost use Rattle.entry_order.specs.Survivors.{gaps as gaps_of};
 
 use crate::digest_table::DigestTable;
-use entry_gaps::{Digests, ascending};
+use log_frontier::{DigestList, ascending};
 use entry_order::Knot;
 use std::alloc::{AllocError, Global};
 
@@ -15,7 +15,7 @@ pub fn gaps_by<T: Knot>(
     alloc: Global,
     survivors: &[T],
     places: &DigestTable,
-) -> Result<Digests, AllocError>
+) -> Result<DigestList, AllocError>
     requires { ArePlaces T.node survivors.now places.now }
     ensures { IfOk result (λ digests. digests ≡ gaps_of T.node survivors.now) }
 {

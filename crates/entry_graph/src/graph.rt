@@ -12,7 +12,7 @@ use crate::numbering::number;
 use crate::signed_text::SignedText;
 use crate::strays::sift;
 use entry_format::Sealed;
-use entry_gaps::Digests;
+use log_frontier::DigestList;
 use precedence::Arrows;
 use std::alloc::Global;
 use std::marker::Model;
@@ -26,7 +26,7 @@ const MOST_ENTRIES: usize = 16_384;
 pub struct Graph<T: SignedText = Sealed> {
     survivors: Vec<T>,
     links: Vec<Links>,
-    gaps: Digests,
+    gaps: DigestList,
     strays: Vec<[u8; 32]>,
     forks: Vec<(u32, u32)>,
 }

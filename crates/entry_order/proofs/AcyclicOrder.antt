@@ -2,7 +2,7 @@
 use Rattle.entry_order.proofs.Imports.{◌≡◌, ◌∙◌, ℕ, Bool, true, false, cond, ◌++◌, List, [], ◌∷◌, map, refl, sym, ap}
 use Rattle.entry_order.proofs.Imports.{subst, ◌⊎◌, inl, inr, Contains, Contains-append_right}
 use Rattle.entry_order.proofs.Imports.{Contains-append_cases, bytes_eq, bytes_eq-Decides, Node, Names, IsBorneIn}
-use Rattle.entry_order.proofs.Imports.{IsPath, Precedes, IsAcyclic, gaps, Completion, AreSurvivors, IsBehind, MakesAny}
+use Rattle.entry_order.proofs.Imports.{IsPath, Precedes, IsAcyclic, gaps, Completion, AreSurvivors, IsInPast, MakesAny}
 use Rattle.entry_order.proofs.Imports.{OrderIsExactWithoutCycles}
 use Rattle.entry_order.proofs.Lists.{Contains-none, Contains-head, Contains-cons_cases, Contains-map}
 use Rattle.entry_order.proofs.Lists.{Contains-map_cases}
@@ -33,19 +33,19 @@ module _ {T : Type 0} (node : T → Node) (E : List T) where
             ]
       ]
 
-  -- a gap behind an entry is behind what the entry precedes
-  behind_on : (gap : List ℕ) (g e : T) → (g ≡ e) ⊎ Precedes node E g e → IsBehind node E gap g → IsBehind node E gap e
-  behind_on gap g e on (lost, (f, near, names)) = (lost, (f, near_on f g e near on, names))
+  -- a gap in an entry's past is in that of what the entry precedes
+  after_on : (gap : List ℕ) (g e : T) → (g ≡ e) ⊎ Precedes node E g e → IsInPast node E gap g → IsInPast node E gap e
+  after_on gap g e on (lost, (f, near, names)) = (lost, (f, near_on f g e near on, names))
 
 -- ---- what precedes in a completion
 
 module _ {T : Type 0} (node : T → Node) (machines : ℕ) (S G : List T) (completion : Completion node machines S G)
     (x : T) (cx : Contains S x) where
-  -- it does so among the survivors, or it is or precedes an entry that was lost behind x
+  -- it does so among the survivors, or it is or precedes an entry that was lost in x's past
   abbrev IsReached : T → Type 0
   IsReached f =
       Precedes node S f x
-      ⊎ ((h : T) × Contains G h × IsBehind node S (node h).digest x × ((f ≡ h) ⊎ Precedes node G f h))
+      ⊎ ((h : T) × Contains G h × IsInPast node S (node h).digest x × ((f ≡ h) ⊎ Precedes node G f h))
 
   -- a survivor has this digest, so it is this entry
   survives : (f : T) → Contains G f → IsBorneIn node S (node f).digest → Contains S f
@@ -68,22 +68,22 @@ module _ {T : Type 0} (node : T → Node) (machines : ℕ) (S G : List T) (compl
                   inl (survives f cf borne, cx, g ∷ bs, (there, names, through))
             ]
         | inr lost ↦
-            let (h, ch, behind, near) = lost in
+            let (h, ch, following, near) = lost in
             let first : Precedes node G f g = (cf, cg, [], names) in
-            inr (h, ch, behind, near_on node G f g h (inr first) near)
+            inr (h, ch, following, near_on node G f g h (inr first) near)
       ]
 
-  -- without cycles, what was lost behind x isn't behind what it comes after
+  -- without cycles, what was lost in x's past isn't in that of what it comes after
   may_precede : (y : T) → Contains S y → IsAcyclic node G → Precedes node G y x →
-      Precedes node S y x ⊎ ((gap : List ℕ) × IsBehind node S gap x × (¬ IsBehind node S gap y))
+      Precedes node S y x ⊎ ((gap : List ℕ) × IsInPast node S gap x × (¬ IsInPast node S gap y))
   may_precede y cy none (in_y, _, between, path) =
       elim (back y between in_y path) [
         | inl before ↦ inl before
         | inr lost ↦
-            let (h, ch, behind, near) = lost in inr ((node h).digest, behind, λ other. closes h ch near other)
+            let (h, ch, following, near) = lost in inr ((node h).digest, following, λ other. closes h ch near other)
       ]
     where
-      closes : (h : T) → Contains G h → (y ≡ h) ⊎ Precedes node G y h → ¬ IsBehind node S (node h).digest y
+      closes : (h : T) → Contains G h → (y ≡ h) ⊎ Precedes node G y h → ¬ IsInPast node S (node h).digest y
       closes h ch near (gap, (e, up, names)) =
           let ce : Contains G e =
           elim up [
@@ -109,7 +109,7 @@ module _ {T : Type 0} (node : T → Node) (machines : ℕ) (S G : List T) (compl
 
 module _ {T : Type 0} (node : T → Node) (make : List (List ℕ) → List ℕ → T) (makes : MakesAny node make)
     (machines : ℕ) (S : List T) (are : AreSurvivors node machines S) (none : IsAcyclic node S) (y : T)
-    (cy : Contains S y) (tie : List ℕ) (free : ¬ IsBehind node S tie y) where
+    (cy : Contains S y) (tie : List ℕ) (free : ¬ IsInPast node S tie y) where
   -- what stands for the gap d
   abbrev hub : List ℕ → T
   hub d = make (cond (bytes_eq d tie) ((node y).digest ∷ []) []) d
@@ -150,18 +150,18 @@ module _ {T : Type 0} (node : T → Node) (make : List (List ℕ) → List ℕ �
   apart : (f : T) (d : List ℕ) → Contains S f → Contains (gaps node S) d → (node f).digest ≡ d → ⊥
   apart f d cf gap is = (gap_cases node S d gap).1 (f, cf, is)
 
-  -- the hub of a gap, which for the tie is behind x
+  -- the hub of a gap, which for the tie is in x's past
   abbrev IsHub : T → T → Type 0
-  IsHub x f = (d : List ℕ) × Contains (gaps node S) d × (hub d ≡ f) × (d ≡ tie → IsBehind node S tie x)
+  IsHub x f = (d : List ℕ) × Contains (gaps node S) d × (hub d ≡ f) × (d ≡ tie → IsInPast node S tie x)
 
   -- what comes before a survivor x: survivors that do so among them, what comes before y where the tie
-  -- is behind x, and hubs
+  -- is in x's past, and hubs
   abbrev IsBefore : T → T → Type 0
   IsBefore x f =
       Precedes node S f x
-      ⊎ ((Contains S f × ((f ≡ y) ⊎ Precedes node S f y) × IsBehind node S tie x) ⊎ IsHub x f)
+      ⊎ ((Contains S f × ((f ≡ y) ⊎ Precedes node S f y) × IsInPast node S tie x) ⊎ IsHub x f)
 
-  -- an entry that names a hub has its gap behind it
+  -- an entry that names a hub has its gap in its past
   to_hub : (x : T) (f g : T) (d : List ℕ) → (g ≡ x) ⊎ Precedes node S g x → Contains (gaps node S) d → hub d ≡ f →
       Names node g f → IsBefore x f
   to_hub x f g d near gap is names =
@@ -170,7 +170,7 @@ module _ {T : Type 0} (node : T → Node) (make : List (List ℕ) → List ℕ �
         d,
         gap,
         is,
-        λ same. subst (λ c. IsBehind node S c x) same
+        λ same. subst (λ c. IsInPast node S c x) same
             (gap, (g, near, subst (λ c. Contains (node g).names c) digest names)),
       ))
 
@@ -193,26 +193,26 @@ module _ {T : Type 0} (node : T → Node) (make : List (List ℕ) → List ℕ �
                   to_hub x f g d (inr among) gap is names
             ]
         | inr (inl other) ↦
-            let (there, near, behind) = other in
+            let (there, near, following) = other in
             elim (Contains-append_cases S hubs f cf) [
               | inl old ↦
                   let first : Precedes node S f g = (old, there, [], names) in
-                  inr (inl (old, near_on node S f g y (inr first) near, behind))
+                  inr (inl (old, near_on node S f g y (inr first) near, following))
               | inr new ↦
                   let (d, gap, is) = Contains-map_cases hub (gaps node S) f new in
-                  inr (inr (d, gap, is, λ same. behind))
+                  inr (inr (d, gap, is, λ same. following))
             ]
         | inr (inr standing) ↦
-            let (d, gap, is, behind) = standing in
+            let (d, gap, is, following) = standing in
             let (same, digest) =
             hub_names d (node f).digest (subst (λ v. Contains (node v).names (node f).digest) (sym is) names) in
             let here : y ≡ f = whole.distinct y f (whole.keeps y cy) cf digest in
-            inr (inl (subst (λ v. Contains S v) here cy, inl (sym here), behind same))
+            inr (inl (subst (λ v. Contains S v) here cy, inl (sym here), following same))
       ]
 
-  -- where it is a survivor, it does so among them, or the tie is behind x
+  -- where it is a survivor, it does so among them, or the tie is in x's past
   before_survivor : (x f : T) → Contains S x → Contains S f → Precedes node tied f x →
-      Precedes node S f x ⊎ (((f ≡ y) ⊎ Precedes node S f y) × IsBehind node S tie x)
+      Precedes node S f x ⊎ (((f ≡ y) ⊎ Precedes node S f y) × IsInPast node S tie x)
   before_survivor x f cx cf (in_f, _, between, path) =
       elim (before x cx f between in_f path) [
         | inl among ↦ inl among
@@ -227,7 +227,7 @@ module _ {T : Type 0} (node : T → Node) (make : List (List ℕ) → List ℕ �
   no_survivor e ce path =
       elim (before_survivor e e ce ce path) [
         | inl among ↦ none e among
-        | inr other ↦ free (behind_on node S tie e y other.0 other.1)
+        | inr other ↦ free (after_on node S tie e y other.0 other.1)
       ]
 
   -- what names a hub is a survivor
@@ -260,8 +260,8 @@ module _ {T : Type 0} (node : T → Node) (make : List (List ℕ) → List ℕ �
           no_survivor g (names_hub g e d gap is cg names)
           (cg, cg, bs ++ e ∷ [], path_over node tied g bs e [] g rest ce names)
 
-  -- y precedes what the tie is behind
-  y_precedes : (x : T) → Contains S x → IsBehind node S tie x → Precedes node tied y x
+  -- y precedes what has the tie in its past
+  y_precedes : (x : T) → Contains S x → IsInPast node S tie x → Precedes node tied y x
   y_precedes x cx (gap, (e, near, names)) =
       let there : Contains tied (hub tie) =
       Contains-append_right S hubs (hub tie) (Contains-map hub (gaps node S) tie gap) in
@@ -285,7 +285,7 @@ module _ {T : Type 0} (node : T → Node) (make : List (List ℕ) → List ℕ �
   pub order_is_exact_without_cycles : OrderIsExactWithoutCycles node
   order_is_exact_without_cycles machines S are none y x cy cx =
       let digest : List ℕ = (node y).digest in
-      let own : ¬ IsBehind node S digest y = λ behind. (gap_cases node S digest behind.0).1 (y, cy, refl) in
+      let own : ¬ IsInPast node S digest y = λ following. (gap_cases node S digest following.0).1 (y, cy, refl) in
       let G : List T = tied node make makes machines S are none y cy digest own in
       let complete : Completion node machines S G = whole node make makes machines S are none y cy digest own in
       let acyclic : IsAcyclic node G = no_cycle node make makes machines S are none y cy digest own in (
@@ -294,11 +294,11 @@ module _ {T : Type 0} (node : T → Node) (make : List (List ℕ) → List ℕ �
           λ either. elim either [
             | inl among ↦ (G, complete, acyclic, before_in_completion node S machines G complete y x among)
             | inr lost ↦
-                let (gap, behind, free) = lost in (
+                let (gap, following, free) = lost in (
                   tied node make makes machines S are none y cy gap free,
                   whole node make makes machines S are none y cy gap free,
                   no_cycle node make makes machines S are none y cy gap free,
-                  y_precedes node make makes machines S are none y cy gap free x cx behind,
+                  y_precedes node make makes machines S are none y cy gap free x cx following,
                 )
           ],
         ),

@@ -24,7 +24,7 @@ module _ {T : Type 0} (node : T → Node) where
         | inl first ↦ Contains-append_left before later y first
         | inr last ↦ elim (Contains-cons_cases x later y last) [
           | inl same ↦ absurd (apart.0 y c (ap (λ (z : T). (node z).digest) (sym same)))
-          | inr behind ↦ Contains-append_right before later y behind
+          | inr following ↦ Contains-append_right before later y following
         ]
       ]) in
       omega (

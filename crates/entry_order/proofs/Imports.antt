@@ -1,5 +1,5 @@
 -- What the proofs of this crate take from others.
-pub use Rattle.entry_order.specs.AcyclicOrder.{IsBehind, MakesAny, OrderIsExactWithoutCycles}
+pub use Rattle.entry_order.specs.AcyclicOrder.{IsInPast, MakesAny, OrderIsExactWithoutCycles}
 pub use Rattle.entry_order.specs.Ancestors.{Descends, IsAncestor, IsWalk, before, is_whole, reaches}
 pub use Rattle.entry_order.specs.Ascending.{AscendingIsUnique, IsAscending, IsAscendingOf, ascending, insert_digest}
 pub use Rattle.entry_order.specs.Ascending.{inserted}

@@ -14,20 +14,20 @@ module _ {T : Type 0} (node : T → Node) where
     pub maker : (names : List (List ℕ)) (d : List ℕ) → (node (make names d)).maker ≡ 0
     pub names : (names : List (List ℕ)) (d : List ℕ) → (node (make names d)).names ≡ names
 
-  -- the gap is behind x: x, or a survivor that precedes x, names it
-  abbrev pub IsBehind : List T → List ℕ → T → Type 0
-  IsBehind S gap x =
+  -- the gap is in the past of x: x, or a survivor that precedes x, names it
+  abbrev pub IsInPast : List T → List ℕ → T → Type 0
+  IsInPast S gap x =
       Contains (gaps node S) gap
       × ((e : T) × ((e ≡ x) ⊎ Precedes node S e x) × Contains (node e).names gap)
 
   -- Where no entry precedes itself, one survivor can precede another exactly if it does so among the
-  -- survivors or some gap is behind the other and not behind it; and it must exactly if it does so
+  -- survivors or some gap is in the other's past and not in its own; and it must exactly if it does so
   -- among them.
   abbrev pub OrderIsExactWithoutCycles : Type 0
   OrderIsExactWithoutCycles =
       (machines : ℕ) (S : List T) → AreSurvivors node machines S → IsAcyclic node S →
       (y x : T) → Contains S y → Contains S x →
       (((G : List T) × Completion node machines S G × IsAcyclic node G × Precedes node G y x)
-      ↔ (Precedes node S y x ⊎ ((gap : List ℕ) × IsBehind S gap x × (¬ IsBehind S gap y))))
+      ↔ (Precedes node S y x ⊎ ((gap : List ℕ) × IsInPast S gap x × (¬ IsInPast S gap y))))
       × (((G : List T) → Completion node machines S G → IsAcyclic node G → Precedes node G y x)
       ↔ Precedes node S y x)

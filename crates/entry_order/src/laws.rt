@@ -67,7 +67,7 @@ pub fn order_is_settled<T: Knot>()
 {}
 
 /// Of two survivors one can precede the other in a completion without cycles exactly if it does so
-/// among the survivors, or some gap is behind the other and not behind it; and it does in each such
+/// among the survivors, or some gap is in the other's past and not in its own; and it does in each such
 /// completion exactly if it does among them.
 pub fn order_is_exact_without_cycles<T: Knot>()
     ensures { (make : List (List ℕ) → List ℕ → T) → MakesAny T.node make →

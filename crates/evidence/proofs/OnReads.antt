@@ -18,7 +18,7 @@ first_as_read [] others files are = tt
 first_as_read (read ∷ reads) others [] are = absurd are
 first_as_read (read ∷ reads) others (file ∷ files) are = (are.0, first_as_read reads others files are.1)
 
--- files that were read are as they were found also where those behind the first n are left out
+-- files that were read are as they were found also where those after the first n are left out
 within_as_read : (n : ℕ) (reads : List FileRead) (files : List (Option (List ℕ))) → length reads ≤ n →
     AreAsRead reads files → AreAsRead reads (take n files)
 within_as_read n [] files few are = tt
@@ -34,7 +34,7 @@ rest_as_read [] others files are = are
 rest_as_read (read ∷ reads) others [] are = absurd are
 rest_as_read (read ∷ reads) others (file ∷ files) are = rest_as_read reads others files are.1
 
--- what holds of one file, and with it of the others behind it
+-- what holds of one file, and with it of the others after it
 pub one_first : (P : Option (List ℕ) → Type 0) (R : List (Option (List ℕ)) → Type 0)
     (files rest : List (Option (List ℕ))) → ((file : Option (List ℕ)) → P file → R (file ∷ rest)) →
     OnOneFile P files → R (files ++ rest)

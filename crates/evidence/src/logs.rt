@@ -9,8 +9,7 @@ use hall_outside::Store;
 use log_files::{EntryWork, LogFault, LogRead, read_log_by};
 use roster::Roster;
 use std::alloc::Global;
-use std::thread::Threads;
-use ways_of_work::{Alone, InThreads};
+use ways_of_work::Alone;
 
 /// Reads the logs of these names, in their order, and verifies the signatures of their entries
 /// under the roster, of the election. An entry that is in several logs is verified once. The
@@ -32,26 +31,6 @@ pub fn read_logs<S: Store>(
         store.old result store.new }
 {
     read_logs_by(&Alone, alloc, store, names, roster, election)
-}
-
-/// The logs of `read_logs`, of which threads verify the signatures.
-///
-/// # Errors
-///
-/// Those of `read_logs`.
-pub fn read_logs_in<R: Threads + Sync, S: Store>(
-    rt: &R,
-    alloc: Global,
-    store: &mut S,
-    names: &[String],
-    roster: &Roster,
-    election: &[u8; 32],
-) -> Result<Vec<LogRead>, AuditFault>
-    ensures { IsReadFrom S.Store (λ logs. logs.items) (map string_bytes names.now)
-        (GivesLogs roster.now.machines election.now (map string_bytes names.now))
-        store.old result store.new }
-{
-    read_logs_by(&InThreads { rt }, alloc, store, names, roster, election)
 }
 
 /// The logs of `read_logs`, whose entries are read in this way of work.

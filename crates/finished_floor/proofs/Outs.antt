@@ -62,7 +62,7 @@ pub record Handing (loses : List Lose) (from count : ℕ) (copies0 : List Sealed
   -- until the maker is passed, a copy is left for each machine from `to` on but the maker
   pub ahead : to ≤ from → length copies + to + 1 ≡ count
   -- once the maker is passed, a copy is left for each machine from `to` on
-  pub behind : from < to → length copies + to ≡ count
+  pub following : from < to → length copies + to ≡ count
   -- what a sweep keeps is kept, with the entry waiting for the machines from `to` on alone
   pub swept : (e : SealedEntry) → e.entry.maker ≡ from → All (λ (x : SealedEntry). x ≡ e) copies0 →
       All (λ (x : SealedEntry). x ≡ e) copies × ((old : List MachineState) (before : List Loss) →
@@ -83,7 +83,7 @@ module _ (loses : List Lose) (from count : ℕ) (copies0 : List SealedEntry) (ms
     left = refl;
     makers = makers;
     ahead = λ h. omega arith;
-    behind = λ h. absurd (omega arith);
+    following = λ h. absurd (omega arith);
     swept = λ e maker all. (all, λ old before s. s);
   }
 
@@ -99,7 +99,7 @@ module _ (loses : List Lose) (from count : ℕ) (copies0 : List SealedEntry) (ms
       left = is.left;
       makers = is.makers;
       ahead = λ h. absurd (omega arith);
-      behind = λ h. let b = is.ahead (omega arith) in omega arith;
+      following = λ h. let b = is.ahead (omega arith) in omega arith;
       swept = λ e maker all.
           let was = is.swept e maker all in (
             was.0,
@@ -114,7 +114,7 @@ module _ (loses : List Lose) (from count : ℕ) (copies0 : List SealedEntry) (ms
     pub some_left : to ≢ from → 0 < length copies
     some_left differs =
         elim (cases_lt from to) [
-          | inl h ↦ (let b = is.behind h in omega arith)
+          | inl h ↦ (let b = is.following h in omega arith)
           | inr h ↦ (let b = is.ahead h in omega arith)
         ]
 
@@ -137,8 +137,8 @@ module _ (loses : List Lose) (from count : ℕ) (copies0 : List SealedEntry) (ms
             left = handed_left loses to copy ms new losses more hands ∙ is.left;
             makers = (All-pop (λ (x : SealedEntry). x.entry.maker ≡ from) copies rest (Some copy) split is.makers).0;
             ahead = λ h. let b = is.ahead (omega arith) in omega arith;
-            behind = λ h. elim (cases_lt from to) [
-              | inl low ↦ (let b = is.behind low in omega arith)
+            following = λ h. elim (cases_lt from to) [
+              | inl low ↦ (let b = is.following low in omega arith)
               | inr high ↦ absurd (differs (omega arith))
             ];
             swept = λ e maker all.

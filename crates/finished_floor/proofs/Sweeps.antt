@@ -39,9 +39,9 @@ module _ {T : Type 0} (node : T → Node) where
       absurd (omega arith)
 
   -- numbers rise, so what follows an entry has another number
-  pub behind_greater : (heard rest : List T) (e : T) → AreRising (heard ++ e ∷ rest) → (x : T) → Contains rest x →
+  pub after_greater : (heard rest : List T) (e : T) → AreRising (heard ++ e ∷ rest) → (x : T) → Contains rest x →
       (node x).number ≢ (node e).number
-  behind_greater heard rest e rises x c s =
+  after_greater heard rest e rises x c s =
       let (k, inside, at) = at_from_Contains rest x c in
       let lt = rises (length heard + 0) (length heard + (1 + k)) x (omega arith)
       (omega (arith, inside, length-append heard (e ∷ rest))) in
@@ -135,7 +135,7 @@ module _ {T : Type 0} (node : T → Node) where
                 (λ x. not (is_lost losses a (node x).number b)) (sent (history w a)) rises) in
                 let done : heard ++ later a b ≡ arriving node (losses ++ loss ∷ []) a b (sent (history w a)) =
                 lost_on_arrival node losses loss a b (sent (history w a)) heard (later a b) e was is
-                (before_lower heard (later a b) e all) (behind_greater heard (later a b) e all) in
+                (before_lower heard (later a b) e all) (after_greater heard (later a b) e all) in
                 let P : ℕ → ℕ → Type 0 = λ m n. got_from node m (history w n) ++ later m n
                 ≡ arriving node (losses ++ loss ∷ []) m n (sent (history w m)) in
                 subst (λ m. P m d) (sym s) (subst (λ n. P a n) (sym t) done))

@@ -182,7 +182,7 @@ pub record Sending (links : List (List LinkView)) (loses : List Lose) (own numbe
   -- up to the maker itself there is a copy for each machine that is left but it
   pub before : to ≤ own → length copies + to + 1 ≡ count
   -- after it there is one for each that is left
-  pub behind : own < to → length copies + to ≡ count
+  pub following : own < to → length copies + to ≡ count
   -- the ends of the machines that are left are as they were
   pub left : (k : ℕ) (d : End) → to ≤ k → k < count → get_or outs k d ≡ get_or outs0 k d
   -- there are no more new losses than machines were reached
@@ -202,7 +202,7 @@ module _ (links : List (List LinkView)) (loses : List Lose) (own number count : 
     in_all = in_all;
     are_copies = copies;
     before = λ h. omega arith;
-    behind = λ h. absurd (omega arith);
+    following = λ h. absurd (omega arith);
     left = λ k d above lt. refl;
     room = omega arith;
     sent = λ e capacity maker number all holds.
@@ -218,7 +218,7 @@ module _ (links : List (List LinkView)) (loses : List Lose) (own number count : 
     in_all = is.in_all;
     are_copies = is.are_copies;
     before = λ h. absurd (omega arith);
-    behind = λ h. let b = is.before (omega arith) in omega arith;
+    following = λ h. let b = is.before (omega arith) in omega arith;
     left = λ k d above lt. is.left k d (omega arith) lt;
     room = let r = is.room in omega arith;
     sent = λ e capacity maker number all holds.
@@ -247,7 +247,7 @@ module _ (links : List (List LinkView)) (loses : List Lose) (own number count : 
         are_copies = (All-pop (λ (x : SealedEntry). (x.entry.maker ≡ own) × (x.entry.number ≡ number) ×
             (x.entry.number < max_actions)) copies rest (Some copy) split is.are_copies).0;
         before = λ h. let b = is.before (omega arith) in omega arith;
-        behind = λ h. let b = is.behind (omega arith) in omega arith;
+        following = λ h. let b = is.following (omega arith) in omega arith;
         left = λ k d above lt. get_or-set_other outs to k end d (omega arith) ∙ is.left k d (omega arith) lt;
         room = let r = is.room in omega arith;
         sent = λ e capacity by at all holds.

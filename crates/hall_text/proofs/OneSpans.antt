@@ -16,8 +16,8 @@ pub first_among : (s : Span) (spans : List Span) → Contains (s ∷ spans) s
 first_among s spans = Contains-append_left (s ∷ []) spans s (Contains-push [] s)
 
 -- a span of the list is the first or one of the others
-pub behind_first : (a s : Span) (spans : List Span) → Contains (a ∷ spans) s → (a ≡ s) ⊎ Contains spans s
-behind_first a s spans among =
+pub after_first : (a s : Span) (spans : List Span) → Contains (a ∷ spans) s → (a ≡ s) ⊎ Contains spans s
+after_first a s spans among =
     ⊎_elim (λ (h : Contains (a ∷ []) s).
     ⊎_elim (λ (none : Contains [] s). absurd (omega (arith, none.1))) (λ (is : a ≡ s). inl is)
     (Contains-push_cases [] a s h))
@@ -50,8 +50,8 @@ one_list (x ∷ xs) (y ∷ ys) ox oy to from =
     let a : y.start < x.start = first_is_before y x ys oy later in
     let b : x.start < y.start = first_is_before x y xs ox other in
     absurd (omega arith))
-    (behind_first x y xs (from y (first_among y ys))))
-    (behind_first y x ys (to x (first_among x xs))) in
+    (after_first x y xs (from y (first_among y ys))))
+    (after_first y x ys (to x (first_among x xs))) in
     let tails : xs ≡ ys =
     one_list xs ys (tail_ordered x xs ox) (tail_ordered y ys oy)
     (λ s among.
@@ -60,14 +60,14 @@ one_list (x ∷ xs) (y ∷ ys) ox oy to from =
     let e : x.start ≡ s.start = ap (λ (z : Span). z.start) (same ∙ is) in
     absurd (omega arith))
     (λ (h : Contains ys s). h)
-    (behind_first y s ys (to s (Contains-append_right (x ∷ []) xs s among))))
+    (after_first y s ys (to s (Contains-append_right (x ∷ []) xs s among))))
     (λ s among.
     ⊎_elim (λ (is : x ≡ s).
     let lt : y.start < s.start = first_is_before y s ys oy among in
     let e : y.start ≡ s.start = ap (λ (z : Span). z.start) (sym same ∙ is) in
     absurd (omega arith))
     (λ (h : Contains xs s). h)
-    (behind_first x s xs (from s (Contains-append_right (y ∷ []) ys s among)))) in
+    (after_first x s xs (from s (Contains-append_right (y ∷ []) ys s among)))) in
     cc
 
 -- spans that are all of a kind are one list

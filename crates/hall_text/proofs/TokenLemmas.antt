@@ -107,8 +107,8 @@ module _ (text : List ℕ) where
           (λ (a : IsAlone text s). inr a.byte) token
 
   -- after a token, and after a byte of none, no word continues
-  pub between_behind : (at end : ℕ) → at < end → IsToken text (record { start = at; end = end }) → CutsNoWord text end
-  between_behind at end some token positive within byte =
+  pub between_after : (at end : ℕ) → at < end → IsToken text (record { start = at; end = end }) → CutsNoWord text end
+  between_after at end some token positive within byte =
       let new : Span = record { start = at; end = end } in
       ⊎_elim (λ (w : IsWord text new). absurd (w.ends within byte))
       (λ (a : IsAlone text new). let one : end ≡ at + 1 = a.one in let before : end - 1 ≡ at = omega arith in

@@ -73,7 +73,7 @@ module _ {T : Type 0} where
   past_of (Sent g ∷ p) e l = ap (λ u. Sent g ∷ u) (past_of p e l)
   past_of (Got g ∷ p) e l = ap (λ u. Got g ∷ u) (past_of p e l)
 
-  -- behind the past of an entry is the entry
+  -- after the past of an entry is the entry
   past_at : (h : List (Event T)) (n : ℕ) (x : T) → slice_get (sent h) n ≡ Some x →
       (l : List (Event T)) × (h ≡ past h n ++ Sent x ∷ l) × (length (sent (past h n)) ≡ n)
   past_at h n x e =

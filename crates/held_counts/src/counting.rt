@@ -85,7 +85,7 @@ fn spread_all<M: Recorder>(machines: &[M], counts: &mut [usize]) -> bool
     any
 }
 
-// As many such rounds. Behind a round that raises nothing no other would.
+// As many such rounds. After a round that raises nothing no other would.
 fn spread_rounds<M: Recorder>(machines: &[M], rounds: u32, counts: &mut [usize])
     requires { length counts.old ≡ length machines.now }
     ensures { counts.new

@@ -4,13 +4,13 @@ use Rattle.honest_logs.proofs.Imports.{length, take, drop, Some, refl, ap, sym, 
 use Rattle.honest_logs.proofs.Imports.{flat_map, cases_lt, take-append-le, take-append-drop, length-drop}
 
 -- bytes after a front that is kept are cut by as many bytes less
-pub take_behind : (front rest : List ℕ) (n : ℕ) → length front ≤ n →
+pub take_after : (front rest : List ℕ) (n : ℕ) → length front ≤ n →
     take n (front ++ rest) ≡ front ++ take (n - length front) rest
-take_behind [] rest n le = let same : n ≡ n - 0 = omega arith in ap (λ (k : ℕ). take k rest) same
-take_behind (b ∷ front) rest zero le = absurd (omega arith)
-take_behind (b ∷ front) rest (suc n) le =
+take_after [] rest n le = let same : n ≡ n - 0 = omega arith in ap (λ (k : ℕ). take k rest) same
+take_after (b ∷ front) rest zero le = absurd (omega arith)
+take_after (b ∷ front) rest (suc n) le =
     let same : n - length front ≡ suc n - suc (length front) = omega arith in
-    ap (λ (bs : List ℕ). b ∷ bs) (take_behind front rest n (omega arith))
+    ap (λ (bs : List ℕ). b ∷ bs) (take_after front rest n (omega arith))
     ∙ ap (λ (k : ℕ). b ∷ (front ++ take k rest)) same
 
 module _ {X : Type 0} (text : X → List ℕ) where
@@ -29,12 +29,12 @@ module _ {X : Type 0} (text : X → List ℕ) where
         ⊎ ((x : X) × (slice_get xs count ≡ Some x) × ((more : List ℕ) × (0 < length more) × (text x ≡ rest ++ more)))
 
   -- one text more in front, which is whole
-  cut_behind : (x : X) (xs : List X) (n : ℕ) → length (text x) ≤ n → IsCut xs (n - length (text x)) → IsCut (x ∷ xs) n
-  cut_behind x xs n le c = record {
+  cut_after : (x : X) (xs : List X) (n : ℕ) → length (text x) ≤ n → IsCut xs (n - length (text x)) → IsCut (x ∷ xs) n
+  cut_after x xs n le c = record {
     count = suc c.count;
     rest = c.rest;
     some_of = let few = c.some_of in omega (arith, few);
-    spelt = take_behind (text x) (flat_map text xs) n le ∙ ap (λ (bs : List ℕ). text x ++ bs) c.spelt
+    spelt = take_after (text x) (flat_map text xs) n le ∙ ap (λ (bs : List ℕ). text x ++ bs) c.spelt
         ∙ sym (append_assoc (text x) (flat_map text (take c.count xs)) c.rest);
     inside = elim c.inside [ inl h ↦ inl (ap suc h.0, h.1) | inr h ↦ inr h ];
   }
@@ -68,5 +68,5 @@ module _ {X : Type 0} (text : X → List ℕ) where
   cut_of (x ∷ xs) n =
       elim (cases_lt n (length (text x))) [
         | inl less ↦ cut_here x xs n less
-        | inr le ↦ cut_behind x xs n le (cut_of xs (n - length (text x)))
+        | inr le ↦ cut_after x xs n le (cut_of xs (n - length (text x)))
       ]

@@ -15,7 +15,7 @@ use Rattle.honest_logs.proofs.Imports.{StandWhole, IsCutAt, end_of, members_in, 
 use Rattle.honest_logs.proofs.Imports.{one_sealed, kept_with}
 use Rattle.std.proofs.Common.{Result, Ok}
 use Rattle.std.proofs.Common.{append-nil, length-append}
-use Rattle.honest_logs.proofs.Cuts.{IsCut, cut_of, take_behind}
+use Rattle.honest_logs.proofs.Cuts.{IsCut, cut_of, take_after}
 
 -- ---- lists of events
 
@@ -67,7 +67,7 @@ whole_is_left owner events =
     let text = log_text owner events in
     record {
       place = length text;
-      behind_header = omega (arith, length-append (text_of (header_tree owner)) (flat_map record_text events));
+      after_header = omega (arith, length-append (text_of (header_tree owner)) (flat_map record_text events));
       cut = sym (take_all (length text) text (omega arith));
     }
 
@@ -258,7 +258,7 @@ module _ (posts : List Post) (election : List ℕ) where
     are_log : AreLog (IsReadSealed posts election) bytes owner (kept_from 0 (take cut.count events)) []
         (end_at offset cut.rest)
     are_log = record {
-      behind = flat_map record_text (take cut.count events) ++ cut.rest;
+      following = flat_map record_text (take cut.count events) ++ cut.rest;
       trees = map tree_of (take cut.count events);
       readings = readings_from 0 (take cut.count events);
       number = small;
@@ -346,21 +346,21 @@ module _ (posts : List Post) (election : List ℕ) where
       cut_at = left.place - length (text_of (header_tree owner))
 
       -- what is left is the header and the first n bytes of the records
-      cut_behind_header : bytes ≡ text_of (header_tree owner) ++ take cut_at (flat_map record_text events)
-      cut_behind_header =
+      cut_after_header : bytes ≡ text_of (header_tree owner) ++ take cut_at (flat_map record_text events)
+      cut_after_header =
           left.cut
-          ∙ take_behind (text_of (header_tree owner)) (flat_map record_text events) left.place left.behind_header
+          ∙ take_after (text_of (header_tree owner)) (flat_map record_text events) left.place left.after_header
 
       -- what is left of a log is one
       pub left_is_log : (kept : List Kept) × (end : End) × BreaksAt owner kept None
           × AreLog (IsReadSealed posts election) bytes owner kept [] end
       left_is_log =
-          log_so owner small events valid legal bytes cut_at cut_behind_header (cut_of record_text events cut_at)
+          log_so owner small events valid legal bytes cut_at cut_after_header (cut_of record_text events cut_at)
 
       -- what is left is read as the events that are complete in it
       pub left_is_read : (log : LogRead) → SaysSealed posts election bytes log → IsPrefixRead owner events bytes log
       left_is_read log said =
-          read_so owner small events valid legal bytes cut_at cut_behind_header (cut_of record_text events cut_at) log
+          read_so owner small events valid legal bytes cut_at cut_after_header (cut_of record_text events cut_at) log
           said
 
     -- a whole log is read as all of its events
@@ -401,7 +401,7 @@ left_has_header owner small events bytes left =
       owner,
       take (left.place - length front) (flat_map record_text events),
       small,
-      left.cut ∙ take_behind front (flat_map record_text events) left.place left.behind_header,
+      left.cut ∙ take_after front (flat_map record_text events) left.place left.after_header,
     )
 
 -- one that is cut inside its header has none

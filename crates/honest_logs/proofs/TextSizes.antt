@@ -139,8 +139,8 @@ deed_size version deed is small =
 -- the body of an entry
 module _ (entry : Entry) (is : IsEntry entry) where
   -- what follows the names
-  behind_names : sizes (deed_tree entry.version entry.deed ∷ []) ≤ 78
-  behind_names =
+  after_names : sizes (deed_tree entry.version entry.deed ∷ []) ≤ 78
+  after_names =
       omega (
         arith,
         front (deed_tree entry.version entry.deed) [],
@@ -148,15 +148,15 @@ module _ (entry : Entry) (is : IsEntry entry) where
       )
 
   -- what follows the stamp
-  behind_stamp : sizes (list_of (map Atom entry.names) ∷ deed_tree entry.version entry.deed ∷ []) ≤
+  after_stamp : sizes (list_of (map Atom entry.names) ∷ deed_tree entry.version entry.deed ∷ []) ≤
       80 + 38 * length entry.names
-  behind_stamp =
+  after_stamp =
       omega (
         arith,
         front (list_of (map Atom entry.names)) (deed_tree entry.version entry.deed ∷ []),
         around (map Atom entry.names),
         names entry.names is.names,
-        behind_names,
+        after_names,
       )
 
   -- the numbers, and what follows them
@@ -173,7 +173,7 @@ module _ (entry : Entry) (is : IsEntry entry) where
         number entry.maker is.maker,
         number entry.number is.number,
         number entry.stamp is.stamp,
-        behind_stamp,
+        after_stamp,
       )
 
   -- the body as a whole

@@ -18,7 +18,7 @@ use Rattle.polling_world.specs.Making.{election_of}
 -- after it is gone
 pub record IsLeftOf (owner : ℕ) (events : List (Event SealedEntry)) (bytes : List ℕ) : Type 0 where
   pub place : ℕ
-  pub behind_header : length (text_of (header_tree owner)) ≤ place
+  pub after_header : length (text_of (header_tree owner)) ≤ place
   pub cut : bytes ≡ take place (log_text owner events)
 
 -- where the header and the records of the first n events end in the text of the log

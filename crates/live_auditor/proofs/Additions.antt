@@ -38,9 +38,9 @@ pub wide_over : (machines : List Post) (trees : List RuleTree) (entries : List S
 wide_over machines trees entries fault place given is = subst (IsUnsummed machines trees entries) is given
 
 -- an entry that is kept after another has another digest
-kept_behind : (e : SealedEntry) (es : List SealedEntry) (f : SealedEntry) →
+kept_after : (e : SealedEntry) (es : List SealedEntry) (f : SealedEntry) →
     Contains (filter (λ g. not (bytes_eq g.digest e.digest)) es) f → e.digest ≡ f.digest → ⊥
-kept_behind e es f has same =
+kept_after e es f has same =
     let kept = Contains-filter_cases (λ (g : SealedEntry). not (bytes_eq g.digest e.digest)) es f has in
     let equal : bytes_eq f.digest e.digest ≡ true = (bytes_eq-Decides f.digest e.digest).1 (sym same) in
     let no : not true ≡ true = ap not (sym equal) ∙ kept.1 in
@@ -51,18 +51,18 @@ once_apart : (given : List SealedEntry) → Distinct node_of_sealed (distinct no
 once_apart [] e f has_e has_f same = absurd (Contains-none e has_e)
 once_apart (x ∷ xs) e f has_e has_f same =
     let rest = filter (λ (g : SealedEntry). not (bytes_eq g.digest x.digest)) (distinct node_of_sealed xs) in
-    let behind : (y : SealedEntry) → Contains rest y → Contains (distinct node_of_sealed xs) y =
+    let following : (y : SealedEntry) → Contains rest y → Contains (distinct node_of_sealed xs) y =
     λ y c. (Contains-filter_cases (λ (g : SealedEntry). not (bytes_eq g.digest x.digest)) (distinct node_of_sealed xs) y
     c).0 in
     elim (Contains-cons_cases x rest e has_e) [
       | inl p ↦ elim (Contains-cons_cases x rest f has_f) [
         | inl q ↦ sym p ∙ q
-        | inr v ↦ absurd (kept_behind x (distinct node_of_sealed xs) f v (ap (λ (z : SealedEntry). z.digest) p ∙ same))
+        | inr v ↦ absurd (kept_after x (distinct node_of_sealed xs) f v (ap (λ (z : SealedEntry). z.digest) p ∙ same))
       ]
       | inr u ↦ elim (Contains-cons_cases x rest f has_f) [
         | inl q ↦
-            absurd (kept_behind x (distinct node_of_sealed xs) e u (ap (λ (z : SealedEntry). z.digest) q ∙ sym same))
-        | inr v ↦ once_apart xs e f (behind e u) (behind f v) same
+            absurd (kept_after x (distinct node_of_sealed xs) e u (ap (λ (z : SealedEntry). z.digest) q ∙ sym same))
+        | inr v ↦ once_apart xs e f (following e u) (following f v) same
       ]
     ]
 

@@ -1,10 +1,10 @@
--- What is found of the names of an entry, and of a usual one.
+-- What is found of the names of an entry, and of an appended one.
 use Rattle.std.proofs.Common.{◌≡◌}
 use Rattle.live_auditor.proofs.Imports.{◌∙◌, ap, sym, subst, ℕ, ◌+◌, ◌-◌, ◌<◌, ◌≤◌, List, [], ◌∷◌, ◌++◌, length}
 use Rattle.live_auditor.proofs.Imports.{get_or, take, inl, inr, arith, false, Some, slice_get, ◌⊎◌, IfSome, Contains}
 use Rattle.live_auditor.proofs.Imports.{bytes_eq, cases_lt, true≢false, take_more, Contains-append_left}
 use Rattle.live_auditor.proofs.Imports.{Contains-push, Contains-push_cases, slice_get-get_or, bytes_eq-Decides}
-use Rattle.live_auditor.proofs.Imports.{SealedEntry, Row, Usual, FindsNames, IsUsualBy}
+use Rattle.live_auditor.proofs.Imports.{SealedEntry, Row, Appended, FindsNames, IsAppendedBy}
 use Rattle.std.specs.Prelude.{Option}
 
 module _ (digests names : List (List ℕ)) (i : ℕ) (d : List ℕ) (within : i < length names) where
@@ -99,13 +99,13 @@ looked_at digests d place item stands other none k past low at = elim (cases_lt 
   | inr later ↦ none k later low at
 ]
 
--- what is found of a usual entry says that it is one
-pub usual_found : (added : List SealedEntry) (seen gaps digests : List (List ℕ)) (rows : List Row) (e : SealedEntry)
-    (found : Option Usual) (usual : Usual) → seen ≡ gaps → found ≡ Some usual →
-    IfSome found (λ u. IsUsualBy added seen digests rows e u.named.parents.items u.named.missing.items) →
-    IsUsualBy added gaps digests rows e usual.named.parents.items usual.named.missing.items
-usual_found added seen gaps digests rows e found usual same is shown =
-    let there = subst (λ (o : Option Usual).
-    IfSome o (λ u. IsUsualBy added seen digests rows e u.named.parents.items u.named.missing.items)) is shown in
+-- what is found of an appended entry says that it is one
+pub appended_found : (added : List SealedEntry) (seen gaps digests : List (List ℕ)) (rows : List Row) (e : SealedEntry)
+    (found : Option Appended) (appended : Appended) → seen ≡ gaps → found ≡ Some appended →
+    IfSome found (λ u. IsAppendedBy added seen digests rows e u.named.parents.items u.named.missing.items) →
+    IsAppendedBy added gaps digests rows e appended.named.parents.items appended.named.missing.items
+appended_found added seen gaps digests rows e found appended same is shown =
+    let there = subst (λ (o : Option Appended).
+    IfSome o (λ u. IsAppendedBy added seen digests rows e u.named.parents.items u.named.missing.items)) is shown in
     subst (λ (ds : List (List ℕ)).
-    IsUsualBy added ds digests rows e usual.named.parents.items usual.named.missing.items) same there
+    IsAppendedBy added ds digests rows e appended.named.parents.items appended.named.missing.items) same there

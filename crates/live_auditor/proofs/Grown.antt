@@ -1,4 +1,4 @@
--- The graph with a usual entry more.
+-- The graph with an appended entry more.
 use Rattle.std.proofs.Common.{◌≡◌}
 use Rattle.live_auditor.proofs.Imports.{◌∙◌, ap, refl, sym, subst, ℕ, suc, ◌<◌, true, false, Some, List, [], ◌∷◌}
 use Rattle.live_auditor.proofs.Imports.{◌++◌, length, get_or, arith, inl, inr, length-append, slice_get, not, ◌==◌}
@@ -11,7 +11,7 @@ use Rattle.live_auditor.proofs.Imports.{Contains-ascending, Contains-ascending_c
 use Rattle.live_auditor.proofs.Imports.{gaps_are_unique, Contains-head, Contains-none, is_stray_of, is_stray_from}
 use Rattle.live_auditor.proofs.Imports.{EntryGraph, Links, parents_in, ragged_in, parents_of}
 use Rattle.live_auditor.proofs.Imports.{ragged_of, IsLower, AreStrays, IsFork, AreForks, IsGraphOfGiven, link_to}
-use Rattle.live_auditor.proofs.Imports.{IsUsual, AreParents, AreMissing, grown}
+use Rattle.live_auditor.proofs.Imports.{IsAppended, AreParents, AreMissing, grown}
 use Rattle.live_auditor.proofs.Ends.{slice_get_old, slice_get_last, at_cases, at_contains}
 
 -- a list without members is empty, as its length shows
@@ -26,7 +26,7 @@ none_is_empty [] none = refl
 none_is_empty (d ∷ ds) none = absurd (none d (Contains-head d ds))
 
 module _ {T : Type 0} (node : T → Node) (given : List T) (graph : EntryGraph T)
-    (is : IsGraphOfGiven node given graph) (e : T) (new : IsNew node given e) (usual : IsUsual node given graph e) where
+    (is : IsGraphOfGiven node given graph) (e : T) (new : IsNew node given e) (appended : IsAppended node given graph e) where
   -- the survivors
   abbrev S : List T
   S = graph.survivors
@@ -55,7 +55,7 @@ module _ {T : Type 0} (node : T → Node) (given : List T) (graph : EntryGraph T
 
   -- none names it
   not_named : (x : T) → Contains S x → Names node x e → ⊥
-  not_named x has names = usual.closes_none ((gaps_are.members (node e).digest).1 ((x, has, names), not_borne))
+  not_named x has names = appended.closes_none ((gaps_are.members (node e).digest).1 ((x, has, names), not_borne))
 
   -- the others are strays as before
   stray_before : (x : T) → Contains given x → IsStray node more x → IsStray node given x
@@ -82,8 +82,8 @@ module _ {T : Type 0} (node : T → Node) (given : List T) (graph : EntryGraph T
   -- and it is none
   itself_no_stray : IsStray node more e → ⊥
   itself_no_stray (g, there, names, late) = elim (Contains-push_cases given e g there) [
-    | inl old ↦ (let low = usual.latest g old in omega (arith, low, late))
-    | inr same ↦ usual.not_itself (subst (λ y. Contains (node e).names (node y).digest) (sym same) names)
+    | inl old ↦ (let low = appended.latest g old in omega (arith, low, late))
+    | inr same ↦ appended.not_itself (subst (λ y. Contains (node e).names (node y).digest) (sym same) names)
   ]
 
   -- so the survivors are those before and it
@@ -130,12 +130,12 @@ module _ {T : Type 0} (node : T → Node) (given : List T) (graph : EntryGraph T
         | inl old ↦ elim (Contains-push_cases S e g also) [
           | inl older ↦ (f, g, old, older, differ, fm, fn, gm, gn)
           | inr last ↦
-              absurd (usual.no_fork f old (fm ∙ sym gm ∙ ap (λ z. (node z).maker) (sym last))
+              absurd (appended.no_fork f old (fm ∙ sym gm ∙ ap (λ z. (node z).maker) (sym last))
               (fn ∙ sym gn ∙ ap (λ z. (node z).number) (sym last)))
         ]
         | inr last ↦ elim (Contains-push_cases S e g also) [
           | inl old ↦
-              absurd (usual.no_fork g old (gm ∙ sym fm ∙ ap (λ z. (node z).maker) (sym last))
+              absurd (appended.no_fork g old (gm ∙ sym fm ∙ ap (λ z. (node z).maker) (sym last))
               (gn ∙ sym fn ∙ ap (λ z. (node z).number) (sym last)))
           | inr twice ↦ absurd (differ (sym last ∙ twice))
         ]
@@ -162,7 +162,7 @@ module _ {T : Type 0} (node : T → Node) (given : List T) (graph : EntryGraph T
           λ (y, at, same). elim (Contains-push_cases S e y at) [
             | inl old ↦ none (y, old, same)
             | inr last ↦
-                usual.closes_none
+                appended.closes_none
                 (subst (λ c. Contains graph.gaps c) (sym (ap (λ z. (node z).digest) last ∙ same)) has)
           ],
         )
@@ -175,7 +175,7 @@ module _ {T : Type 0} (node : T → Node) (given : List T) (graph : EntryGraph T
           λ (y, at, same). elim (Contains-push_cases S e y at) [
             | inl old ↦ none (y, old, same)
             | inr last ↦
-                usual.not_itself
+                appended.not_itself
                 (subst (λ c. Contains (node e).names c) (sym (ap (λ z. (node z).digest) last ∙ same)) names)
           ],
         )
@@ -331,7 +331,7 @@ module _ {T : Type 0} (node : T → Node) (given : List T) (graph : EntryGraph T
               let within = slice_get_within S p g at in
               absurd (omega (arith, within, there))),
           λ names.
-              absurd (usual.not_itself (subst (λ y. Contains (node e).names (node y).digest) also
+              absurd (appended.not_itself (subst (λ y. Contains (node e).names (node y).digest) also
               (subst (λ y. Contains (node y).names (node f).digest) last names))),
         )
 
@@ -386,7 +386,7 @@ module _ {T : Type 0} (node : T → Node) (given : List T) (graph : EntryGraph T
       kept = record {
         few = omega (arith, length-append S (e ∷ []), room);
         numbered = all_pairs_push (IsLower node) S e is.kept.numbered
-            (λ k d low. inl (usual.latest (get_or S k d) (is_given (get_or S k d) (Contains-get_or S k d low))));
+            (λ k d low. inl (appended.latest (get_or S k d) (is_given (get_or S k d) (Contains-get_or S k d low))));
         single = single_grown;
         linked = record {
           one_each = omega (

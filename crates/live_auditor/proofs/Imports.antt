@@ -40,14 +40,14 @@ pub use Rattle.live_auditor.specs.Same.{AreOneVerdict, OrdersGiveOneSummary}
 pub use Rattle.live_auditor.specs.Summary.{Summary}
 pub use Rattle.live_auditor.specs.declared.growth.Growth.{Growth}
 pub use Rattle.live_auditor.specs.declared.summary.Summed.{Summed}
-pub use Rattle.live_auditor.specs.declared.usual.Usual.{Usual}
-pub use Rattle.live_auditor.specs.inside.Found.{FindsNames, IsApartBy, IsUsualBy}
+pub use Rattle.live_auditor.specs.declared.appended.Appended.{Appended}
+pub use Rattle.live_auditor.specs.inside.Found.{FindsNames, IsApartBy, IsAppendedBy}
 pub use Rattle.live_auditor.specs.inside.Grown.{AreJudgedOver, kept_with, said_with}
 pub use Rattle.live_auditor.specs.inside.Kept.{IsGraphed, IsKept, IsSummed, SurvivorsKept, link_to, live_of}
 pub use Rattle.live_auditor.specs.inside.Kept.{nodes_by}
 pub use Rattle.live_auditor.specs.inside.KeptOf.{IsSummedBy, kept_of}
 pub use Rattle.live_auditor.specs.inside.Unsummed.{IsUnsummed}
-pub use Rattle.live_auditor.specs.inside.Usual.{AreMissing, AreParents, IsUsual, grown}
+pub use Rattle.live_auditor.specs.inside.Appended.{AreMissing, AreParents, IsAppended, grown}
 pub use Rattle.precedence.specs.Graph.{Graph}
 pub use Rattle.precedence.specs.Known.{IsKnownOf, Known, known_before, known_whole}
 pub use Rattle.roster.specs.declared.post.Post.{Post}

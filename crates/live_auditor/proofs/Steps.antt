@@ -1,4 +1,4 @@
--- A usual entry more: what is kept, and what is said then.
+-- An appended entry more: what is kept, and what is said then.
 use Rattle.std.proofs.Common.{◌≡◌}
 use Rattle.std.proofs.Common.{Option}
 use Rattle.live_auditor.proofs.Imports.{◌∙◌, ap, refl, sym, subst, ℕ, ◌<◌, ◌≤◌, Bool, true, false, Some, None, List}
@@ -10,9 +10,9 @@ use Rattle.live_auditor.proofs.Imports.{Contains-none, Contains-map, list_any_of
 use Rattle.live_auditor.proofs.Imports.{SealedEntry, node_of_sealed, EntryGraph, Links, IsGraphOfGiven, parents_of}
 use Rattle.live_auditor.proofs.Imports.{distinct, no_collision_new, IsSealedGraph, survivors_distinct, Row, rule_tree}
 use Rattle.live_auditor.proofs.Imports.{Verdict, AreJudged, IsFirstTooWide, nodes_of, row_of, HasRoomFor, LiveState}
-use Rattle.live_auditor.proofs.Imports.{Unjudged, TooWide, Memory, IsApartBy, IsUsualBy, said_with, kept_with}
+use Rattle.live_auditor.proofs.Imports.{Unjudged, TooWide, Memory, IsApartBy, IsAppendedBy, said_with, kept_with}
 use Rattle.live_auditor.proofs.Imports.{SurvivorsKept, IsGraphed, Post, RuleTree, IsNew}
-use Rattle.live_auditor.proofs.Imports.{IsKept, IsSummed, link_to, nodes_by, IsUnjudged, IsUnsummed, IsUsual}
+use Rattle.live_auditor.proofs.Imports.{IsKept, IsSummed, link_to, nodes_by, IsUnjudged, IsUnsummed, IsAppended}
 use Rattle.live_auditor.proofs.Imports.{AreParents, AreMissing, grown}
 use Rattle.live_auditor.proofs.Additions.{added_apart, apart_more, sealed_more}
 use Rattle.live_auditor.proofs.Ends.{at_contains}
@@ -75,9 +75,9 @@ module _ (machines : List Post) (given : List SealedEntry) (graph : EntryGraph S
       ((bytes_eq-Decides e.digest e.digest).1 refl) in
       true≢false (sym found ∙ none)
 
-  -- the entry is usual
-  is_usual : IsUsual node_of_sealed given graph e
-  is_usual = record {
+  -- the entry is appended
+  is_appended : IsAppended node_of_sealed given graph e
+  is_appended = record {
     latest = highest;
     closes_none = λ has. none_found gaps apart.closes_none
         (subst (λ ds. Contains ds e.digest) (sym is.are_gaps) has);
@@ -135,7 +135,7 @@ module _ (machines : List Post) (given : List SealedEntry) (graph : EntryGraph S
 
   -- the graph with it is that of all
   pub is_next : IsGraphOfGiven node_of_sealed (given ++ e ∷ []) (grown graph e parents missing)
-  is_next = is_grown node_of_sealed given graph is.graphed e new is_usual parents are_parents missing are_missing few
+  is_next = is_grown node_of_sealed given graph is.graphed e new is_appended parents are_parents missing are_missing few
 
   -- the rows and one more
   pub rows_next : (row : Row) → row ≡ row_of machines e →
@@ -202,7 +202,7 @@ all_lower given e latest f has =
 
 module _ (live : LiveState) (kept : SurvivorsKept) (is : IsKept live kept) (e : SealedEntry)
     (room : HasRoomFor live.added e) (parents : List ℕ) (missing : List (List ℕ))
-    (usual : IsUsualBy live.added live.summary.gaps kept.digests kept.rows e parents missing) where
+    (appended : IsAppendedBy live.added live.summary.gaps kept.digests kept.rows e parents missing) where
   abbrev first : EntryGraph SealedEntry
   first = is.live.after.graph
 
@@ -210,54 +210,54 @@ module _ (live : LiveState) (kept : SurvivorsKept) (is : IsKept live kept) (e : 
   seen = graphed_kept live kept is
 
   low : (f : SealedEntry) → Contains live.added f → f.entry.stamp < e.entry.stamp
-  low = all_lower live.added e usual.latest
+  low = all_lower live.added e appended.latest
 
   -- its graph is what is answered of them
-  sealed_usual : IsSealedGraph (live.added ++ e ∷ []) (Ok (grown first e parents missing))
-  sealed_usual =
+  sealed_appended : IsSealedGraph (live.added ++ e ∷ []) (Ok (grown first e parents missing))
+  sealed_appended =
       sealed_more live.added e first (grown first e parents missing) is.live.after.graphed is.live.once room
-      (is_next live.machines live.added first live.summary.gaps kept seen e room.0 low parents missing usual.apart)
+      (is_next live.machines live.added first live.summary.gaps kept seen e room.0 low parents missing appended.apart)
 
-  -- what refuses the rules with a usual entry more refuses them over all entries
-  pub unsummed_usual : (row : Row) → row ≡ row_of live.machines e → (fault : Unjudged) →
+  -- what refuses the rules with an appended entry more refuses them over all entries
+  pub unsummed_appended : (row : Row) → row ≡ row_of live.machines e → (fault : Unjudged) →
       IsUnjudged (kept.rows ++ row ∷ []) (map rule_tree live.rules) fault →
       IsUnsummed live.machines (map rule_tree live.rules) (live.added ++ e ∷ []) fault
-  unsummed_usual row same (TooWide place) found = (
+  unsummed_appended row same (TooWide place) found = (
     grown first e parents missing,
-    sealed_usual,
+    sealed_appended,
     subst (λ rows. IsFirstTooWide rows (map rule_tree live.rules) place)
-        (rows_next live.machines live.added first live.summary.gaps kept seen e room.0 low parents missing usual.apart row
+        (rows_next live.machines live.added first live.summary.gaps kept seen e room.0 low parents missing appended.apart row
         same) found,
   )
-  unsummed_usual row same Memory found = tt
+  unsummed_appended row same Memory found = tt
 
-  -- the parents of survivors and of a usual entry are below them
-  pub falls_usual : Descends (parents_of (kept.links ++ link_to parents missing ∷ []))
-  falls_usual =
-      falls_next live.machines live.added first live.summary.gaps kept seen e room.0 low parents missing usual.apart
+  -- the parents of survivors and of an appended entry are below them
+  pub falls_appended : Descends (parents_of (kept.links ++ link_to parents missing ∷ []))
+  falls_appended =
+      falls_next live.machines live.added first live.summary.gaps kept seen e room.0 low parents missing appended.apart
 
-  -- what is said and kept with a usual entry more is that of the entries and this one
-  pub summed_usual : (row : Row) (rows : List Row) (link : Links) (gaps : List (List ℕ)) (verdicts : List Verdict) →
+  -- what is said and kept with an appended entry more is that of the entries and this one
+  pub summed_appended : (row : Row) (rows : List Row) (link : Links) (gaps : List (List ℕ)) (verdicts : List Verdict) →
       row ≡ row_of live.machines e → rows ≡ kept.rows ++ row ∷ [] → link ≡ link_to parents missing →
       gaps ≡ ascending (live.summary.gaps ++ missing) →
       AreJudged (kept.rows ++ row ∷ []) (nodes_by (kept.links ++ link_to parents missing ∷ []))
       (map rule_tree live.rules) verdicts →
       IsSummed live.machines (map rule_tree live.rules) (live.added ++ e ∷ []) (said_with live.summary gaps verdicts)
       (kept_with kept e.digest rows link)
-  summed_usual row rows link gaps verdicts same all linked are judged =
+  summed_appended row rows link gaps verdicts same all linked are judged =
       let next = graphed_next live.machines live.added first live.summary.gaps kept seen e room.0 low parents missing
-      usual.apart row rows link gaps same all linked are in
+      appended.apart row rows link gaps same all linked are in
       record {
         after = record {
           graph = grown first e parents missing;
-          graphed = sealed_usual;
+          graphed = sealed_appended;
           survivors = omega (arith, is.live.after.survivors, length-append first.survivors (e ∷ []));
           gaps = next.are_gaps;
           strays = is.live.after.strays;
           forks = is.live.after.forks;
           judged =
               judged_next live.machines live.added first live.summary.gaps kept seen e room.0 low parents
-              missing usual.apart (map rule_tree live.rules) row verdicts same judged;
+              missing appended.apart (map rule_tree live.rules) row verdicts same judged;
         };
         survivors = next.survivors;
       }

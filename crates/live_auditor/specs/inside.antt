@@ -7,5 +7,5 @@ pub mod Kept
 pub mod KeptOf
 pub mod Seen
 pub mod Unsummed
-pub mod Usual
+pub mod Appended
 pub mod Stamps

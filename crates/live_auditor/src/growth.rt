@@ -18,9 +18,9 @@ ghost use Rattle.live_auditor.specs.inside.Unsummed.{IsUnsummed};
 
 use crate::summary::Summary;
 use crate::survivors::{Grown, Link, Survivors};
-use crate::usual::{Named, Usual, usual_in};
+use crate::appended::{Named, Appended, appended_in};
 use entry_format::Sealed;
-use entry_gaps::ascending;
+use log_frontier::ascending;
 use precedence::Rows;
 use roster::Roster;
 use rule_engine::{Judge, JudgeFault, Unjudged, Verdict};
@@ -120,34 +120,34 @@ pub(crate) struct Growth {
     pub(crate) verdicts: Vec<Verdict>,
 }
 
-/// What a usual entry brings.
+/// What an appended entry brings.
 fn growth_by(
     alloc: Global,
     rules: &[Rule],
     summary: &Summary,
     survivors: &Survivors,
-    usual: Usual,
+    appended: Appended,
 ) -> Result<Growth, Unjudged>
     requires falls { Descends (parents_of (survivors.now.links.items
-        ++ link_to usual.named.parents.items usual.named.missing.items ∷ [])) }
+        ++ link_to appended.named.parents.items appended.named.missing.items ∷ [])) }
     requires one_each { length survivors.now.rows.items ≡ length survivors.now.links.items }
     requires few { length survivors.now.links.items < 16384 }
     requires before { AreJudged survivors.now.rows.items (nodes_by survivors.now.links.items)
         (map rule_tree rules.now) summary.now.verdicts }
     ensures rows { IfOk result (λ growth.
-        growth.rows.items ≡ survivors.now.rows.items ++ usual.row ∷ []) }
+        growth.rows.items ≡ survivors.now.rows.items ++ appended.row ∷ []) }
     ensures link { IfOk result (λ growth.
-        growth.link ≡ link_to usual.named.parents.items usual.named.missing.items) }
+        growth.link ≡ link_to appended.named.parents.items appended.named.missing.items) }
     ensures gaps { IfOk result (λ growth.
-        growth.gaps.items ≡ ascending_of (summary.now.gaps ++ usual.named.missing.items)) }
-    ensures verdicts { IfOk result (λ growth. AreJudged (survivors.now.rows.items ++ usual.row ∷ [])
+        growth.gaps.items ≡ ascending_of (summary.now.gaps ++ appended.named.missing.items)) }
+    ensures verdicts { IfOk result (λ growth. AreJudged (survivors.now.rows.items ++ appended.row ∷ [])
         (nodes_by (survivors.now.links.items
-        ++ link_to usual.named.parents.items usual.named.missing.items ∷ []))
+        ++ link_to appended.named.parents.items appended.named.missing.items ∷ []))
         (map rule_tree rules.now) growth.verdicts.items) }
-    ensures err { IfErr result (IsUnjudged (survivors.now.rows.items ++ usual.row ∷ [])
+    ensures err { IfErr result (IsUnjudged (survivors.now.rows.items ++ appended.row ∷ [])
         (map rule_tree rules.now)) }
 {
-    let Usual { named, row } = usual;
+    let Appended { named, row } = appended;
     let Named { parents, missing } = named;
     let gaps = gaps_with(alloc, summary.gaps(), missing.as_slice())?;
     let link = Link::to(parents, missing.as_slice());
@@ -171,7 +171,7 @@ fn growth_by(
     }
 }
 
-/// What the entry brings, if it is usual.
+/// What the entry brings, if it is appended.
 pub(crate) fn growth_of(
     alloc: Global,
     roster: &Roster,
@@ -193,10 +193,10 @@ pub(crate) fn growth_of(
         (added.now ++ entry.now ∷ [])) }
 {
     let gaps = summary.gaps();
-    let Some(usual) = usual_in(alloc, roster, added, gaps, survivors, entry)? else {
+    let Some(appended) = appended_in(alloc, roster, added, gaps, survivors, entry)? else {
         return Ok(None);
     };
-    match growth_by(alloc, rules, summary, survivors, usual) {
+    match growth_by(alloc, rules, summary, survivors, appended) {
         Ok(growth) => Ok(Some(growth)),
         Err(fault) => Err(fault),
     }

@@ -18,7 +18,7 @@ use crate::borrowed::Borrowed;
 use crate::growth::{gaps_with, verdicts_by};
 use crate::summary::{Summary, Summed};
 use crate::survivors::{Link, Survivors};
-use crate::usual::{Named, apart_names};
+use crate::appended::{Named, apart_names};
 use auditor::{ShowsSealed, rows};
 use entry_format::Sealed;
 use entry_graph::Graph;

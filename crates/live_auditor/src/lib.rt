@@ -12,7 +12,7 @@ mod live;
 mod seen;
 mod summary;
 mod survivors;
-mod usual;
+mod appended;
 mod widths;
 
 pub use fresh::{Fresh, LiveFault};

@@ -1,2 +1,3 @@
 -- Definitions that no public clause needs.
 pub mod Noting
+pub mod Without

@@ -11,8 +11,7 @@ use lms_ots::OtsKind;
 use lms_sign::LeafWork;
 use sha2::{Digest, Sha256};
 use std::alloc::{AllocError, Global};
-use std::thread::Threads;
-use ways_of_work::{Alone, InThreads};
+use ways_of_work::Alone;
 
 /// The heights of the trees.
 const TOP: u32 = 5;
@@ -24,18 +23,6 @@ pub fn public_key(alloc: Global, name: &[u8], seed: &[u8; 32]) -> Result<[u8; 60
     ensures { IfOk result (λ key. key ≡ office_public name.now seed.now) }
 {
     public_key_by(&Alone, alloc, name, seed)
-}
-
-/// The same key, whose top tree is made in threads.
-pub fn public_key_in<R: Threads + Sync>(
-    rt: &R,
-    alloc: Global,
-    name: &[u8],
-    seed: &[u8; 32],
-) -> Result<[u8; 60], Memory>
-    ensures { IfOk result (λ key. key ≡ office_public name.now seed.now) }
-{
-    public_key_by(&InThreads { rt }, alloc, name, seed)
 }
 
 /// The same key, whose top tree is made in this way.
@@ -67,20 +54,6 @@ pub fn endorse(
     ensures { IfOk result (λ s. s.items ≡ endorsement name.now office.now message.now) }
 {
     endorse_by(&Alone, alloc, name, office, message)
-}
-
-/// Signs as `endorse` does. The trees are made in threads.
-pub fn endorse_in<R: Threads + Sync>(
-    rt: &R,
-    alloc: Global,
-    name: &[u8],
-    office: &Office,
-    message: &[u8],
-) -> Result<Vec<u8>, Memory>
-    requires { office.now.next < max_signatures }
-    ensures { IfOk result (λ s. s.items ≡ endorsement name.now office.now message.now) }
-{
-    endorse_by(&InThreads { rt }, alloc, name, office, message)
 }
 
 /// Signs as `endorse` does. The trees are made in this way.

@@ -8,7 +8,7 @@ mod office;
 mod reading;
 mod writing;
 
-pub use keys::{endorse, endorse_by, endorse_in, public_key, public_key_by, public_key_in};
+pub use keys::{endorse, endorse_by, public_key, public_key_by};
 pub use laws::{cut_texts_are_no_offices, endorsements_are_good, texts_have_one_office};
 pub use office::{MAX_SIGNATURES, Office};
 pub use reading::read_office;

@@ -1,11 +1,11 @@
-//! Tests of the public calls of `precedence`, `entry_gaps`, `log_frontier` and `entangled_log`.
+//! Tests of the public calls of `precedence`, `log_frontier` and `entangled_log`.
 //! They are in a crate of their own, so that what they test isn't proved once more with them.
 #![tactic(auto)]
 
 #[cfg(test)]
 mod entangled_log_tests;
 #[cfg(test)]
-mod entry_gaps_tests;
+mod gaps_tests;
 #[cfg(test)]
 mod log_frontier_tests;
 #[cfg(test)]

@@ -76,11 +76,11 @@ unfolding attribute
 attribute_added before n value are =
     ∥∥₁_map are (λ a. one_more before (attribute_name n) (escaped value) a (attribute_is_name n) (escaped_text value))
 
--- content with text behind it
+-- content with text after it
 pub text_added : (before text : List ℕ) → ∥ IsContent before ∥₁ → ∥ IsContent (before ++ escaped text) ∥₁
 text_added before text is = ∥∥₁_map is (λ b. characters before (escaped text) b (escaped_text text))
 
--- content behind content
+-- content after content
 both : (before after : List ℕ) → IsContent before → IsContent after → IsContent (before ++ after)
 both before _ first no_content = subst IsContent (sym (append-nil before)) first
 both before _ first (characters b text is plain) =
@@ -97,7 +97,7 @@ pub content_added : (before after : List ℕ) → ∥ IsContent before ∥₁ �
     ∥ IsContent (before ++ after) ∥₁
 content_added before after first next = ∥∥₁_elim first ∥∥₁_prop (λ f. ∥∥₁_map next (λ n. both before after f n))
 
--- content with an element behind it
+-- content with an element after it
 pub element_added : (before : List ℕ) (t : Tag) (attributes inner : List ℕ) → ∥ IsContent before ∥₁ →
     ∥ AreAttributes attributes ∥₁ → ∥ IsContent inner ∥₁ → ∥ IsContent (before ++ element t attributes inner) ∥₁
 unfolding element start_tag end_tag

@@ -11,7 +11,7 @@ pub AreMade-push : (config : Config) (h : List (Event SealedEntry)) (x : Event S
     ((e : SealedEntry) → x ≡ Sent e → MaySend config h e) → AreMade config (h ++ x ∷ [])
 AreMade-push config h x made now before e later is =
     elim (last_or_earlier h x before (Sent e) later is) [
-      | inl (behind, stands) ↦ made before e behind stands
+      | inl (following, stands) ↦ made before e following stands
       | inr (same, sends) ↦ subst (λ (p : List (Event SealedEntry)). MaySend config p e) same (now e sends)
     ]
 

@@ -25,9 +25,9 @@ module _ {X Y : Type 0} (f : X → Y) where
       ∙ (λ k. set (set (map f (d ∷ xs)) i (sym (get_or-map f (d ∷ xs) j d) k)) j (sym (get_or-map f (d ∷ xs) i d) k))
 
   -- what is the images in another order is the images of the elements in another order
-  moved_behind : (xs : List X) (ys : List Y) → IsPermutation (map f xs) ys →
+  moved_after : (xs : List X) (ys : List Y) → IsPermutation (map f xs) ys →
       (zs : List X) × IsPermutation xs zs × (map f zs ≡ ys)
-  moved_behind xs ys moved =
+  moved_after xs ys moved =
       IsPermutation-keeps (map f xs) (λ l. (zs : List X) × IsPermutation xs zs × (map f zs ≡ l))
       (xs, IsPermutation-refl xs, refl)
       (λ l i j il jl (zs, permuted, are).
@@ -88,10 +88,10 @@ module _ {T : Type 0} (node : T → Node) where
   )
 
   -- the steps of ranked steps
-  steps_behind : (xs : List (PlacedEvent T)) →
+  steps_after : (xs : List (PlacedEvent T)) →
       map (λ (r : RankedStep). r.step) (map (ranked_step node) xs) ≡ map (λ x. step_of node x.machine x.event) xs
-  steps_behind [] = refl
-  steps_behind (x ∷ xs) = ap (λ steps. step_of node x.machine x.event ∷ steps) (steps_behind xs)
+  steps_after [] = refl
+  steps_after (x ∷ xs) = ap (λ steps. step_of node x.machine x.event ∷ steps) (steps_after xs)
 
   -- ranked steps of a world's events, sorted, are the steps of its merged order
   pub merged_from : (w : World T) (ranked sorted : List RankedStep) → AreRanked node w ranked →
@@ -99,7 +99,7 @@ module _ {T : Type 0} (node : T → Node) where
       (xs : List (PlacedEvent T)) × IsMergedOf node w xs
       × (map (λ (r : RankedStep). r.step) sorted ≡ map (λ x. step_of node x.machine x.event) xs)
   merged_from w ranked sorted of moved rising =
-      let (xs, permuted, are) = moved_behind (ranked_step node) of.xs sorted
+      let (xs, permuted, are) = moved_after (ranked_step node) of.xs sorted
       (subst (λ (l : List RankedStep). IsPermutation l sorted) of.are moved) in (
         xs,
         record {
@@ -112,5 +112,5 @@ module _ {T : Type 0} (node : T → Node) where
             λ e. Contains-permutation of.xs xs x permuted ((of.events x).1 e),
           );
         },
-        ap (map (λ (s : RankedStep). s.step)) (sym are) ∙ steps_behind xs,
+        ap (map (λ (s : RankedStep). s.step)) (sym are) ∙ steps_after xs,
       )

@@ -10,8 +10,7 @@ use lms_sign::{LeafWork, LmsSecret};
 use roster::{Name, Post, Posts, Roster};
 use sha2::{Digest, Sha256};
 use std::alloc::{AllocError, Global};
-use std::thread::Threads;
-use ways_of_work::{Alone, InThreads};
+use ways_of_work::Alone;
 
 /// The key of the script's machine at this place, which has signed nothing.
 pub fn key_of(alloc: Global, script: &Script, at: u32) -> Result<LmsSecret, AllocError>
@@ -29,18 +28,6 @@ pub fn keys_of(alloc: Global, script: &Script) -> Result<Vec<LmsSecret>, AllocEr
     ensures { IfOk result (λ keys. keys.items ≡ map (key_of script.now) script.now.machines) }
 {
     keys_by(&Alone, alloc, script)
-}
-
-/// The keys of `keys_of`, the leaves of each of which are made in threads.
-pub fn keys_in<R: Threads + Sync>(
-    rt: &R,
-    alloc: Global,
-    script: &Script,
-) -> Result<Vec<LmsSecret>, AllocError>
-    requires { IsLawful script.now }
-    ensures { IfOk result (λ keys. keys.items ≡ map (key_of script.now) script.now.machines) }
-{
-    keys_by(&InThreads { rt }, alloc, script)
 }
 
 /// The keys of `keys_of`, the leaves of each of which are made in this way of work.

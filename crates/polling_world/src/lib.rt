@@ -18,7 +18,7 @@ mod world;
 
 pub use acted::Acted;
 pub use heard::MachineHeard;
-pub use keys::{key_of, keys_by, keys_in, keys_of, roster_of};
+pub use keys::{key_of, keys_by, keys_of, roster_of};
 pub use laws::{
     one_function_tells_what_is_sent, scripts_are_played_in_one_way, what_is_left_is_told_in_one_way,
 };

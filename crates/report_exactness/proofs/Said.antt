@@ -193,8 +193,8 @@ names_counted (name ∷ names) = let rest = names_counted names in omega (arith,
 
 sealed_names : (entry : Entry) (signature : List ℕ) → Fits (signed_tree entry signature) → length entry.names ≤ 16384
 sealed_names entry signature fits =
-    let behind = fits.2.1.2 in
-    let names : count_of (forest_of (map Atom entry.names)) ≤ max_members = behind.1.1.1.1.1.1.1 in
+    let following = fits.2.1.2 in
+    let names : count_of (forest_of (map Atom entry.names)) ≤ max_members = following.1.1.1.1.1.1.1 in
     omega (arith, names_counted entry.names)
 
 deed_numbers : (deed : Deed) → IsDeed deed → (session_of deed < 2 ^ 32) × (length (ballot_of deed) ≡ 32) × (booth_of deed < 2 ^ 32)

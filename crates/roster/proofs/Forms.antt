@@ -3,7 +3,7 @@ use Rattle.roster.proofs.Imports.{◌≡◌, ◌∙◌, ℕ, List, map, ap, sym,
 use Rattle.roster.proofs.Imports.{RosterFault, NotCanonical, WrongShape, TooManyMachines, BadName, SameName}
 use Rattle.roster.proofs.Imports.{NotOneSupervisor, Memory, post_tree, roster_tree, IsRosterText, HasForm}
 use Rattle.roster.proofs.Imports.{IsMachinesFault, IsFault, IsRosterTree}
-use Rattle.roster.proofs.Trees.{same_behind, one_list}
+use Rattle.roster.proofs.Trees.{same_after, one_list}
 
 -- a text has one tree
 pub one_text : (text : List ℕ) (tree other : Sexp) → Fits tree → Fits other → text ≡ text_of tree →
@@ -42,5 +42,5 @@ fault_of_text text machines Memory form never = absurd never
 pub one_roster : (text : List ℕ) (machines others : List Post) → IsRosterText text machines →
     IsRosterText text others → machines ≡ others
 one_roster text machines others is also =
-    one_list machines others (same_behind (map post_tree machines) (map post_tree others)
+    one_list machines others (same_after (map post_tree machines) (map post_tree others)
     (one_text text (roster_tree machines) (roster_tree others) is.within also.within is.spelt also.spelt))

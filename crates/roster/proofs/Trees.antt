@@ -4,8 +4,8 @@ use Rattle.roster.proofs.Imports.{role_word, post_tree, headed, Atom, members_of
 use Rattle.roster.proofs.Imports.{codes}
 
 -- a list has one row of members
-pub same_behind : (trees others : List Sexp) → headed trees ≡ headed others → trees ≡ others
-same_behind trees others same =
+pub same_after : (trees others : List Sexp) → headed trees ≡ headed others → trees ≡ others
+same_after trees others same =
     let all : List Sexp → List Sexp = λ ts. Atom (codes "roster") ∷ Atom (codes "1") ∷ ts in
     let forest : forest_of (all trees) ≡ forest_of (all others) = cc in
     let rows : all trees ≡ all others =

@@ -3,7 +3,7 @@ use Rattle.roster.proofs.Imports.{◌≡◌, ◌∙◌, Option, Some, None, List
 use Rattle.roster.proofs.Imports.{append_assoc, append-nil, IfNone, IsSome, map-append, length-map, All-head}
 use Rattle.roster.proofs.Imports.{All-tail, All-push, Sexp, Forest, count_of, members_of, forest_of-members_of}
 use Rattle.roster.proofs.Imports.{count_of-forest_of, Post, post_tree, headed, HasKey, IsRosterTree}
-use Rattle.roster.proofs.Trees.{same_behind}
+use Rattle.roster.proofs.Trees.{same_after}
 
 -- the tree is that of a roster's machines so far and of the members that are left
 pub record IsWalked (tree : Sexp) (machines : List Post) (left : List Sexp) : Type 0 where
@@ -30,24 +30,24 @@ walked tree machines all =
     record { keys = all.keys; is = all.is ∙ ap headed (append-nil (map post_tree machines)) }
 
 -- a member after some machines is a machine
-machine_behind : (machines posts : List Post) (member : Sexp) (left : List Sexp) →
+machine_after : (machines posts : List Post) (member : Sexp) (left : List Sexp) →
     map post_tree machines ++ member ∷ left ≡ map post_tree posts → All HasKey posts →
     (post : Post) × HasKey post × (member ≡ post_tree post)
-machine_behind [] [] member left same keys = cc
-machine_behind [] (post ∷ posts) member left same keys =
+machine_after [] [] member left same keys = cc
+machine_after [] (post ∷ posts) member left same keys =
     let is : member ≡ post_tree post = cc in (post, All-head HasKey post posts keys, is)
-machine_behind (machine ∷ machines) [] member left same keys = cc
-machine_behind (machine ∷ machines) (post ∷ posts) member left same keys =
+machine_after (machine ∷ machines) [] member left same keys = cc
+machine_after (machine ∷ machines) (post ∷ posts) member left same keys =
     let rest : map post_tree machines ++ member ∷ left ≡ map post_tree posts = cc in
-    machine_behind machines posts member left rest (All-tail HasKey post posts keys)
+    machine_after machines posts member left rest (All-tail HasKey post posts keys)
 
 -- the next member of a roster's tree is a machine
 pub next_machine : (tree member : Sexp) (machines posts : List Post) (left : List Sexp) →
     IsWalked tree machines (member ∷ left) → IsRosterTree tree posts →
     (post : Post) × HasKey post × (member ≡ post_tree post)
 next_machine tree member machines posts left so_far whole =
-    machine_behind machines posts member left
-    (same_behind (map post_tree machines ++ member ∷ left) (map post_tree posts) (sym so_far.is ∙ whole.is)) whole.keys
+    machine_after machines posts member left
+    (same_after (map post_tree machines ++ member ∷ left) (map post_tree posts) (sym so_far.is ∙ whole.is)) whole.keys
 
 -- where there can't be none, there is one
 pub some_unless : {A : Type 0} (found : Option A) (Q : Type 0) → IfNone found Q → (Q → ⊥) → IsSome found
@@ -59,7 +59,7 @@ pub same_count : (tree : Sexp) (machines others : List Post) → IsRosterTree tr
     IsRosterTree tree others → length machines ≡ length others
 same_count tree machines others is also =
     sym (length-map machines post_tree)
-    ∙ ap length (same_behind (map post_tree machines) (map post_tree others) (sym is.is ∙ also.is))
+    ∙ ap length (same_after (map post_tree machines) (map post_tree others) (sym is.is ∙ also.is))
     ∙ length-map others post_tree
 
 -- as many members as machines
@@ -67,5 +67,5 @@ pub counted : (tree : Sexp) (members : Forest) (machines : List Post) → tree �
     IsRosterTree tree machines → count_of members ≡ length machines
 counted tree members machines head whole =
     ap count_of (sym (forest_of-members_of members)) ∙ count_of-forest_of (members_of members)
-    ∙ ap length (same_behind (members_of members) (map post_tree machines) (sym head ∙ whole.is))
+    ∙ ap length (same_after (members_of members) (map post_tree machines) (sym head ∙ whole.is))
     ∙ length-map machines post_tree

@@ -95,8 +95,8 @@ module _ (rows later : List Row) (order : ℕ → ℕ → Three) (wholes : ℕ �
   more = rows ++ later
 
   -- the places of the later ones
-  abbrev pub behind : List ℕ
-  behind = range_with_len (length rows) (length later)
+  abbrev pub following : List ℕ
+  following = range_with_len (length rows) (length later)
 
   -- no quantifier over all rows goes over a later one
   abbrev pub IsApart : Trees → Type 0
@@ -134,7 +134,7 @@ module _ (rows later : List Row) (order : ℕ → ℕ → Three) (wholes : ℕ �
   same_rows env are = fun_ext (λ (w : ℕ). same_row (env w) (are w))
 
   -- the numbers of all rows
-  pub numbers_more : range_with_len 0 (length more) ≡ range_with_len 0 (length rows) ++ behind
+  pub numbers_more : range_with_len 0 (length more) ≡ range_with_len 0 (length rows) ++ following
   numbers_more =
       let zero_more : 0 + length rows ≡ length rows = omega arith in
       ap (range_with_len 0) (length-append rows later) ∙ range_append 0 (length rows) (length later)
@@ -142,7 +142,7 @@ module _ (rows later : List Row) (order : ℕ → ℕ → Three) (wholes : ℕ �
 
   -- none of the later rows is of a kind that none of them is of
   apart_at : (kind : Kind) → ((row : Row) → Contains later row → has_kind kind (Some row) ≡ false) → (i : ℕ) →
-      Contains behind i → has_kind kind (slice_get more i) ≡ false
+      Contains following i → has_kind kind (slice_get more i) ≡ false
   apart_at kind other i has =
       let (k, low, is) = range_from (length rows) (length later) i has in
       ap (λ (n : ℕ). has_kind kind (slice_get more n)) is ∙ ap (has_kind kind) (get_later rows later k)
@@ -155,12 +155,12 @@ module _ (rows later : List Row) (order : ℕ → ℕ → Three) (wholes : ℕ �
 
   -- the places of a kind, with those of the later rows
   pub places_more : (kind : Kind) → places more order wholes kind
-      ≡ places rows order wholes kind ++ filter (λ i. has_kind kind (slice_get more i)) behind
+      ≡ places rows order wholes kind ++ filter (λ i. has_kind kind (slice_get more i)) following
   places_more kind =
       let p : ℕ → Bool = λ i. has_kind kind (slice_get more i) in
       let q : ℕ → Bool = λ i. has_kind kind (slice_get rows i) in
-      ap (filter p) numbers_more ∙ filter-append p (range_with_len 0 (length rows)) behind
-      ∙ ap (λ (xs : List ℕ). xs ++ filter p behind)
+      ap (filter p) numbers_more ∙ filter-append p (range_with_len 0 (length rows)) following
+      ∙ ap (λ (xs : List ℕ). xs ++ filter p following)
       (filter_same p q (range_with_len 0 (length rows))
       (λ i c. ap (has_kind kind) (get_old rows later i (range_below (length rows) i c))))
 
@@ -170,7 +170,7 @@ module _ (rows later : List Row) (order : ℕ → ℕ → Three) (wholes : ℕ �
   same_places kind other =
       sym (places_more kind
       ∙ ap (λ (xs : List ℕ). places rows order wholes kind ++ xs)
-      (filter_none (λ i. has_kind kind (slice_get more i)) behind (apart_at kind other))
+      (filter_none (λ i. has_kind kind (slice_get more i)) following (apart_at kind other))
       ∙ append-nil (places rows order wholes kind))
 
   -- the same rows of any kind come before a row
@@ -178,8 +178,8 @@ module _ (rows later : List Row) (order : ℕ → ℕ → Three) (wholes : ℕ �
       ancestors rows order wholes kind u ≡ ancestors more order wholes kind u
   same_ancestors kind u is =
       sym (ap (filter t) (places_more kind)
-      ∙ filter-append t (places rows order wholes kind) (filter p behind)
-      ∙ ap (λ (xs : List ℕ). ancestors rows order wholes kind u ++ xs) (filter_none t (filter p behind) none)
+      ∙ filter-append t (places rows order wholes kind) (filter p following)
+      ∙ ap (λ (xs : List ℕ). ancestors rows order wholes kind u ++ xs) (filter_none t (filter p following) none)
       ∙ append-nil (ancestors rows order wholes kind u))
     where
       -- whether a row is of the kind, and whether it comes before u
@@ -190,10 +190,10 @@ module _ (rows later : List Row) (order : ℕ → ℕ → Three) (wholes : ℕ �
       t i = is_true (order i u)
 
       -- no later one does
-      none : (i : ℕ) → Contains (filter p behind) i → t i ≡ false
+      none : (i : ℕ) → Contains (filter p following) i → t i ≡ false
       none i has =
           let (k, low, at) =
-          range_from (length rows) (length later) i (Contains-filter_cases p behind i has).0 in
+          range_from (length rows) (length later) i (Contains-filter_cases p following i has).0 in
           last i u is (omega (arith, at))
 
   module _ (v : ℕ) (kind : Kind) (env : ℕ → Option ℕ) (are : AreRows env)

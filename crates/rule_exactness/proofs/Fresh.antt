@@ -255,7 +255,7 @@ module _ {T : Type 0} (node : T → Node) (machines : ℕ) (used : List (List �
         elim (Contains-cons_cases (granted_first w ws) (granted ws) e c) [
           | inl is ↦
               granted_acyclic ws later e between (first_after w ws later e e between is (among e c) path) path
-          | inr behind ↦ granted_acyclic ws later e between behind path
+          | inr following ↦ granted_acyclic ws later e between following path
         ]
 
     -- each of them precedes what names the first
@@ -268,9 +268,9 @@ module _ {T : Type 0} (node : T → Node) (machines : ℕ) (used : List (List �
         let named : Names node h first = names (node first).digest (Contains-head (node first).digest []) in
         elim (Contains-cons_cases first (granted ws) e c) [
           | inl is ↦ ([], subst (λ (x : T). Names node h x) is named)
-          | inr behind ↦
+          | inr following ↦
               let (between, path) =
               granted_path ws (λ f there. among f (Contains-later first (granted ws) f there)) first
-              (λ c there. subst (λ ns. Contains ns c) (sym (first_names w ws first refl)) there) e behind in
+              (λ c there. subst (λ ns. Contains ns c) (sym (first_names w ws first refl)) there) e following in
               (between ++ first ∷ [], path_on node E e between first h path (among first (Contains-head first (granted ws))) named)
         ]

@@ -34,7 +34,7 @@ use Rattle.rule_exactness.specs.Exact.{Saying, IsSayable, AreDigests, CanSay, Ar
 use Rattle.rule_exactness.proofs.Digests.{few_filtered}
 use Rattle.rule_exactness.proofs.Fresh.{Wish, IsFair, head_name, head_few}
 use Rattle.rule_exactness.proofs.Wished.{IsGapped, extras, added, all, IsTied, added_each, wish_added, apart, completes}
-use Rattle.rule_exactness.proofs.Wished.{extra_behind, tie_behind, sources, acyclic, taken, AreApt, no_tie, hub_names, added_may_be}
+use Rattle.rule_exactness.proofs.Wished.{extra_after, tie_after, sources, acyclic, taken, AreApt, no_tie, hub_names, added_may_be}
 use Rattle.rule_exactness.proofs.Ragged.{gapped}
 use Rattle.rule_exactness.proofs.Leaning.{Leans, Need, NeedAt, NeedSomeBefore, first_need, needs, first_lean}
 
@@ -290,8 +290,8 @@ module _ {T : Type 0} (node : T → Node) (row : T → Row)
     gives u last at unwhole e got =
         let lies : IsGapped node S last = gapped node S parents ragged graph u u last at unwhole in
         elim got [
-          | inl c ↦ extra_behind node machines S are.survivors middle ws ties apt last (member_at S u last at) lies e c
-          | inr c ↦ tie_behind node machines S are.survivors middle ws ties apt last (member_at S u last at) lies e c
+          | inl c ↦ extra_after node machines S are.survivors middle ws ties apt last (member_at S u last at) lies e c
+          | inr c ↦ tie_after node machines S are.survivors middle ws ties apt last (member_at S u last at) lies e c
         ]
 
     -- what formulas need to be led here

@@ -251,9 +251,9 @@ module _ {T : Type 0} (node : T → Node) (machines : ℕ) (S : List T) (are : A
       }
 
   -- what is before a hub for a gap behind a survivor precedes that survivor
-  behind : (x : T) → Contains S x → (gapped : IsGapped node S x) → (e : T) → Contains all e → (between : List T) →
+  following : (x : T) → Contains S x → (gapped : IsGapped node S x) → (e : T) → Contains all e → (between : List T) →
       IsPath node all e between (hub_at gapped.gap) → Precedes node all e x
-  behind x cx gapped e ce between path =
+  following x cx gapped e ce between path =
       let d : List ℕ = gapped.gap in
       let z : T = gapped.at in
       let z_names_hub : Names node z (hub_at d) =
@@ -282,18 +282,18 @@ module _ {T : Type 0} (node : T → Node) (machines : ℕ) (S : List T) (are : A
       subst (λ (ns : List (List ℕ)). Contains ns (node e).digest) (sym (hub.names hub_names d)) named
 
   -- what was wished precedes it
-  pub extra_behind : (x : T) → Contains S x → IsGapped node S x → (e : T) → Contains extras e → Precedes node all e x
-  extra_behind x cx gapped e c =
+  pub extra_after : (x : T) → Contains S x → IsGapped node S x → (e : T) → Contains extras e → Precedes node all e x
+  extra_after x cx gapped e c =
       let (between, path) =
       granted_path node machines used all distinct wishes extra_there (hub_at gapped.gap)
       (λ d there. subst (λ (ns : List (List ℕ)). Contains ns d) (sym (hub.names hub_names gapped.gap))
       (Contains-append_left (head_name node extras) (map digest_of ties) d there)) e c in
-      behind x cx gapped e (extra_there e c) between path
+      following x cx gapped e (extra_there e c) between path
 
   -- and so do the survivors that hubs name
-  pub tie_behind : (x : T) → Contains S x → IsGapped node S x → (t : T) → Contains ties t → Precedes node all t x
-  tie_behind x cx gapped t c =
-      behind x cx gapped t (completes.keeps t (kept t c)) []
+  pub tie_after : (x : T) → Contains S x → IsGapped node S x → (t : T) → Contains ties t → Precedes node all t x
+  tie_after x cx gapped t c =
+      following x cx gapped t (completes.keeps t (kept t c)) []
       (hub_names_it gapped.gap t
       (Contains-append_right (head_name node extras) (map digest_of ties) (node t).digest (Contains-map digest_of ties t c)))
 

@@ -9,7 +9,7 @@ use Rattle.rule_language.specs.declared.faults.RuleFault.{RuleFault}
 use Rattle.rule_language.specs.Tokens.{Token, Row, token_then, bad_byte, text_end, words, has_good_bytes, right}
 use Rattle.rule_language.specs.Words.{only}
 use Rattle.rule_language.specs.Steps.{Read, follow, found_at, next, if_next}
-unfoldable use Rattle.rule_language.specs.Steps.{take, in_turn as two_of, behind as after, closed, made_into}
+unfoldable use Rattle.rule_language.specs.Steps.{take, in_turn as two_of, after, closed, made_into}
 
 -- what was read is spelt by the tokens that were taken and is lawful; and what is spelt so is read,
 -- whatever follows
@@ -17,8 +17,8 @@ pub record IsExact {A : Type 0} (read : Read A) (spell : A → List Token → Li
     : Type 0 where
   pub said : (row : Row) (a : A) (rest : Row) → read row ≡ Ok (a, rest) →
       (words row ≡ spell a (words rest)) × Lawful a × (has_good_bytes row ≡ has_good_bytes rest)
-  pub back : (row : Row) (a : A) (behind : List Token) → words row ≡ spell a behind → Lawful a →
-      (rest : Row) × (read row ≡ Ok (a, rest)) × (words rest ≡ behind)
+  pub back : (row : Row) (a : A) (following : List Token) → words row ≡ spell a following → Lawful a →
+      (rest : Row) × (read row ≡ Ok (a, rest)) × (words rest ≡ following)
 
 -- what is said of one answer is said of the same
 pub moved : {A : Type 0} (P : A → Row → Type 0) (a b : A) (r s : Row) →
@@ -36,7 +36,7 @@ follow_said (Err fault) f b is = cc is
 -- one token
 pub take_exact : {A : Type 0} (found : Token → Result A RuleWhy) (spell : A → Token) (Lawful : A → Type 0) →
     ((w : Token) (a : A) → found w ≡ Ok a → (w ≡ spell a) × Lawful a) →
-    ((a : A) → Lawful a → found (spell a) ≡ Ok a) → IsExact (take found) (λ a behind. spell a ∷ behind) Lawful
+    ((a : A) → Lawful a → found (spell a) ≡ Ok a) → IsExact (take found) (λ a following. spell a ∷ following) Lawful
 unfolding take
 take_exact {A = A} found spell Lawful said back = record { said = taken; back = goes }
   where
@@ -44,28 +44,28 @@ take_exact {A = A} found spell Lawful said back = record { said = taken; back = 
         (words row ≡ spell a ∷ words rest) × Lawful a × (has_good_bytes row ≡ has_good_bytes rest)
     taken (bad_byte at) a rest is = cc is
     taken (text_end at) a rest is = cc is
-    taken (token_then at w behind) a rest is = by (found w) refl is
+    taken (token_then at w following) a rest is = by (found w) refl is
       where
-        by : (f : Result A RuleWhy) → found w ≡ f → found_at at behind f ≡ Ok (a, rest) →
-            (w ∷ words behind ≡ spell a ∷ words rest) × Lawful a × (has_good_bytes behind ≡ has_good_bytes rest)
+        by : (f : Result A RuleWhy) → found w ≡ f → found_at at following f ≡ Ok (a, rest) →
+            (w ∷ words following ≡ spell a ∷ words rest) × Lawful a × (has_good_bytes following ≡ has_good_bytes rest)
         by (Ok b) read ok =
             let (spelt, lawful) = said w b read in
-            moved (λ c r. (w ∷ words behind ≡ spell c ∷ words r) × Lawful c × (has_good_bytes behind ≡ has_good_bytes
-            r)) b a behind
-            rest ok (ap (λ v. v ∷ words behind) spelt, lawful, refl)
+            moved (λ c r. (w ∷ words following ≡ spell c ∷ words r) × Lawful c × (has_good_bytes following ≡ has_good_bytes
+            r)) b a following
+            rest ok (ap (λ v. v ∷ words following) spelt, lawful, refl)
         by (Err why) read ok = cc ok
 
-    goes : (row : Row) (a : A) (behind : List Token) → words row ≡ spell a ∷ behind → Lawful a →
-        (rest : Row) × (take found row ≡ Ok (a, rest)) × (words rest ≡ behind)
-    goes (bad_byte at) a behind is lawful = cc is
-    goes (text_end at) a behind is lawful = cc is
-    goes (token_then at w rest) a behind is lawful =
+    goes : (row : Row) (a : A) (following : List Token) → words row ≡ spell a ∷ following → Lawful a →
+        (rest : Row) × (take found row ≡ Ok (a, rest)) × (words rest ≡ following)
+    goes (bad_byte at) a following is lawful = cc is
+    goes (text_end at) a following is lawful = cc is
+    goes (token_then at w rest) a following is lawful =
         let same : w ≡ spell a = cc in
-        let more : words rest ≡ behind = cc in
+        let more : words rest ≡ following = cc in
         (rest, ap (λ w. found_at at rest (found w)) same ∙ ap (found_at at rest) (back a lawful), more)
 
 -- the only word that is allowed
-pub only_exact : (wanted : Token) → IsExact (take (only wanted)) (λ it behind. wanted ∷ behind) (λ it. Unit {0})
+pub only_exact : (wanted : Token) → IsExact (take (only wanted)) (λ it following. wanted ∷ following) (λ it. Unit {0})
 only_exact wanted = take_exact (only wanted) (λ it. wanted) (λ it. Unit {0}) said (λ it lawful. rw (same wanted) refl)
   where
     same : (w : Token) → bytes_eq w w ≡ true
@@ -83,7 +83,7 @@ only_exact wanted = take_exact (only wanted) (λ it. wanted) (λ it. Unit {0}) s
 pub both_exact : {A B : Type 0} (first : Read A) (second : A → Read B) (s : A → List Token → List Token)
     (t : A → B → List Token → List Token) (L : A → Type 0) (M : A → B → Type 0) → IsExact first s L →
     ((a : A) → IsExact (second a) (t a) (M a)) →
-    IsExact (two_of first second) (λ p behind. s p.0 (t p.0 p.1 behind)) (λ p. L p.0 × M p.0 p.1)
+    IsExact (two_of first second) (λ p following. s p.0 (t p.0 p.1 following)) (λ p. L p.0 × M p.0 p.1)
 unfolding two_of
 both_exact {A = A} {B = B} first second s t L M one two = record { said = said; back = back }
   where
@@ -99,16 +99,16 @@ both_exact {A = A} {B = B} first second s t L M one two = record { said = said; 
         has_good_bytes r))
         (a, b) p q rest last (spelt ∙ ap (s a) spelt_too, (lawful, lawful_too), whole ∙ whole_too)
 
-    back : (row : Row) (p : A × B) (behind : List Token) → words row ≡ s p.0 (t p.0 p.1 behind) → L p.0 × M p.0 p.1 →
-        (rest : Row) × (two_of first second row ≡ Ok (p, rest)) × (words rest ≡ behind)
-    back row (a, b) behind is (lawful, lawful_too) =
-        let (r, x, left) = one.back row a (t a b behind) is lawful in
-        let (rest, y, end) = (two a).back r b behind left lawful_too in
+    back : (row : Row) (p : A × B) (following : List Token) → words row ≡ s p.0 (t p.0 p.1 following) → L p.0 × M p.0 p.1 →
+        (rest : Row) × (two_of first second row ≡ Ok (p, rest)) × (words rest ≡ following)
+    back row (a, b) following is (lawful, lawful_too) =
+        let (r, x, left) = one.back row a (t a b following) is lawful in
+        let (rest, y, end) = (two a).back r b following left lawful_too in
         (rest, rw x (rw y refl), end)
 
 -- a thing and the parenthesis that ends it
 pub closed_exact : {A : Type 0} (read : Read A) (s : A → List Token → List Token) (L : A → Type 0) → IsExact read s L →
-    IsExact (closed read) (λ a behind. s a (right ∷ behind)) L
+    IsExact (closed read) (λ a following. s a (right ∷ following)) L
 unfolding closed
 closed_exact {A = A} read s L exact = record { said = said; back = back }
   where
@@ -126,16 +126,16 @@ closed_exact {A = A} read s L exact = record { said = said; back = back }
         last
         (spelt ∙ ap (s b) ends, lawful, whole ∙ whole_too)
 
-    back : (row : Row) (a : A) (behind : List Token) → words row ≡ s a (right ∷ behind) → L a →
-        (rest : Row) × (closed read row ≡ Ok (a, rest)) × (words rest ≡ behind)
-    back row a behind is lawful =
-        let (r, x, left) = exact.back row a (right ∷ behind) is lawful in
-        let (rest, y, end) = (only_exact right).back r tt behind left tt in
+    back : (row : Row) (a : A) (following : List Token) → words row ≡ s a (right ∷ following) → L a →
+        (rest : Row) × (closed read row ≡ Ok (a, rest)) × (words rest ≡ following)
+    back row a following is lawful =
+        let (r, x, left) = exact.back row a (right ∷ following) is lawful in
+        let (rest, y, end) = (only_exact right).back r tt following left tt in
         (rest, rw x (rw y refl), end)
 
 -- a word and then a thing
 pub after_exact : {A : Type 0} (word : Token) (read : Read A) (s : A → List Token → List Token) (L : A → Type 0) →
-    IsExact read s L → IsExact (after word read) (λ a behind. word ∷ s a behind) L
+    IsExact read s L → IsExact (after word read) (λ a following. word ∷ s a following) L
 unfolding after
 after_exact {A = A} word read s L exact = record { said = said; back = back }
   where
@@ -147,17 +147,17 @@ after_exact {A = A} word read s L exact = record { said = said; back = back }
         let (spelt, lawful, whole_too) = exact.said r a rest more in
         (begins ∙ ap (λ ws. word ∷ ws) spelt, lawful, whole ∙ whole_too)
 
-    back : (row : Row) (a : A) (behind : List Token) → words row ≡ word ∷ s a behind → L a →
-        (rest : Row) × (after word read row ≡ Ok (a, rest)) × (words rest ≡ behind)
-    back row a behind is lawful =
-        let (r, x, left) = (only_exact word).back row tt (s a behind) is tt in
-        let (rest, y, end) = exact.back r a behind left lawful in
+    back : (row : Row) (a : A) (following : List Token) → words row ≡ word ∷ s a following → L a →
+        (rest : Row) × (after word read row ≡ Ok (a, rest)) × (words rest ≡ following)
+    back row a following is lawful =
+        let (r, x, left) = (only_exact word).back row tt (s a following) is tt in
+        let (rest, y, end) = exact.back r a following left lawful in
         (rest, rw x y, end)
 
 -- what is made of a thing
 pub made_exact : {A B : Type 0} (make : A → B) (unmake : B → A) (read : Read A) (s : A → List Token → List Token)
     (L : A → Type 0) → ((a : A) → unmake (make a) ≡ a) → ((b : B) → make (unmake b) ≡ b) → IsExact read s L →
-    IsExact (made_into make read) (λ b behind. s (unmake b) behind) (λ b. L (unmake b))
+    IsExact (made_into make read) (λ b following. s (unmake b) following) (λ b. L (unmake b))
 unfolding made_into
 made_exact {A = A} {B = B} make unmake read s L left right exact = record { said = said; back = back }
   where
@@ -170,10 +170,10 @@ made_exact {A = A} {B = B} make unmake read s L left right exact = record { said
         (make a) b r
         rest last (spelt ∙ ap (λ a. s a (words r)) (sym (left a)), subst L (sym (left a)) lawful, whole)
 
-    back : (row : Row) (b : B) (behind : List Token) → words row ≡ s (unmake b) behind → L (unmake b) →
-        (rest : Row) × (made_into make read row ≡ Ok (b, rest)) × (words rest ≡ behind)
-    back row b behind is lawful =
-        let (rest, x, end) = exact.back row (unmake b) behind is lawful in
+    back : (row : Row) (b : B) (following : List Token) → words row ≡ s (unmake b) following → L (unmake b) →
+        (rest : Row) × (made_into make read row ≡ Ok (b, rest)) × (words rest ≡ following)
+    back row b following is lawful =
+        let (rest, x, end) = exact.back row (unmake b) following is lawful in
         (rest, rw x (ap (λ b. Ok (b, rest)) (right b)), end)
 
 -- what was made of a thing that was read

@@ -19,7 +19,7 @@ use Rattle.rule_language.specs.Lawful.{is_shallow, are_formulas, scope_in}
 use Rattle.rule_language.specs.Spelling.{variable, term_word, tokens_then, form_end}
 use Rattle.rule_language.specs.Tokens.{Token, Row, left, right, words, has_good_bytes}
 use Rattle.rule_language.specs.Words.{Typed, may_begin, head_for, opening}
-use Rattle.rule_language.specs.Steps.{Read, follow, give, take, in_turn, behind as after, closed, made_into}
+use Rattle.rule_language.specs.Steps.{Read, follow, give, take, in_turn, after, closed, made_into}
 use Rattle.rule_language.specs.Reader.{a_variable, a_kind, a_role, new_variable, first_term, second_term, pair}
 use Rattle.rule_language.specs.Reader.{variable_and_role}
 use Rattle.rule_language.specs.Reader.{variable_and_kind, terms, range, atom, tree, quantified_tree, Bound, several}
@@ -37,43 +37,43 @@ abbrev pub ReadsOne : ℕ → (Scope → Read Trees) → Type 0
 ReadsOne levels read = (scope : Scope) → IsExact (read scope) tokens_then (IsOne levels scope)
 
 -- two variables
-pair_exact : (scope : Scope) → IsExact (pair scope) (λ p behind. variable p.0 ∷ variable p.1 ∷ right ∷ behind)
+pair_exact : (scope : Scope) → IsExact (pair scope) (λ p following. variable p.0 ∷ variable p.1 ∷ right ∷ following)
     (λ p. (is_bound scope p.0 ≡ true) × (is_bound scope p.1 ≡ true))
-pair_exact scope = closed_exact _ _ _ (both_exact (a_variable scope) (λ v. a_variable scope) (λ v behind. variable v
-    ∷ behind)
-    (λ v u behind. variable u ∷ behind) (λ v. is_bound scope v ≡ true) (λ v u. is_bound scope u ≡ true)
+pair_exact scope = closed_exact _ _ _ (both_exact (a_variable scope) (λ v. a_variable scope) (λ v following. variable v
+    ∷ following)
+    (λ v u following. variable u ∷ following) (λ v. is_bound scope v ≡ true) (λ v u. is_bound scope u ≡ true)
     (variable_exact scope) (λ v. variable_exact scope))
 
 -- a variable and a role
-role_of_exact : (scope : Scope) → IsExact (variable_and_role scope) (λ p behind. variable p.0 ∷ role_word p.1 ∷ right
-    ∷ behind)
+role_of_exact : (scope : Scope) → IsExact (variable_and_role scope) (λ p following. variable p.0 ∷ role_word p.1 ∷ right
+    ∷ following)
     (λ p. (is_bound scope p.0 ≡ true) × Unit {0})
-role_of_exact scope = closed_exact _ _ _ (both_exact (a_variable scope) (λ v. a_role) (λ v behind. variable v ∷ behind)
-    (λ v r behind. role_word r ∷ behind) (λ v. is_bound scope v ≡ true) (λ v r. Unit {0}) (variable_exact scope)
+role_of_exact scope = closed_exact _ _ _ (both_exact (a_variable scope) (λ v. a_role) (λ v following. variable v ∷ following)
+    (λ v r following. role_word r ∷ following) (λ v. is_bound scope v ≡ true) (λ v r. Unit {0}) (variable_exact scope)
     (λ v. role_exact))
 
 -- a variable and a kind
-kind_of_exact : (scope : Scope) → IsExact (variable_and_kind scope) (λ p behind. variable p.0 ∷ kind_word p.1 ∷ right
-    ∷ behind)
+kind_of_exact : (scope : Scope) → IsExact (variable_and_kind scope) (λ p following. variable p.0 ∷ kind_word p.1 ∷ right
+    ∷ following)
     (λ p. (is_bound scope p.0 ≡ true) × Unit {0})
-kind_of_exact scope = closed_exact _ _ _ (both_exact (a_variable scope) (λ v. a_kind) (λ v behind. variable v ∷ behind)
-    (λ v k behind. kind_word k ∷ behind) (λ v. is_bound scope v ≡ true) (λ v k. Unit {0}) (variable_exact scope)
+kind_of_exact scope = closed_exact _ _ _ (both_exact (a_variable scope) (λ v. a_kind) (λ v following. variable v ∷ following)
+    (λ v k following. kind_word k ∷ following) (λ v. is_bound scope v ≡ true) (λ v k. Unit {0}) (variable_exact scope)
     (λ v. kind_exact))
 
 -- two terms of one sort
 terms_exact : (ordered : Bool) (scope : Scope) → IsExact (terms ordered scope)
-    (λ p behind. term_word p.0.0 ∷ term_word p.1.0 ∷ right ∷ behind)
+    (λ p following. term_word p.0.0 ∷ term_word p.1.0 ∷ right ∷ following)
     (λ p. IsTyped scope (may_begin ordered) p.0 × IsTyped scope (is_same_sort p.0.1) p.1)
 terms_exact ordered scope = closed_exact _ _ _ (both_exact (first_term ordered scope) (λ first. second_term first.1
     scope)
-    (λ t behind. term_word t.0 ∷ behind) (λ t u behind. term_word u.0 ∷ behind) (IsTyped scope (may_begin ordered))
+    (λ t following. term_word t.0 ∷ following) (λ t u following. term_word u.0 ∷ following) (IsTyped scope (may_begin ordered))
     (λ t. IsTyped scope (is_same_sort t.1)) (term_exact scope (may_begin ordered))
     (λ t. term_exact scope (is_same_sort t.1)))
 
 -- `before` and a variable, if it is named
 abbrev range_then : Option ℕ → List Token → List Token
-range_then None behind = behind
-range_then (Some u) behind = codes "before" ∷ variable u ∷ behind
+range_then None following = following
+range_then (Some u) following = codes "before" ∷ variable u ∷ following
 
 -- the variable is bound
 abbrev RangeFits : Scope → Option ℕ → Type 0
@@ -82,8 +82,8 @@ RangeFits scope (Some u) = is_bound scope u ≡ true
 
 -- `before` and a variable
 before_exact : (scope : Scope) → IsExact (after (codes "before") (a_variable scope))
-    (λ u behind. codes "before" ∷ variable u ∷ behind) (λ u. is_bound scope u ≡ true)
-before_exact scope = after_exact (codes "before") (a_variable scope) (λ u behind. variable u ∷ behind)
+    (λ u following. codes "before" ∷ variable u ∷ following) (λ u. is_bound scope u ≡ true)
+before_exact scope = after_exact (codes "before") (a_variable scope) (λ u following. variable u ∷ following)
     (λ u. is_bound scope u ≡ true) (variable_exact scope)
 
 range_said : (scope : Scope) (row : Row) (u : Option ℕ) (rest : Row) → range scope row ≡ Ok (u, rest) →
@@ -107,7 +107,7 @@ range_said scope row u rest is =
 -- the range of a quantifier and its body
 ranged_exact : (levels : ℕ) (scope within : Scope) (body : Read Trees) → IsExact body tokens_then (IsOne levels
     within) →
-    IsExact (in_turn (range scope) (λ u. closed body)) (λ p behind. range_then p.0 (ended_by p.1 behind))
+    IsExact (in_turn (range scope) (λ u. closed body)) (λ p following. range_then p.0 (ended_by p.1 following))
     (λ p. RangeFits scope p.0 × IsOne levels within p.1)
 unfolding in_turn
 ranged_exact levels scope within body exact = record { said = said; back = back }
@@ -132,28 +132,28 @@ ranged_exact levels scope within body exact = record { said = said; back = back 
         last
         (spelt ∙ ap (range_then u) spelt_too, (fits, lawful), whole ∙ whole_too)
 
-    back : (row : Row) (p : Option ℕ × Trees) (behind : List Token) →
-        words row ≡ range_then p.0 (ended_by p.1 behind) → RangeFits scope p.0 × IsOne levels within p.1 →
-        (rest : Row) × (in_turn (range scope) (λ u. closed body) row ≡ Ok (p, rest)) × (words rest ≡ behind)
-    back row (Some u, trees) behind is (fits, lawful) =
-        let (r, x, left) = (before_exact scope).back row u (ended_by trees behind) is fits in
-        let (rest, y, end) = ends.back r trees behind left lawful in
+    back : (row : Row) (p : Option ℕ × Trees) (following : List Token) →
+        words row ≡ range_then p.0 (ended_by p.1 following) → RangeFits scope p.0 × IsOne levels within p.1 →
+        (rest : Row) × (in_turn (range scope) (λ u. closed body) row ≡ Ok (p, rest)) × (words rest ≡ following)
+    back row (Some u, trees) following is (fits, lawful) =
+        let (r, x, left) = (before_exact scope).back row u (ended_by trees following) is fits in
+        let (rest, y, end) = ends.back r trees following left lawful in
         let found : range scope row ≡ Ok (Some u, r) = here (codes "before") (made_into Some (after (codes "before")
-        (a_variable scope))) (give None) row (variable u ∷ ended_by trees behind) is refl
+        (a_variable scope))) (give None) row (variable u ∷ ended_by trees following) is refl
         ∙ made_back Some (after (codes "before") (a_variable scope)) row u r x in
         (rest, rw found (rw y refl), end)
-    back row (None, no_trees) behind is (fits, (lawful, one)) = absurd (omega arith)
-    back row (None, tree_then form parts more) behind is (fits, lawful) =
-        let (w, ws, begins, _, other) = first_word form (tokens_then parts (form_end form (ended_by more behind))) in
+    back row (None, no_trees) following is (fits, (lawful, one)) = absurd (omega arith)
+    back row (None, tree_then form parts more) following is (fits, lawful) =
+        let (w, ws, begins, _, other) = first_word form (tokens_then parts (form_end form (ended_by more following))) in
         let found : range scope row ≡ Ok (None, row) = elsewhere (codes "before") (made_into Some (after (codes
         "before")
         (a_variable scope))) (give None) row w ws (is ∙ begins) other in
-        let (rest, y, end) = ends.back row (tree_then form parts more) behind is lawful in
+        let (rest, y, end) = ends.back row (tree_then form parts more) following is lawful in
         (rest, rw found (rw y refl), end)
 
 -- the tokens of what a quantifier binds and of its body
 abbrev bound_then : Bound → List Token → List Token
-bound_then q behind = variable q.0 ∷ kind_word q.1.0 ∷ range_then q.1.1.0 (ended_by q.1.1.1 behind)
+bound_then q following = variable q.0 ∷ kind_word q.1.0 ∷ range_then q.1.1.0 (ended_by q.1.1.1 following)
 
 -- what a quantifier binds is lawful, and so is its body
 abbrev BindsWell : ℕ → Scope → Bound → Type 0
@@ -165,11 +165,11 @@ quantified_exact : (levels : ℕ) (read : Scope → Read Trees) → ReadsOne lev
 unfolding quantified
 quantified_exact levels read reads scope =
     both_exact (new_variable scope) (λ v. in_turn a_kind (λ kind. in_turn (range scope) (λ u. closed (read ((v, kind) ∷
-    scope))))) (λ v behind. variable v ∷ behind)
-    (λ v p behind. kind_word p.0 ∷ range_then p.1.0 (ended_by p.1.1 behind)) (IsNew scope)
+    scope))))) (λ v following. variable v ∷ following)
+    (λ v p following. kind_word p.0 ∷ range_then p.1.0 (ended_by p.1.1 following)) (IsNew scope)
     (λ v p. Unit {0} × (RangeFits scope p.1.0 × IsOne levels ((v, p.0) ∷ scope) p.1.1)) (new_exact scope)
     (λ v. both_exact a_kind (λ kind. in_turn (range scope) (λ u. closed (read ((v, kind) ∷ scope))))
-    (λ k behind. kind_word k ∷ behind) (λ k p behind. range_then p.0 (ended_by p.1 behind)) (λ k. Unit {0})
+    (λ k following. kind_word k ∷ following) (λ k p following. range_then p.0 (ended_by p.1 following)) (λ k. Unit {0})
     (λ k p. RangeFits scope p.0 × IsOne levels ((v, k) ∷ scope) p.1) kind_exact
     (λ k. ranged_exact levels scope ((v, k) ∷ scope) (read ((v, k) ∷ scope)) (reads ((v, k) ∷ scope))))
 
@@ -178,12 +178,12 @@ abbrev quantifier_head : Bool → Head
 quantifier_head true = head.ForEvery
 quantifier_head false = head.ForSome
 
-bound_spelt : (every : Bool) (q : Bound) (behind : List Token) →
-    left ∷ head_word (quantifier_head every) ∷ bound_then q behind ≡ tokens_then (quantified_tree every q) behind
-bound_spelt true (v, (k, (None, t))) behind = refl
-bound_spelt false (v, (k, (None, t))) behind = refl
-bound_spelt true (v, (k, (Some u, t))) behind = refl
-bound_spelt false (v, (k, (Some u, t))) behind = refl
+bound_spelt : (every : Bool) (q : Bound) (following : List Token) →
+    left ∷ head_word (quantifier_head every) ∷ bound_then q following ≡ tokens_then (quantified_tree every q) following
+bound_spelt true (v, (k, (None, t))) following = refl
+bound_spelt false (v, (k, (None, t))) following = refl
+bound_spelt true (v, (k, (Some u, t))) following = refl
+bound_spelt false (v, (k, (Some u, t))) following = refl
 
 -- a new variable may be bound
 may_bind : (scope : Scope) (v : ℕ) → IsNew scope v → nat_le 4 (length scope) ≡ false → can_bind scope v ≡ true
@@ -209,7 +209,7 @@ HeadedSaid levels scope h row t rest = (left ∷ head_word h ∷ words row ≡ t
 -- a formula is made of what was read exactly
 by_said : {A : Type 0} (levels : ℕ) (scope : Scope) (h : Head) (make : A → Trees) (read : Read A)
     (s : A → List Token → List Token) (L : A → Type 0) → IsExact read s L →
-    ((a : A) (behind : List Token) → left ∷ head_word h ∷ s a behind ≡ tokens_then (make a) behind) →
+    ((a : A) (following : List Token) → left ∷ head_word h ∷ s a following ≡ tokens_then (make a) following) →
     ((a : A) → L a → IsOne (suc levels) scope (make a)) → (row : Row) (t : Trees) (rest : Row) →
     made_into make read row ≡ Ok (t, rest) → HeadedSaid levels scope h row t rest
 by_said levels scope h make read s L exact spells fits row t rest is =
@@ -252,49 +252,49 @@ headed_said levels read reads scope head.ForSome row t rest fits is =
 headed_said levels read reads scope head.And row t rest fits is =
     by_said levels scope head.And (tree form.And) (several (read scope)) ended_by
     (Are levels scope (λ k. (0 < k) × (k - 1 ≤ 63))) (several_exact levels scope (read scope) (reads scope))
-    (λ ts behind. refl) (λ ts (lawful, (some, few)). alone (suc levels) scope form.And ts refl refl
+    (λ ts following. refl) (λ ts (lawful, (some, few)). alone (suc levels) scope form.And ts refl refl
     (several_fit (count_of ts) some few) lawful) row t rest is
 headed_said levels read reads scope head.Or row t rest fits is =
     by_said levels scope head.Or (tree form.Or) (several (read scope)) ended_by
     (Are levels scope (λ k. (0 < k) × (k - 1 ≤ 63))) (several_exact levels scope (read scope) (reads scope))
-    (λ ts behind. refl) (λ ts (lawful, (some, few)). alone (suc levels) scope form.Or ts refl refl
+    (λ ts following. refl) (λ ts (lawful, (some, few)). alone (suc levels) scope form.Or ts refl refl
     (several_fit (count_of ts) some few) lawful) row t rest is
 headed_said levels read reads scope head.Not row t rest fits is =
     by_said levels scope head.Not (tree form.Not) (closed (read scope)) ended_by (IsOne levels scope)
-    (closed_exact (read scope) tokens_then (IsOne levels scope) (reads scope)) (λ ts behind. refl)
+    (closed_exact (read scope) tokens_then (IsOne levels scope) (reads scope)) (λ ts following. refl)
     (λ ts (lawful, one). alone (suc levels) scope form.Not ts refl refl (rw one refl) lawful) row t rest is
 headed_said levels read reads scope head.Implies row t rest fits is =
     by_said levels scope head.Implies (tree form.Implies) (in_row (read scope) (closed (read scope))) ended_by
-    (Are levels scope (λ k. (0 < k) × (k - 1 ≡ 1))) (two_exact levels read reads scope) (λ ts behind. refl)
+    (Are levels scope (λ k. (0 < k) × (k - 1 ≡ 1))) (two_exact levels read reads scope) (λ ts following. refl)
     (λ ts (lawful, (some, two)). let count : count_of ts ≡ 2 = omega (arith, some, two) in
     alone (suc levels) scope form.Implies ts refl refl (rw count refl) lawful) row t rest is
 headed_said levels read reads scope head.Same row t rest fits is =
     by_said levels scope head.Same (λ p. atom (form.Same p.0 p.1)) (pair scope) _ _ (pair_exact scope)
-    (λ p behind. refl) (λ p (v, u). alone (suc levels) scope (form.Same p.0 p.1) no_trees refl (rw v u) refl refl)
+    (λ p following. refl) (λ p (v, u). alone (suc levels) scope (form.Same p.0 p.1) no_trees refl (rw v u) refl refl)
     row t rest is
 headed_said levels read reads scope head.Before row t rest fits is =
     by_said levels scope head.Before (λ p. atom (form.Before p.0 p.1)) (pair scope) _ _ (pair_exact scope)
-    (λ p behind. refl) (λ p (v, u). alone (suc levels) scope (form.Before p.0 p.1) no_trees refl (rw v u) refl refl)
+    (λ p following. refl) (λ p (v, u). alone (suc levels) scope (form.Before p.0 p.1) no_trees refl (rw v u) refl refl)
     row t rest is
 headed_said levels read reads scope head.Next row t rest fits is =
     by_said levels scope head.Next (λ p. atom (form.Next p.0 p.1)) (pair scope) _ _ (pair_exact scope)
-    (λ p behind. refl) (λ p (v, u). alone (suc levels) scope (form.Next p.0 p.1) no_trees refl (rw v u) refl refl)
+    (λ p following. refl) (λ p (v, u). alone (suc levels) scope (form.Next p.0 p.1) no_trees refl (rw v u) refl refl)
     row t rest is
 headed_said levels read reads scope head.Is row t rest fits is =
     by_said levels scope head.Is (λ p. atom (form.Is p.0 p.1)) (variable_and_role scope) _ _ (role_of_exact scope)
-    (λ p behind. refl) (λ p (v, _). alone (suc levels) scope (form.Is p.0 p.1) no_trees refl v refl refl) row t rest is
+    (λ p following. refl) (λ p (v, _). alone (suc levels) scope (form.Is p.0 p.1) no_trees refl v refl refl) row t rest is
 headed_said levels read reads scope head.OfKind row t rest fits is =
     by_said levels scope head.OfKind (λ p. atom (form.OfKind p.0 p.1)) (variable_and_kind scope) _ _ (kind_of_exact
     scope)
-    (λ p behind. refl) (λ p (v, _). alone (suc levels) scope (form.OfKind p.0 p.1) no_trees refl v refl refl) row t rest
+    (λ p following. refl) (λ p (v, _). alone (suc levels) scope (form.OfKind p.0 p.1) no_trees refl v refl refl) row t rest
     is
 headed_said levels read reads scope head.Equal row t rest fits is =
     by_said levels scope head.Equal (λ p. atom (form.Equal p.0.0 p.1.0)) (terms false scope) _ _
-    (terms_exact false scope) (λ p behind. refl) (λ p (t, u). alone (suc levels) scope (form.Equal p.0.0 p.1.0) no_trees
+    (terms_exact false scope) (λ p following. refl) (λ p (t, u). alone (suc levels) scope (form.Equal p.0.0 p.1.0) no_trees
     refl (one_sort scope p.0 p.1 (may_begin false) t u) refl refl) row t rest is
 headed_said levels read reads scope head.Less row t rest fits is =
     by_said levels scope head.Less (λ p. atom (form.Less p.0.0 p.1.0)) (terms true scope) _ _
-    (terms_exact true scope) (λ p behind. refl) (λ p (t, u). alone (suc levels) scope (form.Less p.0.0 p.1.0) no_trees
+    (terms_exact true scope) (λ p following. refl) (λ p (t, u). alone (suc levels) scope (form.Less p.0.0 p.1.0) no_trees
     refl (rw (in_order scope p.0 t) (one_sort scope p.0 p.1 (may_begin true) t u)) refl refl) row t rest is
 
 -- what a formula begins with
@@ -307,7 +307,7 @@ abbrev MayOpen : ℕ → Bool → Type 0
 MayOpen levels opened = (opened ≡ false) ⊎ ((levels == 0) ≡ false)
 
 start_exact : (levels : ℕ) →
-    IsExact (take (opening levels)) (λ opened behind. start_word opened ∷ behind) (MayOpen levels)
+    IsExact (take (opening levels)) (λ opened following. start_word opened ∷ following) (MayOpen levels)
 start_exact levels = take_exact (opening levels) start_word (MayOpen levels) said back
   where
     said : (w : Token) (opened : Bool) → opening levels w ≡ Ok opened → (w ≡ start_word opened) × MayOpen levels opened
@@ -334,23 +334,23 @@ enter levels scope h row ws fits is =
 
 -- this formula is read where its tokens stand
 abbrev IsRead : ℕ → Scope → Trees → Row → List Token → Type 0
-IsRead levels scope t row behind = (rest : Row) × (formula levels scope row ≡ Ok (t, rest)) × (words rest ≡ behind)
+IsRead levels scope t row following = (rest : Row) × (formula levels scope row ≡ Ok (t, rest)) × (words rest ≡ following)
 
 -- a formula is made of what is read exactly
 by_back : {A : Type 0} (levels : ℕ) (scope : Scope) (h : Head) (make : A → Trees) (read : Read A)
     (s : A → List Token → List Token) (L : A → Type 0) → IsExact read s L →
     ((r : Row) → after_head (formula levels) scope h r ≡ made_into make read r) → Fits scope h → (a : A) → L a → (row
     : Row)
-    (behind : List Token) → words row ≡ left ∷ head_word h ∷ s a behind → IsRead (suc levels) scope (make a) row behind
-by_back levels scope h make read s L exact same fits a lawful row behind is =
-    let (r, x, begun) = enter levels scope h row (s a behind) fits is in
-    let (rest, y, end) = exact.back r a behind begun lawful in
+    (following : List Token) → words row ≡ left ∷ head_word h ∷ s a following → IsRead (suc levels) scope (make a) row following
+by_back levels scope h make read s L exact same fits a lawful row following is =
+    let (r, x, begun) = enter levels scope h row (s a following) fits is in
+    let (rest, y, end) = exact.back r a following begun lawful in
     (rest, x ∙ same r ∙ made_back make read r a rest y, end)
 
 -- this form with these parts is read where its tokens stand
 abbrev FormRead : ℕ → Scope → Form → Trees → Type 0
-FormRead levels scope form parts = (row : Row) (behind : List Token) →
-    words row ≡ tokens_then (tree form parts) behind → IsRead (suc levels) scope (tree form parts) row behind
+FormRead levels scope form parts = (row : Row) (following : List Token) →
+    words row ≡ tokens_then (tree form parts) following → IsRead (suc levels) scope (tree form parts) row following
 
 -- a form without parts
 only_atom : (levels : ℕ) (scope : Scope) (form : Form) → FormRead levels scope form no_trees → (parts : Trees) →
@@ -371,21 +371,21 @@ new_of scope v can =
 
 quantifier_back : (levels : ℕ) → ReadsOne levels (formula levels) → (scope : Scope) (every : Bool) (q : Bound) →
     can_bind scope q.0 ≡ true → RangeFits scope q.1.1.0 → (count_of q.1.1.1 == 1) ≡ true →
-    are_formulas levels ((q.0, q.1.0) ∷ scope) q.1.1.1 ≡ true → (row : Row) (behind : List Token) →
-    words row ≡ tokens_then (quantified_tree every q) behind → IsRead (suc levels) scope (quantified_tree every q)
-    row behind
+    are_formulas levels ((q.0, q.1.0) ∷ scope) q.1.1.1 ≡ true → (row : Row) (following : List Token) →
+    words row ≡ tokens_then (quantified_tree every q) following → IsRead (suc levels) scope (quantified_tree every q)
+    row following
 unfolding after_head
-quantifier_back levels reads scope true q can fits one within row behind is =
+quantifier_back levels reads scope true q can fits one within row following is =
     let (fresh, few) = new_of scope q.0 can in
     by_back levels scope head.ForEvery (quantified_tree true) (quantified (formula levels) scope) bound_then
     (BindsWell levels scope) (quantified_exact levels (formula levels) reads scope) (λ r. refl) few q
-    (fresh, (tt, (fits, (within, eqb-true (count_of q.1.1.1) 1 one)))) row behind (is ∙ sym (bound_spelt true q behind))
-quantifier_back levels reads scope false q can fits one within row behind is =
+    (fresh, (tt, (fits, (within, eqb-true (count_of q.1.1.1) 1 one)))) row following (is ∙ sym (bound_spelt true q following))
+quantifier_back levels reads scope false q can fits one within row following is =
     let (fresh, few) = new_of scope q.0 can in
     by_back levels scope head.ForSome (quantified_tree false) (quantified (formula levels) scope) bound_then
     (BindsWell levels scope) (quantified_exact levels (formula levels) reads scope) (λ r. refl) few q
-    (fresh, (tt, (fits, (within, eqb-true (count_of q.1.1.1) 1 one)))) row behind (is ∙ sym (bound_spelt false q
-    behind))
+    (fresh, (tt, (fits, (within, eqb-true (count_of q.1.1.1) 1 one)))) row following (is ∙ sym (bound_spelt false q
+    following))
 
 -- the sorts of terms of one sort
 sorts_of : (scope : Scope) (t u : Term) → are_of_one_sort (sort_of scope t) (sort_of scope u) ≡ true →
@@ -411,14 +411,14 @@ true_lawful zero scope = (refl, refl)
 true_lawful (suc levels) scope = (refl, refl)
 
 -- and is read
-true_back : (levels : ℕ) (scope : Scope) (row : Row) (behind : List Token) → words row ≡ codes "true" ∷ behind →
-    IsRead levels scope (atom form.True) row behind
+true_back : (levels : ℕ) (scope : Scope) (row : Row) (following : List Token) → words row ≡ codes "true" ∷ following →
+    IsRead levels scope (atom form.True) row following
 unfolding formula
-true_back zero scope row behind is =
-    let (rest, x, end) = (start_exact zero).back row false behind is (inl refl) in
+true_back zero scope row following is =
+    let (rest, x, end) = (start_exact zero).back row false following is (inl refl) in
     (rest, rw x refl, end)
-true_back (suc levels) scope row behind is =
-    let (rest, x, end) = (start_exact (suc levels)).back row false behind is (inl refl) in
+true_back (suc levels) scope row following is =
+    let (rest, x, end) = (start_exact (suc levels)).back row false following is (inl refl) in
     (rest, rw x refl, end)
 
 -- each form with its parts
@@ -515,19 +515,19 @@ flat_exact scope = record { said = said; back = back }
           | inr none ↦ cc none
         ]
 
-    back : (row : Row) (t : Trees) (behind : List Token) → words row ≡ tokens_then t behind → IsOne zero scope t →
-        IsRead zero scope t row behind
-    back row no_trees behind is (lawful, one) = absurd (omega arith)
-    back row (tree_then f parts (tree_then g i more)) behind is (lawful, one) = absurd (omega arith)
-    back row (tree_then f parts no_trees) behind is (lawful, one) =
+    back : (row : Row) (t : Trees) (following : List Token) → words row ≡ tokens_then t following → IsOne zero scope t →
+        IsRead zero scope t row following
+    back row no_trees following is (lawful, one) = absurd (omega arith)
+    back row (tree_then f parts (tree_then g i more)) following is (lawful, one) = absurd (omega arith)
+    back row (tree_then f parts no_trees) following is (lawful, one) =
         let (shallow, _, arity, _, _) = may_stand zero scope f parts no_trees lawful in
         plain f (shallow_true f shallow) parts arity is
       where
         plain : (f : Form) → f ≡ form.True → (parts : Trees) → has_arity f (count_of parts) ≡ true →
-            words row ≡ tokens_then (tree f parts) behind → IsRead zero scope (tree f parts) row behind
-        plain f same no_trees arity is = let is_true : words row ≡ tokens_then (atom form.True) behind =
-            subst (λ f. words row ≡ tokens_then (atom f) behind) same is in
-            subst (λ f. IsRead zero scope (atom f) row behind) (sym same) (true_back zero scope row behind is_true)
+            words row ≡ tokens_then (tree f parts) following → IsRead zero scope (tree f parts) row following
+        plain f same no_trees arity is = let is_true : words row ≡ tokens_then (atom form.True) following =
+            subst (λ f. words row ≡ tokens_then (atom f) following) same is in
+            subst (λ f. IsRead zero scope (atom f) row following) (sym same) (true_back zero scope row following is_true)
         plain f same (tree_then g i more) arity is =
             let none : (count_of more + 1 == 0) ≡ true = rw same at arity in
             let no : count_of more + 1 ≡ 0 = eqb-true (count_of more + 1) 0 none in absurd (omega arith)
@@ -562,14 +562,14 @@ deeper_exact levels reads scope = record { said = said; back = back }
         let (spelt, may, whole) = (start_exact (suc levels)).said row opened r x in
         goes opened row r t rest spelt whole last
 
-    back : (row : Row) (t : Trees) (behind : List Token) → words row ≡ tokens_then t behind → IsOne (suc levels)
+    back : (row : Row) (t : Trees) (following : List Token) → words row ≡ tokens_then t following → IsOne (suc levels)
         scope t →
-        IsRead (suc levels) scope t row behind
-    back row no_trees behind is (lawful, one) = absurd (omega arith)
-    back row (tree_then f parts (tree_then g i more)) behind is (lawful, one) = absurd (omega arith)
-    back row (tree_then f parts no_trees) behind is (lawful, one) =
+        IsRead (suc levels) scope t row following
+    back row no_trees following is (lawful, one) = absurd (omega arith)
+    back row (tree_then f parts (tree_then g i more)) following is (lawful, one) = absurd (omega arith)
+    back row (tree_then f parts no_trees) following is (lawful, one) =
         let (shallow, closes, arity, within, _) = may_stand (suc levels) scope f parts no_trees lawful in
-        form_back levels reads scope f parts closes arity within row behind is
+        form_back levels reads scope f parts closes arity within row following is
 
 -- a formula is read exactly
 pub formula_exact : (levels : ℕ) → ReadsOne levels (formula levels)

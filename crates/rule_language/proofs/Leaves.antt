@@ -75,7 +75,7 @@ letter_found (w ∷ []) v e =
 letter_found (w ∷ x ∷ word) v e = absurd (cc)
 
 -- a variable that is bound
-pub variable_exact : (scope : Scope) → IsExact (a_variable scope) (λ v behind. variable v ∷ behind) (λ v. is_bound
+pub variable_exact : (scope : Scope) → IsExact (a_variable scope) (λ v following. variable v ∷ following) (λ v. is_bound
     scope v ≡ true)
 variable_exact scope = take_exact (λ word. bound_in scope (letter_in word)) variable (λ v. is_bound scope v ≡ true) said
     (λ v bound. let (letter, some) = and_parts (is_letter v) (is_some (kind_in scope v)) bound in rw letter (rw some
@@ -98,7 +98,7 @@ abbrev pub IsNew : Scope → ℕ → Type 0
 IsNew scope v = (is_letter v ≡ true) × (is_some (kind_in scope v) ≡ false)
 
 -- a variable that isn't bound yet
-pub new_exact : (scope : Scope) → IsExact (new_variable scope) (λ v behind. variable v ∷ behind) (IsNew scope)
+pub new_exact : (scope : Scope) → IsExact (new_variable scope) (λ v following. variable v ∷ following) (IsNew scope)
 new_exact scope = take_exact (λ word. unbound_in scope (letter_in word)) variable (IsNew scope) said
     (λ v (letter, fresh). rw letter (rw fresh refl))
   where
@@ -170,12 +170,12 @@ head_named_word head.Equal = refl
 head_named_word head.Less = refl
 
 -- a kind
-pub kind_exact : IsExact a_kind (λ k behind. kind_word k ∷ behind) (λ k. Unit {0})
+pub kind_exact : IsExact a_kind (λ k following. kind_word k ∷ following) (λ k. Unit {0})
 kind_exact = take_exact kind_for kind_word (λ k. Unit {0})
     (λ w k e. (named_found kind_word entry_kinds w k (kind_is_named w k e), tt)) (λ k it. kind_named_word k)
 
 -- a role
-pub role_exact : IsExact a_role (λ r behind. role_word r ∷ behind) (λ r. Unit {0})
+pub role_exact : IsExact a_role (λ r following. role_word r ∷ following) (λ r. Unit {0})
 role_exact = take_exact (λ word. or_cause Shape (role_named word)) role_word (λ r. Unit {0})
     (λ w r e. (named_found role_word (role.Supervisor ∷ role.Booth ∷ []) w r (or_found Shape (role_named w) r e), tt))
     (λ r it. role_named_word r)
@@ -185,7 +185,7 @@ abbrev pub Fits : Scope → Head → Type 0
 Fits scope h = (is_quantifier h && nat_le 4 (length scope)) ≡ false
 
 -- a first word
-pub head_exact : (scope : Scope) → IsExact (take (head_for scope)) (λ h behind. head_word h ∷ behind) (Fits scope)
+pub head_exact : (scope : Scope) → IsExact (take (head_for scope)) (λ h following. head_word h ∷ following) (Fits scope)
 head_exact scope =
     take_exact (head_for scope) head_word (Fits scope) said (λ h fits. rw (head_named_word h) (rw fits refl))
   where
@@ -318,7 +318,7 @@ IsTyped scope test typed = (sort_of scope typed.0 ≡ Some typed.1) × (test typ
 
 -- a term for whose sort a test holds
 pub term_exact : (scope : Scope) (test : Sort → Bool) → IsExact (take (λ word. whose_sort test (term_in scope word)))
-    (λ typed behind. term_word typed.0 ∷ behind) (IsTyped scope test)
+    (λ typed following. term_word typed.0 ∷ following) (IsTyped scope test)
 term_exact scope test = take_exact (λ word. whose_sort test (term_in scope word)) (λ typed. term_word typed.0)
     (IsTyped scope test) said back
   where

@@ -26,7 +26,7 @@ Are levels scope C trees = (are_formulas levels scope trees ≡ true) × C (coun
 
 -- formulas and the parenthesis that ends them
 abbrev pub ended_by : Trees → List Token → List Token
-ended_by trees behind = tokens_then trees (right ∷ behind)
+ended_by trees following = tokens_then trees (right ∷ following)
 
 -- what is known of a form in a lawful row
 pub may_stand : (levels : ℕ) (scope : Scope) (form : Form) (parts rest : Trees) →
@@ -52,11 +52,11 @@ alone levels scope form parts shallow closes arity within =
     (rw shallow (rw closes (rw arity (rw within refl))), refl)
 
 -- the tokens of one row and another
-pub joined_tokens : (a b : Trees) (behind : List Token) →
-    tokens_then (joined_trees a b) behind ≡ tokens_then a (tokens_then b behind)
-joined_tokens no_trees b behind = refl
-joined_tokens (tree_then form parts rest) b behind =
-    ap (λ ws. spelt form (tokens_then parts (form_end form ws))) (joined_tokens rest b behind)
+pub joined_tokens : (a b : Trees) (following : List Token) →
+    tokens_then (joined_trees a b) following ≡ tokens_then a (tokens_then b following)
+joined_tokens no_trees b following = refl
+joined_tokens (tree_then form parts rest) b following =
+    ap (λ ws. spelt form (tokens_then parts (form_end form ws))) (joined_tokens rest b following)
 
 -- what is lawful one after the other
 joined_lawful : (levels : ℕ) (scope : Scope) (a b : Trees) → are_formulas levels scope a ≡ true →
@@ -96,16 +96,16 @@ row_exact levels scope formula others C exact more_exact = record { said = said;
           whole ∙ whole_too,
         )
 
-    back : (row : Row) (trees : Trees) (behind : List Token) → words row ≡ ended_by trees behind →
+    back : (row : Row) (trees : Trees) (following : List Token) → words row ≡ ended_by trees following →
         Are levels scope (λ n. (0 < n) × C (n - 1)) trees →
-        (rest : Row) × (in_row formula others row ≡ Ok (trees, rest)) × (words rest ≡ behind)
-    back row no_trees behind is (lawful, (some, few)) = absurd (omega arith)
-    back row (tree_then form parts more) behind is (lawful, (some, few)) =
+        (rest : Row) × (in_row formula others row ≡ Ok (trees, rest)) × (words rest ≡ following)
+    back row no_trees following is (lawful, (some, few)) = absurd (omega arith)
+    back row (tree_then form parts more) following is (lawful, (some, few)) =
         let (shallow, closes, arity, within, after) = may_stand levels scope form parts more lawful in
         let less : count_of more + 1 - 1 ≡ count_of more = omega arith in
-        let (r, x, left) = exact.back row (tree_then form parts no_trees) (ended_by more behind) is
+        let (r, x, left) = exact.back row (tree_then form parts no_trees) (ended_by more following) is
         (alone levels scope form parts shallow closes arity within) in
-        let (rest, y, end) = more_exact.back r more behind left (after, subst C less few) in
+        let (rest, y, end) = more_exact.back r more following left (after, subst C less few) in
         (rest, rw x (rw y refl), end)
 
 -- no formula
@@ -119,20 +119,20 @@ none_exact = record { said = said; back = back }
         has_good_bytes r))
         no_trees trees row rest is (refl, refl, refl)
 
-    back : (row : Row) (trees : Trees) (behind : List Token) → words row ≡ tokens_then trees behind → trees ≡ no_trees →
-        (rest : Row) × (give no_trees row ≡ Ok (trees, rest)) × (words rest ≡ behind)
-    back row trees behind is none = (row, ap (λ t. Ok (t, row)) (sym none), is ∙ ap (λ t. tokens_then t behind) none)
+    back : (row : Row) (trees : Trees) (following : List Token) → words row ≡ tokens_then trees following → trees ≡ no_trees →
+        (rest : Row) × (give no_trees row ≡ Ok (trees, rest)) × (words rest ≡ following)
+    back row trees following is none = (row, ap (λ t. Ok (t, row)) (sym none), is ∙ ap (λ t. tokens_then t following) none)
 
 -- no formula and the parenthesis
 ends_exact : IsExact (closed (give no_trees)) ended_by (λ trees. trees ≡ no_trees)
 ends_exact = closed_exact (give no_trees) tokens_then (λ trees. trees ≡ no_trees) none_exact
 
 -- a form doesn't begin with what ends one, or with what names the entries before it
-pub first_word : (form : Form) (behind : List Token) → (w : Token) × (more : List Token) × (spelt form behind ≡ w ∷
+pub first_word : (form : Form) (following : List Token) → (w : Token) × (more : List Token) × (spelt form following ≡ w ∷
     more)
     × (bytes_eq w right ≡ false) × (bytes_eq w (codes "before") ≡ false)
-first_word form.True behind = (codes "true", behind, refl, refl, refl)
-first_word form behind = (left, form_words form ++ behind, refl, refl, refl)
+first_word form.True following = (codes "true", following, refl, refl, refl)
+first_word form following = (left, form_words form ++ following, refl, refl, refl)
 
 -- the wanted word is next
 pub here : {A : Type 0} (wanted : Token) (one other : Read A) (row : Row) (ws : List Token) →
@@ -157,11 +157,11 @@ ends_said levels n scope row trees rest is =
 zero_parts : (levels : ℕ) (scope : Scope) → IsExact (closed (give no_trees)) ended_by (Are levels scope (λ k. k ≤ 0))
 zero_parts levels scope = record { said = ends_said levels 0 scope; back = back }
   where
-    back : (row : Row) (trees : Trees) (behind : List Token) → words row ≡ ended_by trees behind →
+    back : (row : Row) (trees : Trees) (following : List Token) → words row ≡ ended_by trees following →
         Are levels scope (λ k. k ≤ 0) trees →
-        (rest : Row) × (closed (give no_trees) row ≡ Ok (trees, rest)) × (words rest ≡ behind)
-    back row no_trees behind is lawful = ends_exact.back row no_trees behind is refl
-    back row (tree_then form parts more) behind is (lawful, few) = absurd (omega arith)
+        (rest : Row) × (closed (give no_trees) row ≡ Ok (trees, rest)) × (words rest ≡ following)
+    back row no_trees following is lawful = ends_exact.back row no_trees following is refl
+    back row (tree_then form parts more) following is (lawful, few) = absurd (omega arith)
 
 -- the parenthesis, or a formula and others
 more_parts : (levels n : ℕ) (scope : Scope) (others : Read Trees) →
@@ -180,15 +180,15 @@ more_parts levels n scope others exact = record { said = said; back = back }
           (spelt, (lawful, omega (arith, some, few)), whole)
     ]
 
-    back : (row : Row) (trees : Trees) (behind : List Token) → words row ≡ ended_by trees behind →
+    back : (row : Row) (trees : Trees) (following : List Token) → words row ≡ ended_by trees following →
         Are levels scope (λ k. k ≤ suc n) trees →
-        (rest : Row) × (if_next right (closed (give no_trees)) others row ≡ Ok (trees, rest)) × (words rest ≡ behind)
-    back row no_trees behind is lawful =
-        let (rest, x, end) = ends_exact.back row no_trees behind is refl in
-        (rest, here right (closed (give no_trees)) others row behind is refl ∙ x, end)
-    back row (tree_then form parts more) behind is (lawful, few) =
-        let (w, ws, begins, other, _) = first_word form (tokens_then parts (form_end form (ended_by more behind))) in
-        let (rest, x, end) = exact.back row (tree_then form parts more) behind is
+        (rest : Row) × (if_next right (closed (give no_trees)) others row ≡ Ok (trees, rest)) × (words rest ≡ following)
+    back row no_trees following is lawful =
+        let (rest, x, end) = ends_exact.back row no_trees following is refl in
+        (rest, here right (closed (give no_trees)) others row following is refl ∙ x, end)
+    back row (tree_then form parts more) following is (lawful, few) =
+        let (w, ws, begins, other, _) = first_word form (tokens_then parts (form_end form (ended_by more following))) in
+        let (rest, x, end) = exact.back row (tree_then form parts more) following is
         (lawful, (omega arith, omega (arith, few))) in
         (rest, elsewhere right (closed (give no_trees)) others row w ws (is ∙ begins) other ∙ x, end)
 

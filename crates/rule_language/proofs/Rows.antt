@@ -8,7 +8,7 @@ use Rattle.std.proofs.lemmas.Bool.{ne_eqb, eq-eqb, le-leb, lt-ltb, le-ltb, leb-t
 use Rattle.std.proofs.lemmas.Bool.{cases_lt}
 use Rattle.hall_text.specs.Spans.{IsWordByte, IsParenthesis, IsToken, piece}
 use Rattle.hall_text.specs.Places.{CutsNoWord, BeginsToken}
-use Rattle.hall_text.proofs.TokenLemmas.{some_bytes, between_behind}
+use Rattle.hall_text.proofs.TokenLemmas.{some_bytes, between_after}
 unfoldable use Rattle.rule_language.specs.inside.Unread.{unread}
 use Rattle.rule_language.specs.inside.Unread.{IsNext}
 use Rattle.rule_language.specs.Tokens.{token_then, bad_byte, text_end, row_from, goes_on, is_separator}
@@ -69,7 +69,7 @@ stops : (bytes : List ℕ) → (0 < length bytes → ¬ (IsWordByte (get_or byte
 stops [] other = refl
 stops (b ∷ bytes) other = untested b (other (omega arith))
 
--- bytes of a word, behind which it ends, are a token
+-- bytes of a word, after which it ends, are a token
 word_row : (n at : ℕ) (bytes : List ℕ) → suc n ≤ length bytes →
     ((i : ℕ) → i ≤ n → IsWordByte (get_or bytes i 0)) → goes_on (drop (suc n) bytes) ≡ false →
     row_from at bytes ≡ token_then at (take (suc n) bytes) (row_from (at + suc n) (drop (suc n) bytes))
@@ -89,7 +89,7 @@ alone_tested : (b : ℕ) → IsParenthesis b → (is_separator b ≡ false) × (
 alone_tested b (inl is) = rw is (refl, refl)
 alone_tested b (inr is) = rw is (refl, refl)
 
--- a token, and what is behind it
+-- a token, and what is after it
 pub token_row : (text : List ℕ) (at end : ℕ) → at < end → IsToken text (record { start = at; end = end }) →
     row_from at (drop at text) ≡ token_then at (piece text (record { start = at; end = end }))
     (row_from end (drop end text))
@@ -133,7 +133,7 @@ next_token text at end within separates between token none = elim (cases_lt at e
   | inl some ↦ let (_, inside) = some_bytes text (record { start = at; end = end }) (token some) in record {
     order = omega arith;
     inside = inside;
-    between = between_behind text at end some (token some);
+    between = between_after text at end some (token some);
     row = token_row text at end some (token some) ∙ rw (lt-ltb at end some) refl;
   }
   | inr small ↦

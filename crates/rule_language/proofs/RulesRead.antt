@@ -11,7 +11,7 @@ use Rattle.rule_language.specs.Spelling.{tokens_then, rule_then, rules_tokens, I
 use Rattle.rule_language.specs.Tokens.{Token, Row, token_then, bad_byte, text_end, left, words, has_good_bytes}
 use Rattle.rule_language.specs.Tokens.{text_row}
 use Rattle.rule_language.specs.Words.{name_in}
-use Rattle.rule_language.specs.Steps.{Read, follow, take, in_turn, behind as after, closed, made_into}
+use Rattle.rule_language.specs.Steps.{Read, follow, take, in_turn, after, closed, made_into}
 use Rattle.rule_language.specs.Reader.{formula, without_rest}
 unfoldable use Rattle.rule_language.specs.Reader.{rule, more_rules, rules, rules_of}
 use Rattle.rule_language.specs.Reading.{Reads}
@@ -25,7 +25,7 @@ use Rattle.rule_language.proofs.FormulasRead.{formula_exact}
 abbrev IsFree : List Token → Token → Type 0
 IsFree names name = (is_name name ≡ true) × (is_among name names ≡ false)
 
-name_exact : (names : List Token) → IsExact (take (name_in names)) (λ name behind. name ∷ behind) (IsFree names)
+name_exact : (names : List Token) → IsExact (take (name_in names)) (λ name following. name ∷ following) (IsFree names)
 name_exact names = take_exact (name_in names) (λ name. name) (IsFree names) said
     (λ name (good, free). rw good (rw free refl))
   where
@@ -42,13 +42,13 @@ RuleFits names r = IsFree names r.name × IsOne 31 [] r.body
 
 rule_exact : (names : List Token) → IsExact (rule names) rule_then (RuleFits names)
 unfolding rule
-rule_exact names = after_exact left (after (codes "rule") named) (λ r behind. codes "rule" ∷ r.name ∷ ended_by r.body
-    behind)
-    (RuleFits names) (after_exact (codes "rule") named (λ r behind. r.name ∷ ended_by r.body behind) (RuleFits names)
+rule_exact names = after_exact left (after (codes "rule") named) (λ r following. codes "rule" ∷ r.name ∷ ended_by r.body
+    following)
+    (RuleFits names) (after_exact (codes "rule") named (λ r following. r.name ∷ ended_by r.body following) (RuleFits names)
     (made_exact (λ (p : Token × Trees). record { name = p.0; body = p.1 }) (λ r. (r.name, r.body))
-    (in_turn (take (name_in names)) (λ name. closed (formula 31 []))) (λ p behind. p.0 ∷ ended_by p.1 behind)
+    (in_turn (take (name_in names)) (λ name. closed (formula 31 []))) (λ p following. p.0 ∷ ended_by p.1 following)
     (λ p. IsFree names p.0 × IsOne 31 [] p.1) (λ p. refl) (λ r. refl)
-    (both_exact (take (name_in names)) (λ name. closed (formula 31 [])) (λ name behind. name ∷ behind)
+    (both_exact (take (name_in names)) (λ name. closed (formula 31 [])) (λ name following. name ∷ following)
     (λ name. ended_by) (IsFree names) (λ name. IsOne 31 []) (name_exact names)
     (λ name. closed_exact (formula 31 []) tokens_then (IsOne 31 []) (formula_exact 31 [])))))
   where

@@ -67,7 +67,7 @@ pub rules_fail : (text : List ℕ) (n : ℕ) (names : List Token) (row : Row) (f
 unfolding rules_of more_rules
 rules_fail text n names row front fault all goes is = rw (all, goes, ← is) refl
 
--- one rule more is behind those so far
+-- one rule more is after those so far
 pub rules_more : (n : ℕ) (names : List Token) (row q : Row) (r : RuleTree) (front : List RuleTree) →
     is_end row ≡ false → Ok (r, q) ≡ rule names row →
     with_front front (more_rules (suc n) names row)

@@ -56,32 +56,32 @@ parts_ended (suc n) formula row (inr is) = rw is refl
 -- it is missing
 pub parts_stop : (n : ℕ) (formula : Read Trees) (row : Row) (front : Trees) (fault : RuleFault) →
     IsEnded n row → Err fault ≡ take (only right) row →
-    follow (parts n formula row) (λ more behind. Ok (joined_trees front more, behind)) ≡ Err fault
+    follow (parts n formula row) (λ more following. Ok (joined_trees front more, following)) ≡ Err fault
 unfolding closed
 parts_stop n formula row front fault ended is = rw (parts_ended n formula row ended, ← is) refl
 
 -- it is there
 pub parts_done : (n : ℕ) (formula : Read Trees) (row rest : Row) (front : Trees) →
     IsEnded n row → Ok (tt, rest) ≡ take (only right) row →
-    follow (parts n formula row) (λ more behind. Ok (joined_trees front more, behind)) ≡ Ok (front, rest)
+    follow (parts n formula row) (λ more following. Ok (joined_trees front more, following)) ≡ Ok (front, rest)
 unfolding closed
 parts_done n formula row rest front ended is = rw (parts_ended n formula row ended, ← is, no_more front) refl
 
--- one formula more is behind those so far
+-- one formula more is after those so far
 pub parts_more : (n : ℕ) (formula : Read Trees) (row rest : Row) (one front : Trees) →
     bytes_eq (next row) right ≡ false → formula row ≡ Ok (one, rest) →
-    follow (parts (suc n) formula row) (λ more behind. Ok (joined_trees front more, behind))
-    ≡ follow (parts n formula rest) (λ more behind. Ok (joined_trees (joined_trees front one) more, behind))
+    follow (parts (suc n) formula row) (λ more following. Ok (joined_trees front more, following))
+    ≡ follow (parts n formula rest) (λ more following. Ok (joined_trees (joined_trees front one) more, following))
 unfolding parts in_row
 parts_more n formula row rest one front other is = rw other (rw is (by (parts n formula rest)))
   where
     by : (read : Result (Trees × Row) RuleFault) →
-        follow (follow read (λ more behind. Ok (joined_trees one more, behind))) (λ more behind. Ok (
+        follow (follow read (λ more following. Ok (joined_trees one more, following))) (λ more following. Ok (
           joined_trees
               front more,
-          behind,
+          following,
         ))
-        ≡ follow read (λ more behind. Ok (joined_trees (joined_trees front one) more, behind))
+        ≡ follow read (λ more following. Ok (joined_trees (joined_trees front one) more, following))
     by (Ok read) = ap (λ trees. Ok (trees, read.1)) (sym (joined front one read.0))
     by (Err fault) = refl
 

@@ -127,7 +127,7 @@ pub joined : (a b c : Trees) → joined_trees (joined_trees a b) c ≡ joined_tr
 joined no_trees b c = refl
 joined (tree_then form parts rest) b c = ap (tree_then form parts) (joined rest b c)
 
--- one formula more is behind the others
+-- one formula more is after the others
 pub trees_push : (fs : List Formula) (f : Formula) → trees_of (fs ++ f ∷ []) ≡ joined_trees (trees_of fs) (tree_of f)
 trees_push [] f = refl
 trees_push (g ∷ fs) f =
@@ -135,7 +135,7 @@ trees_push (g ∷ fs) f =
     ∙ sym (joined (tree_of g) (trees_of fs) (tree_of f))
     ∙ ap (λ row. joined_trees row (tree_of f)) (sym (front g (trees_of fs)))
 
--- and no row behind it changes nothing
+-- and no row after it changes nothing
 pub no_more : (a : Trees) → joined_trees a no_trees ≡ a
 no_more no_trees = refl
 no_more (tree_then form parts rest) = ap (tree_then form parts) (no_more rest)

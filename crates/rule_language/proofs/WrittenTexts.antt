@@ -210,7 +210,7 @@ front_longer at b joined row word on =
     let (separates, alone, tested) = word_tested b word in
     rw separates (rw alone (rw tested (rw on refl)))
 
--- a word, behind which no word goes on
+-- a word, after which no word goes on
 spells_word : (w : Token) (bytes : List ℕ) (ts : List Token) → IsSpelt w → goes_on bytes ≡ false → Spells bytes ts →
     Spells (w ++ bytes) (w ∷ ts)
 spells_word [] bytes ts (some, good) ends all = absurd (omega arith)
@@ -261,11 +261,11 @@ row_stops no_trees bytes ends = ends
 row_stops (tree_then f parts rest) bytes ends = refl
 
 -- a form is `true`, or it is in parentheses
-enclosed : (f : Form) → (f ≡ form.True) ⊎ ((inside : List ℕ) (behind : List Token) →
+enclosed : (f : Form) → (f ≡ form.True) ⊎ ((inside : List ℕ) (following : List Token) →
     (form_text f inside ≡ 40 ∷ (with_spaces (form_words f) ++ (inside ++ 41 ∷ [])))
-    × (spelt f behind ≡ left ∷ (form_words f ++ behind)) × (form_end f behind ≡ right ∷ behind))
+    × (spelt f following ≡ left ∷ (form_words f ++ following)) × (form_end f following ≡ right ∷ following))
 enclosed form.True = inl refl
-enclosed f = inr (λ inside behind. (refl, refl, refl))
+enclosed f = inr (λ inside following. (refl, refl, refl))
 
 -- a form and the formulas in it
 form_spells : (scope : Scope) (f : Form) (inside bytes : List ℕ) (parts : Trees) (ts : List Token) →

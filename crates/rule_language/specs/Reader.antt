@@ -16,7 +16,7 @@ use Rattle.rule_language.specs.Trees.{Trees, no_trees, tree_then, joined_trees, 
 use Rattle.rule_language.specs.Tokens.{Token, Row, text_row, left, right}
 use Rattle.rule_language.specs.Words.{or_cause, letter_in, unbound_in, bound_in, kind_for, Typed, term_in, whose_sort}
 use Rattle.rule_language.specs.Words.{may_begin, head_for, opening, name_in}
-use Rattle.rule_language.specs.Steps.{Read, ◌>>=◌, give, take, if_next, end, if_end, in_turn, behind, closed, made_into}
+use Rattle.rule_language.specs.Steps.{Read, ◌>>=◌, give, take, if_next, end, if_end, in_turn, after, closed, made_into}
 
 -- a variable that isn't bound yet
 abbrev pub new_variable : Scope → Read ℕ
@@ -60,7 +60,7 @@ terms ordered scope = closed (in_turn (first_term ordered scope) (λ first. seco
 
 -- `before` and a variable, if they are there
 abbrev pub range : Scope → Read (Option ℕ)
-range scope = if_next (codes "before") (made_into Some (behind (codes "before") (a_variable scope))) (give None)
+range scope = if_next (codes "before") (made_into Some (after (codes "before") (a_variable scope))) (give None)
 
 -- the form of `every` or `some`, without or with `before` and a variable
 abbrev pub quantifier : Bool → ℕ → Kind → Option ℕ → Form
@@ -138,7 +138,7 @@ formula (suc levels) scope = do
 
 -- a rule after others of these names, with 31 levels of parentheses in its own
 unfoldable pub rule : List Token → Read RuleTree
-rule names = behind left (behind (codes "rule") (made_into (λ two. record { name = two.0; body = two.1 })
+rule names = after left (after (codes "rule") (made_into (λ two. record { name = two.0; body = two.1 })
     (in_turn (take (name_in names)) (λ name. closed (formula 31 [])))))
 
 -- up to so many rules after others of these names, to the text's end

@@ -42,23 +42,23 @@ form_words (form.Less t u) = codes "<" ∷ term_word t ∷ term_word u ∷ []
 
 -- the beginning of a form, and what follows; all but `true` are in parentheses
 abbrev pub spelt : Form → List Token → List Token
-spelt form.True behind = codes "true" ∷ behind
-spelt form behind = left ∷ (form_words form ++ behind)
+spelt form.True following = codes "true" ∷ following
+spelt form following = left ∷ (form_words form ++ following)
 
 -- what ends a form, and what follows
 abbrev pub form_end : Form → List Token → List Token
-form_end form.True behind = behind
-form_end form behind = right ∷ behind
+form_end form.True following = following
+form_end form following = right ∷ following
 
 -- the tokens of formulas in a row, and what follows
 abbrev pub tokens_then : Trees → List Token → List Token
-tokens_then no_trees behind = behind
-tokens_then (tree_then form parts rest) behind = spelt form (tokens_then parts (form_end form (tokens_then rest
-    behind)))
+tokens_then no_trees following = following
+tokens_then (tree_then form parts rest) following = spelt form (tokens_then parts (form_end form (tokens_then rest
+    following)))
 
 -- the tokens of a rule, and what follows
 abbrev pub rule_then : RuleTree → List Token → List Token
-rule_then rule behind = left ∷ codes "rule" ∷ rule.name ∷ tokens_then rule.body (right ∷ behind)
+rule_then rule following = left ∷ codes "rule" ∷ rule.name ∷ tokens_then rule.body (right ∷ following)
 
 -- the tokens of rules
 abbrev pub rules_tokens : List RuleTree → List Token

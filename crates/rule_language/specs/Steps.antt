@@ -73,8 +73,8 @@ in_turn first second = do
   give (a, b)
 
 -- a word, and then a thing
-unfoldable pub behind : {A : Type 0} → Token → Read A → Read A
-behind word read = do
+unfoldable pub after : {A : Type 0} → Token → Read A → Read A
+after word read = do
   it ← take (only word)
   read
 

@@ -35,7 +35,7 @@ abbrev pub longer : ℕ → ℕ → Row → Row
 longer at byte (token_then next word rest) = token_then at (byte ∷ word) rest
 longer at byte row = row
 
--- a byte and the row behind it, whose first word goes on with the byte or not
+-- a byte and the row after it, whose first word goes on with the byte or not
 abbrev pub byte_then : ℕ → ℕ → Bool → Row → Row
 byte_then at byte joined row =
     if is_separator byte then row

@@ -43,7 +43,7 @@ pub(crate) fn quantifier(
 }
 
 /// Takes `before` and a variable, if they are there.
-#[tactic(auto, unfolding(crate::specs::Steps::behind, crate::specs::Steps::made_into))]
+#[tactic(auto, unfolding(crate::specs::Steps::after, crate::specs::Steps::made_into))]
 pub(crate) fn read_range(
     text: &[u8],
     token: &mut Span,

@@ -51,7 +51,7 @@ fn read_name(
 }
 
 /// Takes a rule after these.
-#[tactic(auto, unfolding(crate::specs::Reader::rule, crate::specs::Steps::behind, crate::specs::Steps::made_into, crate::specs::Steps::in_turn, crate::specs::Steps::closed,),)]
+#[tactic(auto, unfolding(crate::specs::Reader::rule, crate::specs::Steps::after, crate::specs::Steps::made_into, crate::specs::Steps::in_turn, crate::specs::Steps::closed,),)]
 fn read_rule(
     alloc: Global,
     text: &[u8],

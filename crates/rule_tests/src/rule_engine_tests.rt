@@ -52,7 +52,7 @@ fn empty(alloc: Global) -> Place {
 }
 
 /// A node that names the one before it, where there is one.
-fn behind(alloc: Global, count: u32) -> Result<Listed, AllocError> {
+fn following(alloc: Global, count: u32) -> Result<Listed, AllocError> {
     let mut parents = Vec::new(alloc);
     if count > 0 {
         parents.push(count - 1)?;
@@ -75,7 +75,7 @@ fn chain_of(alloc: Global, entries: &str, ragged: usize) -> Result<Place, AllocE
     let mut count = 0u32;
     for words in entries.split(", ") {
         let is_ragged = count as usize == ragged;
-        add(&mut place, behind(alloc, count)?, is_ragged, words)?;
+        add(&mut place, following(alloc, count)?, is_ragged, words)?;
         count = count.saturating_add(1);
     }
     Ok(place)
@@ -85,7 +85,7 @@ fn chain_of(alloc: Global, entries: &str, ragged: usize) -> Result<Place, AllocE
 fn crowd_of(alloc: Global, count: u32) -> Result<Place, AllocError> {
     let mut place = empty(alloc);
     for _ in 0..count {
-        add(&mut place, behind(alloc, 0)?, false, "opened 0 0 0")?;
+        add(&mut place, following(alloc, 0)?, false, "opened 0 0 0")?;
     }
     Ok(place)
 }

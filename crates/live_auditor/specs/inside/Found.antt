@@ -1,4 +1,4 @@
--- What shows that an entry is usual, by what is kept of the survivors.
+-- What shows that an entry is appended, by what is kept of the survivors.
 use Rattle.std.specs.Prelude.{◌≡◌, ℕ, ◌<◌, ◌&&◌, ◌==◌, ◌⊎◌, nat_lt, false, true, List, length, Some}
 use Rattle.std.specs.Prelude.{slice_get}
 use Rattle.std.specs.List.{Contains, list_all, list_any}
@@ -26,7 +26,7 @@ pub record IsApartBy (gaps digests : List (List ℕ)) (rows : List Row) (e : Sea
   pub finds : FindsNames digests e.entry.names parents missing
 
 -- it has the highest stamp too
-pub record IsUsualBy (added : List SealedEntry) (gaps digests : List (List ℕ)) (rows : List Row)
+pub record IsAppendedBy (added : List SealedEntry) (gaps digests : List (List ℕ)) (rows : List Row)
     (e : SealedEntry) (parents : List ℕ) (missing : List (List ℕ)) : Type 0 where
   pub latest : list_all (λ (f : SealedEntry). nat_lt f.entry.stamp e.entry.stamp) added ≡ true
   pub apart : IsApartBy gaps digests rows e parents missing

@@ -1,5 +1,5 @@
 use Rattle.canonical_sexp.proofs.Imports.{◌∙◌, ap, sym, arith, length, atom_text}
-use Rattle.canonical_sexp.proofs.InPlace.{begins_low, is_atom, behind_length, not_cut, not_bad}
+use Rattle.canonical_sexp.proofs.InPlace.{begins_low, is_atom, after_length, not_cut, not_bad}
 use Rattle.canonical_sexp.proofs.scanning.octets_in.Goals as goal
 
 pub returns-then-bytes-eq40-clause-none : goal.returns-then-bytes-eq40-clause-none
@@ -14,7 +14,7 @@ pub returns-in-Whole-clause-found : goal.returns-in-Whole-clause-found
 returns-in-Whole-clause-found c =
     let (tree, (fits, text)) = c.requires in
     let atom = is_atom c.args.bytes.now tree fits text c.if-bytes-eq40.false in
-    let same = behind_length c.args.bytes.now atom.octets c.in-Whole.octets c.in-Whole.used atom.few atom.spelt
+    let same = after_length c.args.bytes.now atom.octets c.in-Whole.octets c.in-Whole.used atom.few atom.spelt
     c.in-Whole.ensures.few c.in-Whole.ensures.spelt in
     (omega (arith, ap length same, atom.few), atom.spelt ∙ ap atom_text (sym same))
 

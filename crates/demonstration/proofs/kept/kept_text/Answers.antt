@@ -1,6 +1,6 @@
 use Rattle.demonstration.proofs.Imports.{◌∙◌, ◌+◌, List, length, ap, subst, inl, inr, arith, SealedEntry, Event}
 use Rattle.demonstration.proofs.Imports.{HasNoEnd, IsLastEnd}
-use Rattle.demonstration.proofs.Records.{behind_within, cut_is}
+use Rattle.demonstration.proofs.Records.{after_within, cut_is}
 use Rattle.demonstration.proofs.kept.kept_text.Goals as goal
 
 pub begin_of-end-requires : goal.begin_of-end-requires
@@ -8,7 +8,7 @@ begin_of-end-requires c =
     let log = c.args.log.now in
     omega (
       arith,
-      behind_within log.owner c.events-events.result.now log.events (c.in-Some.place + 1) c.as_slice.result.now
+      after_within log.owner c.events-events.result.now log.events (c.in-Some.place + 1) c.as_slice.result.now
           c.events-events.ensures.events (c.as_slice.ensures.value ∙ c.in_ok-text.ensures.text),
     )
 

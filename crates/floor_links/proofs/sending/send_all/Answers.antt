@@ -23,7 +23,7 @@ module _ (links : List (List LinkView)) (loses : List Lose) (own number count : 
   some_left : to < count → own < count → to ≢ own → 0 < length copies
   some_left lt inside differs =
       elim (cases_lt own to) [
-        | inl h ↦ (let b = is.behind h in omega arith)
+        | inl h ↦ (let b = is.following h in omega arith)
         | inr h ↦ (let b = is.before h in omega arith)
       ]
 

@@ -1,7 +1,7 @@
 use Rattle.std.proofs.Common.{◌∙◌, ◌++◌, ap, sym, List, append_assoc}
 use Rattle.hall_text.specs.declared.spans.Span.{Span}
 use Rattle.hall_text.proofs.NextTokens.{token_then, no_token_there}
-use Rattle.hall_text.proofs.TokenLemmas.{between_behind, between_none}
+use Rattle.hall_text.proofs.TokenLemmas.{between_after, between_none}
 use Rattle.hall_text.proofs.spans.tokens.Goals as goal
 
 -- a token begins at the place
@@ -11,7 +11,7 @@ loop-at-preserved-then-at-end c = record {
       (ap (λ (more : List Span). c.loop-at.spans.items ++ more)
       (sym (token_then c.args.text.now c.loop-at.at c.token_end-end.result c.loop-at-test.true
       c.token_end-end.ensures.value c.if-at-end.true)) ∙ c.loop-at.invariant.all);
-  between = between_behind c.args.text.now c.loop-at.at c.token_end-end.result c.if-at-end.true
+  between = between_after c.args.text.now c.loop-at.at c.token_end-end.result c.if-at-end.true
       (c.token_end-end.ensures.token c.if-at-end.true);
 }
 

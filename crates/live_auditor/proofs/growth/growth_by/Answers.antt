@@ -4,7 +4,7 @@ use Rattle.live_auditor.proofs.growth.growth_by.Goals as goal
 
 pub verdicts_by-requires-clause-falls : goal.verdicts_by-requires-clause-falls
 verdicts_by-requires-clause-falls c =
-    let link = c.to-link.ensures ∙ ap (link_to c.args.usual.named.parents.items) c.as_slice-2.ensures.value in
+    let link = c.to-link.ensures ∙ ap (link_to c.args.appended.named.parents.items) c.as_slice-2.ensures.value in
     let later = c.from_ref.ensures.value ∙ ap (λ (l : Links). l ∷ []) link in
     subst (λ (links : List Links). Descends (parents_of (links ++ c.from_ref.result.now)))
     (sym c.as_slice-links.ensures.value)

@@ -67,9 +67,9 @@ read_parts-parts-preserved t c =
     c.in_ok-part-2.part in
     record {
       all = rw (less, row) (c.parts.invariant.all
-          ∙ ap (λ n. follow (parts n each before) (λ more behind. Ok (
+          ∙ ap (λ n. follow (parts n each before) (λ more following. Ok (
             joined_trees (trees_of c.parts.parts.items) more,
-            behind,
+            following,
           ))) more
           ∙ parts_more (63 - vec_len c.parts.parts) each before _ _ _ other
           (sym (c.in_ok-part-2.ensures.value (λ is. cc is))));

@@ -6,8 +6,8 @@ pub new-requires : goal.new-requires
 new-requires c =
     let (tree, text) = c.in-Whole.ensures in
     let (fits, row) = c.bytes-bytes.ensures in
-    let behind = taken c.bytes-bytes.result.now c.args.self.now c.in-Whole.used tree fits row text.fits text.spelt in
-    row_spelt _ behind.rest behind.fits (take_rest c.bytes-bytes.result.now c.in-Whole.used ∙ behind.spelt)
+    let following = taken c.bytes-bytes.result.now c.args.self.now c.in-Whole.used tree fits row text.fits text.spelt in
+    row_spelt _ following.rest following.fits (take_rest c.bytes-bytes.result.now c.in-Whole.used ∙ following.spelt)
 
 pub new-requires-in-Whole : goal.new-requires-in-Whole
 new-requires-in-Whole c = let (tree, text) = c.in-Whole.ensures in spelt _ tree text.fits text.spelt
@@ -18,12 +18,12 @@ returns-in-Whole-clause-found c =
     let (fits, row) = c.bytes-bytes.ensures in
     let (rest_fits, rest_row) = c.new.ensures in
     let (found_fits, found_text) = c.new-in-Whole.ensures in
-    let behind = taken c.bytes-bytes.result.now c.args.self.now c.in-Whole.used tree fits row text.fits text.spelt in
-    let rest : behind.rest ≡ c.new.result = same_members behind.rest c.new.result behind.fits rest_fits
-    (sym behind.spelt ∙ sym (take_rest c.bytes-bytes.result.now c.in-Whole.used) ∙ rest_row) in
+    let following = taken c.bytes-bytes.result.now c.args.self.now c.in-Whole.used tree fits row text.fits text.spelt in
+    let rest : following.rest ≡ c.new.result = same_members following.rest c.new.result following.fits rest_fits
+    (sym following.spelt ∙ sym (take_rest c.bytes-bytes.result.now c.in-Whole.used) ∙ rest_row) in
     let found : tree ≡ c.new-in-Whole.result =
     same_text tree c.new-in-Whole.result text.fits found_fits (sym text.spelt ∙ found_text) in
-    behind.is ∙ ap (λ t. in_front t behind.rest) found ∙ ap (in_front c.new-in-Whole.result) rest
+    following.is ∙ ap (λ t. in_front t following.rest) found ∙ ap (in_front c.new-in-Whole.result) rest
 
 pub returns-in-Cut : goal.returns-in-Cut
 returns-in-Cut c =

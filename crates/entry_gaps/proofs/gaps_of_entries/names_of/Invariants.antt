@@ -1,8 +1,0 @@
-use Rattle.std.proofs.Common.{◌≡◌, take}
-use Rattle.std.specs.List.{flat_map}
-use Rattle.entry_gaps.proofs.gaps_of_entries.names_of.Given as goal
-
--- the names of the entries so far
-abbrev pub invariant-loop-entry : goal.invariant-loop-entry
-invariant-loop-entry g l =
-    l.names.items ≡ flat_map (λ entry. (g.T.Knot.node entry).names) (take l.entry-index l.entries)

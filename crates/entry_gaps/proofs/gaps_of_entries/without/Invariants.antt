@@ -1,7 +1,0 @@
-use Rattle.std.proofs.Common.{take}
-use Rattle.entry_gaps.specs.inside.Without.{IsWithout}
-use Rattle.entry_gaps.proofs.gaps_of_entries.without.Given as goal
-
--- what is found is the digests so far without those that an entry has
-abbrev pub invariant-loop-i : goal.invariant-loop-i
-invariant-loop-i l = IsWithout (take l.i l.named) l.borne l.found.items

@@ -1,2 +1,0 @@
--- Definitions that no public clause needs.
-pub mod Without

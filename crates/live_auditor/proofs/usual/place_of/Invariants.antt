@@ -1,8 +1,0 @@
-use Rattle.std.proofs.Common.{◌≡◌}
-use Rattle.live_auditor.proofs.Imports.{ℕ, ◌<◌, ◌≤◌, Some, length, slice_get}
-use Rattle.live_auditor.proofs.usual.place_of.Given as goal
-
--- the digest is at no place from this one on
-abbrev pub invariant-loop-place : goal.invariant-loop-place
-invariant-loop-place l =
-    (k : ℕ) → l.place ≤ k → k < length l.digests → slice_get l.digests k ≡ Some l.digest → ⊥

@@ -1,0 +1,150 @@
+//! Whether an entry is appended: one after which nothing needs to be said anew of the other survivors.
+ghost use Rattle.std.specs.Prelude.{◌≡◌, ◌<◌, ◌≤◌, ◌&&◌, ◌==◌, nat_lt, length, slice_get};
+ghost use Rattle.std.specs.Prelude.{IfNone, IfOk, IfSome, Some};
+ghost use Rattle.std.specs.List.{Contains, list_all, list_any};
+ghost use Rattle.std.specs.Str.{bytes_eq};
+ghost use Rattle.survivor_rows.specs.Rows.{row_of};
+ghost use Rattle.live_auditor.specs.inside.Found.{FindsNames, IsApartBy, IsAppendedBy};
+
+use crate::survivors::Survivors;
+use entry_format::Sealed;
+use entry_order::Knot;
+use roster::Roster;
+use rule_language::Row;
+use std::alloc::{AllocError, Global};
+use survivor_rows::row_of;
+
+/// The most survivors of a graph.
+const MOST_SURVIVORS: usize = 16_384;
+
+/// Whether the entry has a higher stamp than each of the others.
+fn is_latest(added: &[Sealed], entry: &Sealed) -> bool
+    ensures { result ≡ list_all (λ f. nat_lt f.entry.stamp entry.now.entry.stamp) added.now }
+{
+    added.iter().all(|f| f.entry().stamp < entry.entry().stamp)
+}
+
+/// Whether the digest is one of these.
+fn is_among(digests: &[[u8; 32]], digest: &[u8; 32]) -> bool
+    ensures { result ≡ list_any (λ d. bytes_eq d digest.now) digests.now }
+{
+    digests.iter().any(|d| d == digest)
+}
+
+/// Whether one of the rows has this maker and number.
+fn is_numbered(rows: &[Row], maker: u32, number: u32) -> bool
+    ensures { result ≡ list_any (λ row. (row.maker == maker) && (row.number == number)) rows.now }
+{
+    rows.iter()
+        .any(|row| row.maker == maker && row.number == number)
+}
+
+/// Where the digest is in the list, the last place of several.
+fn place_of(digests: &[[u8; 32]], digest: &[u8; 32]) -> Option<usize>
+    ensures some { IfSome result (λ place. slice_get digests.now place ≡ Some digest.now) }
+    ensures none { IfNone result (Contains digests.now digest.now → ⊥) }
+{
+    for place in (0..digests.len()).rev() {
+        if digests[place] == *digest {
+            return Some(place);
+        }
+    }
+    None
+}
+
+/// Where the names of an entry are in the list, and those of them that aren't there.
+#[derive(Drop)]
+pub(crate) struct Named {
+    pub(crate) parents: Vec<u32>,
+    pub(crate) missing: Vec<[u8; 32]>,
+}
+
+/// Where these names are among the digests, and those that aren't there.
+fn named_in(alloc: Global, digests: &[[u8; 32]], names: &[[u8; 32]]) -> Result<Named, AllocError>
+    requires { length digests.now ≤ 16384 }
+    ensures { IfOk result (λ named.
+        FindsNames digests.now names.now named.parents.items named.missing.items) }
+{
+    let mut parents = Vec::with_capacity(alloc, names.len())?;
+    let mut missing = Vec::new(alloc);
+    for name in names {
+        match place_of(digests, name) {
+            Some(place) => parents.push(place as u32)?,
+            None => missing.push(*name)?,
+        }
+    }
+    Ok(Named { parents, missing })
+}
+
+/// What the entry names among the survivors, if none of them and no gap is changed by it where it
+/// comes after all of them: it closes no gap, is no fork and doesn't name itself.
+pub(crate) fn apart_names(
+    alloc: Global,
+    gaps: &[[u8; 32]],
+    survivors: &Survivors,
+    entry: &Sealed,
+) -> Result<Option<Named>, AllocError>
+    ensures { IfOk result (λ found. IfSome found (λ named. IsApartBy gaps.now
+        survivors.now.digests.items survivors.now.rows.items entry.now
+        named.parents.items named.missing.items)) }
+{
+    if survivors.digests.len() >= MOST_SURVIVORS
+        || is_among(gaps, entry.digest())
+        || is_among(entry.names(), entry.digest())
+        || is_numbered(survivors.rows.as_slice(), entry.maker(), entry.number())
+    {
+        return Ok(None);
+    }
+    let named = named_in(alloc, survivors.digests.as_slice(), entry.names())?;
+    Ok(Some(named))
+}
+
+/// What the entry names among the survivors, if it is appended.
+fn appended_names(
+    alloc: Global,
+    added: &[Sealed],
+    gaps: &[[u8; 32]],
+    survivors: &Survivors,
+    entry: &Sealed,
+) -> Result<Option<Named>, AllocError>
+    ensures { IfOk result (λ found. IfSome found (λ named. IsAppendedBy added.now gaps.now
+        survivors.now.digests.items survivors.now.rows.items entry.now
+        named.parents.items named.missing.items)) }
+{
+    if !is_latest(added, entry) {
+        return Ok(None);
+    }
+    apart_names(alloc, gaps, survivors, entry)
+}
+
+/// What an appended entry is for the survivors: what it names among them, and its row.
+#[derive(Drop)]
+pub(crate) struct Appended {
+    pub(crate) named: Named,
+    pub(crate) row: Row,
+}
+
+/// What the entry is for the survivors, if it is appended.
+pub(crate) fn appended_in(
+    alloc: Global,
+    roster: &Roster,
+    added: &[Sealed],
+    gaps: &[[u8; 32]],
+    survivors: &Survivors,
+    entry: &Sealed,
+) -> Result<Option<Appended>, AllocError>
+    requires { entry.now.entry.maker < length roster.now.machines }
+    ensures named { IfOk result (λ found. IfSome found (λ appended. IsAppendedBy added.now gaps.now
+        survivors.now.digests.items survivors.now.rows.items entry.now
+        appended.named.parents.items appended.named.missing.items)) }
+    ensures row { IfOk result (λ found. IfSome found
+        (λ appended. appended.row ≡ row_of roster.now.machines entry.now)) }
+{
+    let Some(named) = appended_names(alloc, added, gaps, survivors, entry)? else {
+        return Ok(None);
+    };
+    Ok(Some(Appended {
+        named,
+        row: row_of(roster, entry),
+    }))
+}
