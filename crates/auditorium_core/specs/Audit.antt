@@ -36,10 +36,10 @@ abbrev pub Completes : List Post → List SealedEntry → List Plain → Type 0
 Completes machines survivors G = Completion node_of (length machines) (plains survivors) G
 
 -- What the verdicts of a report mean: a rule that is reported kept holds whatever was
--- lost, and one that is reported broken holds in no case. There is such a case. A rule is unsettled
--- only where there is a gap. A standard rule that is unsettled holds in some case and doesn't hold in
--- another, so nobody can settle it by the same survivors (of P3 under a condition); and so it is of
--- rules of one's own of a class.
+-- lost, and one that is reported broken holds in no case. `some`: there is a way to complete the
+-- survivors, so neither is said of nothing. A rule is unsettled only where there is a gap. A standard
+-- rule that is unsettled holds in some case and doesn't hold in another, so nobody can settle it by the
+-- same survivors (of P3 under a condition); and so it is of rules of one's own of a class.
 pub record IsSound (report : AuditReport) : Type 0 where
   pub kept : AllZip
       (λ rule is. is ≡ verdict.Kept → (G : List Plain) → Completes report.machines report.graph.survivors G →

@@ -123,7 +123,8 @@ check_answer rules verdicts = record {
 }
 
 -- The answer is that of the report. Whoever made the proof, a rule that is called kept holds
--- whatever was lost, and one that is called broken holds in no case. There is such a case.
+-- whatever was lost, and one that is called broken holds in no case. `some`: there is a way to complete
+-- the survivors, so neither is said of nothing.
 pub record IsCheckOf (report : CheckReport) (answer : Answer) : Type 0 where
   pub kept : AllZip
       (λ rule is. is ≡ Kept → (G : List Plain) → Completes report.machines report.survivors G →

@@ -53,7 +53,7 @@ pub record IsHonestOrder (script : Script) (w : World SealedEntry) (x y : List �
       MeansEntry (roster_of script) graph.survivors y f →
       (order : IsOrderOf graph.survivors e f answer) → IsHonestWord w files e f order.word
 
--- The answer is such a one where different entries of w have different digests. A word over all
+-- The answer is that of an honest order where different entries of w have different digests. A word over all
 -- logs of w, whole, shows that they have.
 pub record IsOrderOfPlace (script : Script) (w : World SealedEntry) (x y : List ℕ) (names : List (List ℕ))
     (files : List (Option (List ℕ))) (answer : Answer) : Type 0 where

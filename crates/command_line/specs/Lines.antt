@@ -49,7 +49,7 @@ status_of (byte ∷ bytes) = status.Findings
 abbrev pub findings_answer : List ℕ → Answer
 findings_answer lines = record { status = status_of lines; files = []; ahead = 0; output = lines }
 
--- undone, where there is such a line
+-- undone, where there is any line
 abbrev pub status_of_undone : List ℕ → Status
 status_of_undone [] = status.Done
 status_of_undone (byte ∷ bytes) = status.Undone

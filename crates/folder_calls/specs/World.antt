@@ -53,7 +53,8 @@ stands name entry w = record w {
 abbrev pub removed : List ℕ → FolderMoment → FolderMoment
 removed name w = stands name None w
 
--- what had one name has the other, and what had that one has it no longer (POSIX.1-2017, rename())
+-- the file of the first name has the second, the file that had the second has that name no longer, and
+-- the first name stands for nothing (POSIX.1-2017, rename())
 abbrev pub renamed : List ℕ → List ℕ → FolderMoment → FolderMoment
 renamed from to w = stands to (w.at from) (stands from None w)
 

@@ -9,7 +9,8 @@ use Rattle.hall_outside.specs.declared.reading.FileFault.{FileFault}
 use Rattle.hall_outside.specs.declared.reading.FileFault.TheVariants.{Absent, TooLong, ReadFault, Memory}
 use Rattle.hall_outside.specs.Files.{OnFile}
 
--- what a refusal says of the file
+-- What a refusal says of the file: that there is none, or that it is longer than the limit. A failed
+-- read and want of memory say nothing of it.
 abbrev pub IsFileRefused : ℕ → FileFault → Option (List ℕ) → Type 0
 IsFileRefused limit Absent file = file ≡ None
 IsFileRefused limit TooLong file = IsSomeAnd file (λ bytes. limit < length bytes)

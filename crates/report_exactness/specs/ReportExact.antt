@@ -31,15 +31,17 @@ pub record MayBe (report : AuditReport) (plain : Plain) : Type 0 where
 abbrev pub rows_of : AuditReport → Plain → Row
 rows_of report plain = row_said report.machines plain.entry
 
--- of the entries that such entries complete, some keep the rule, and some break it
+-- there are two ways to complete the report's survivors by entries that may be, each of them allowed:
+-- one keeps the rule, the other breaks it
 abbrev pub IsOpenFor : (List Plain → Type 0) → AuditReport → RuleTree → Type 0
 IsOpenFor Allowed report rule =
     IsOpen node_of (rows_of report) (MayBe report) Allowed (length report.machines) (plains report.graph.survivors)
     rule.body
 
--- The rule may have been kept and may have been broken, even if no entry precedes itself: a standard
--- one other than P3, and one of one's own that doesn't both ask for a kind and forbid it. So may P3,
--- where no end of a session precedes an authorising of it.
+-- The rule may have been kept and may have been broken, even in graphs in which no entry precedes
+-- itself: `standard`, each standard rule but P3; `own`, a rule of one's own in which no kind is both
+-- asked for and forbidden. `ends`: P3 may have been either in some graph, where no end of a session
+-- precedes an authorising of it.
 pub record MayBeEither (report : AuditReport) (rule : RuleTree) : Type 0 where
   pub standard : Contains standard_rules rule → rule.body ≢ p3_body →
       IsOpenFor (IsAcyclic node_of) report rule

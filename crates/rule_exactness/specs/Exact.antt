@@ -94,19 +94,22 @@ module _ {T : Type 0} (node : T → Node) (row : T → Row) where
       ((row z).kind ≢ kind.Cast) × ((row z).kind ≢ kind.Cancel) × ((row z).kind ≢ kind.Challenge)
 
 module _ {T : Type 0} (node : T → Node) (row : T → Row) (MayBe : T → Type 0) where
-  -- entries that complete the survivors, each a survivor or one that may be, and of which this holds
+  -- G completes the survivors S, each of its entries is a survivor or one that may be, and G is allowed.
+  -- `MayBe` and `Allowed` are left open here: who uses this says which entries may have been lost, and
+  -- which graphs are thought of.
   pub record MayComplete (Allowed : List T → Type 0) (machines : ℕ) (S G : List T) : Type 0 where
     pub whole : Completion node machines S G
     pub each : (e : T) → Contains G e → Contains S e ⊎ MayBe e
     pub allowed : Allowed G
 
-  -- some such entries keep the rule, and some break it
+  -- some G that may complete the survivors keeps the rule, and some G breaks it
   pub record IsOpen (Allowed : List T → Type 0) (machines : ℕ) (S : List T) (rule : Trees) : Type 0 where
     pub kept : (G : List T) × MayComplete Allowed machines S G × Holds node row S G rule
     pub broken : (G : List T) × MayComplete Allowed machines S G × (¬ Holds node row S G rule)
 
-  -- The value is all that the survivors tell of the rule: it is true exactly where all such entries
-  -- keep it, false exactly where none do, and unknown exactly where some keep it and some break it.
+  -- The value is all that the survivors tell of the rule: it is true exactly where each G that may
+  -- complete them keeps it, false exactly where none does, and unknown exactly where some G keeps it
+  -- and some G breaks it.
   pub record IsAllThatIsTold (Allowed : List T → Type 0) (machines : ℕ) (S : List T) (rule : Trees) (is : Three)
       : Type 0 where
     pub kept : (is ≡ True) ↔ ((G : List T) → MayComplete Allowed machines S G → Holds node row S G rule)

@@ -83,9 +83,10 @@ abbrev pub all_tests : List (Bool → Bool) → Bool → Bool
 all_tests [] p = true
 all_tests (t ∷ ts) p = t p && all_tests ts p
 
--- Whether lost entries of these kinds lead the form to the truth value p, and none of them to the
--- other. What came before is spoken of in `some v KIND before u BODY` alone: of one of these kinds
--- where p is to be true, of another where it is to be false.
+-- Whether lost entries of the kinds that `filled` tells lead the form to the truth value p, whatever
+-- the survivors are. A form that asks what came before (`some v KIND before u BODY`) is led to true
+-- where its kind is one of these, and to false where it isn't; `every .. before` and `before` are never
+-- led; a connective is led as its parts are, and what is said of single entries goes either way.
 abbrev pub leads_form : (Kind → Bool) → List ℕ → Form → Trees → (List ℕ → List (Bool → Bool)) → Bool → Bool
 leads_form filled bound (form.ForEvery v k) parts inside p = first_test (inside (v ∷ bound)) p
 leads_form filled bound (form.ForSome v k) parts inside p = first_test (inside (v ∷ bound)) p
