@@ -7,7 +7,7 @@ ghost use Rattle.entry_order.specs.Survivors.{gaps as gaps_of};
 ghost use Rattle.log_frontier.specs.Places.{HasNoDigestTwice, IsBorneAt, NamesUnborne, StandsFor};
 
 use crate::digest_places::DigestPlaces;
-use crate::gaps::{ascending, gaps};
+use crate::gaps_of_entries::{ascending, gaps};
 use crate::noting::{is_last_named, note_last, note_tables, wants_by_scan};
 use crate::wanted::Wanted;
 use entry_order::{Knot, gaps_are_unique};

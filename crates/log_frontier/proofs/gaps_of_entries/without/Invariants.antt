@@ -1,6 +1,6 @@
 use Rattle.std.proofs.Common.{take}
 use Rattle.log_frontier.specs.inside.Without.{IsWithout}
-use Rattle.log_frontier.proofs.gaps.without.Given as goal
+use Rattle.log_frontier.proofs.gaps_of_entries.without.Given as goal
 
 -- what is found is the digests so far without those that an entry has
 abbrev pub invariant-loop-i : goal.invariant-loop-i

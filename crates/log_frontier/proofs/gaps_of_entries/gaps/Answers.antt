@@ -1,7 +1,7 @@
 use Rattle.std.proofs.Common.{◌∙◌, List, ℕ, subst}
 use Rattle.log_frontier.specs.inside.Without.{IsWithout}
 use Rattle.log_frontier.proofs.GapMembers.{gaps_from}
-use Rattle.log_frontier.proofs.gaps.gaps.Goals as goal
+use Rattle.log_frontier.proofs.gaps_of_entries.gaps.Goals as goal
 
 pub returns : goal.returns
 returns g c =

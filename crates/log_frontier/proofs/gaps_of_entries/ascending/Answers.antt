@@ -3,7 +3,7 @@ use Rattle.std.specs.List.{Contains}
 use Rattle.std.proofs.lemmas.List.Sorted.{IsPermutation-sym, Contains-permutation}
 use Rattle.entry_order.proofs.Lists.{Contains-none}
 use Rattle.log_frontier.specs.inside.Without.{IsWithout}
-use Rattle.log_frontier.proofs.gaps.ascending.Goals as goal
+use Rattle.log_frontier.proofs.gaps_of_entries.ascending.Goals as goal
 
 -- what is taken once from the sorted digests rises and has their members
 pub returns : goal.returns

@@ -6,11 +6,11 @@ use Rattle.std.proofs.lemmas.List.{get_or_default}
 use Rattle.std.proofs.lemmas.Slice.Eq.{bytes_eq-Decides}
 use Rattle.log_frontier.specs.inside.Without.{IsWithout}
 use Rattle.log_frontier.proofs.SortedDigests.{not_found, is_found, skips, takes_up}
-use Rattle.log_frontier.proofs.gaps.without.Goals as goal
-use Rattle.log_frontier.proofs.gaps.without.Goals.{then-i-gt0, else-i-gt0}
-use Rattle.log_frontier.proofs.gaps.without.Goals.{then-not-is_again+then-is_err+in_ok-push, else-not-is_again}
-use Rattle.log_frontier.proofs.gaps.without.Goals.{else-not-is_again-via-then-not-is_again+else-is_err}
-use Rattle.log_frontier.proofs.gaps.without.Goals.{else-not-is_again-via-else-not-is_again}
+use Rattle.log_frontier.proofs.gaps_of_entries.without.Goals as goal
+use Rattle.log_frontier.proofs.gaps_of_entries.without.Goals.{then-i-gt0, else-i-gt0}
+use Rattle.log_frontier.proofs.gaps_of_entries.without.Goals.{then-not-is_again+then-is_err+in_ok-push, else-not-is_again}
+use Rattle.log_frontier.proofs.gaps_of_entries.without.Goals.{else-not-is_again-via-then-not-is_again+else-is_err}
+use Rattle.log_frontier.proofs.gaps_of_entries.without.Goals.{else-not-is_again-via-else-not-is_again}
 
 pub loop-i-preserved : goal.loop-i-preserved
 loop-i-preserved c =

@@ -1,6 +1,6 @@
 use Rattle.std.proofs.Common.{◌≡◌, take}
 use Rattle.std.specs.List.{flat_map}
-use Rattle.log_frontier.proofs.gaps.names_of.Given as goal
+use Rattle.log_frontier.proofs.gaps_of_entries.names_of.Given as goal
 
 -- the names of the entries so far
 abbrev pub invariant-loop-entry : goal.invariant-loop-entry

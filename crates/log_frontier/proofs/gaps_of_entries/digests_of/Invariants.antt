@@ -1,5 +1,5 @@
 use Rattle.std.proofs.Common.{◌≡◌, map, take}
-use Rattle.log_frontier.proofs.gaps.digests_of.Given as goal
+use Rattle.log_frontier.proofs.gaps_of_entries.digests_of.Given as goal
 
 -- the digests of the entries so far
 abbrev pub invariant-loop-entry : goal.invariant-loop-entry
