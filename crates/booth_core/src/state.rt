@@ -1,6 +1,5 @@
 //! The booth's state and its rules.
 ghost use Rattle.std.specs.Prelude.{◌≡◌, ◌↔◌, ◌+◌, ◌≤◌, List, [], ◌∷◌, ◌++◌, ℕ, IfOk, IsTrue};
-ghost use Rattle.std.specs.Prelude.{vec_capacity};
 ghost use Rattle.entry_format.specs.declared.entry.Entry.{Entry};
 ghost use Rattle.entry_format.specs.Deeds.{IsDeedOf};
 ghost use Rattle.roster.specs.declared.post.Role.TheVariants.{Booth};
@@ -10,6 +9,7 @@ ghost use Rattle.booth_core.specs.Table.{Refuses};
 ghost use Rattle.booth_core.specs.CauseWords.{booth_not_word};
 
 use crate::commitment::{Commitment, has_commitment, has_committed};
+use deed_history::two_lists;
 use entry_format::{Deed, Entry, How};
 use item_list::first_of;
 use std::alloc::{AllocError, Global};
@@ -248,13 +248,4 @@ impl BoothState {
             Deed::Opened | Deed::Authorise { .. } | Deed::Override { .. } | Deed::Closed => Ok(()),
         }
     }
-}
-
-// Two empty lists with room for `count` sessions each.
-fn two_lists(alloc: Global, count: usize) -> Result<(Vec<u32>, Vec<u32>), Memory>
-    ensures first { IfOk result (λ r. (r.0.items ≡ []) × (count ≤ vec_capacity r.0)) }
-    ensures second { IfOk result (λ r. (r.1.items ≡ []) × (count ≤ vec_capacity r.1)) }
-{
-    let first = Vec::with_capacity(alloc, count)?;
-    Ok((first, Vec::with_capacity(alloc, count)?))
 }

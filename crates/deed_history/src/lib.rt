@@ -2,3 +2,7 @@
 //! holds, sent or received, in the order in which it came to hold them. The definitions are in
 //! `specs/`, and lemmas about them in `proofs/`.
 #![tactic(auto)]
+
+mod lists;
+
+pub use lists::two_lists;

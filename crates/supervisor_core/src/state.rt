@@ -12,7 +12,6 @@ ghost use Rattle.std.specs.Prelude.{
   IfOk,
   IsTrue,
   Contains,
-  vec_capacity,
 };
 ghost use Rattle.entry_format.specs.declared.entry.Entry.{Entry};
 ghost use Rattle.entry_format.specs.declared.deed.How.TheVariants.{Cast};
@@ -24,6 +23,7 @@ ghost use Rattle.supervisor_core.specs.Table.{Refuses};
 ghost use Rattle.supervisor_core.specs.CauseWords.{supervisor_not_word};
 
 use crate::running::{Running, end_session, is_any_left, is_busy};
+use deed_history::two_lists;
 use entry_format::{Deed, Entry, How};
 use item_list::first_of;
 use std::alloc::{AllocError, Global};
@@ -262,13 +262,4 @@ impl SupervisorState {
             | Deed::Challenge { .. } => Ok(()),
         }
     }
-}
-
-// Two empty lists with room for `count` sessions each.
-fn two_lists(alloc: Global, count: usize) -> Result<(Vec<u32>, Vec<u32>), Memory>
-    ensures first { IfOk result (λ r. (r.0.items ≡ []) × (count ≤ vec_capacity r.0)) }
-    ensures second { IfOk result (λ r. (r.1.items ≡ []) × (count ≤ vec_capacity r.1)) }
-{
-    let first = Vec::with_capacity(alloc, count)?;
-    Ok((first, Vec::with_capacity(alloc, count)?))
 }
