@@ -47,7 +47,7 @@ pub use Rattle.election_script.specs.declared.script.StopAt.{StopAt}
 pub use Rattle.election_script.specs.declared.sheet.Sheet.{Sheet}
 pub use Rattle.election_script.specs.inside.Clears.{AreClear}
 pub use Rattle.election_script.specs.inside.Draft.{HasRoleAt, IsDone}
-pub use Rattle.election_script.specs.inside.Lines.{FindsFirst, IsInOrder, kind_of, line_words}
+pub use Rattle.election_script.specs.inside.Lines.{FindsFirst, IsInOrder, kind_of, line_words, reached_by}
 pub use Rattle.election_script.specs.inside.Sheets.{AreFew, IsFit, IsReached, IsSheet, IsSheetFull, IsWithin, blank}
 pub use Rattle.election_script.specs.inside.Sheets.{is_read, kept, listed, put, script_of, version_in, with_deeds}
 pub use Rattle.election_script.specs.inside.Words.{roles_of, stopped_of, texts_of, told}
