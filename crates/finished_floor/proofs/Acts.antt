@@ -127,15 +127,15 @@ module _ (loses : List Lose) (old : List MachineState) (before : List Loss) (ms 
             ];
       })
 
-  -- the copies are of its entry
-  pub copies_same : All (λ (x : SealedEntry). x ≡ e) copies
-  copies_same =
-      subst (All (λ (x : SealedEntry). x ≡ e)) (sym done.copied)
-      (All-replicate (λ (x : SealedEntry). x ≡ e) receivers e refl)
-
 module _ (ms : List MachineState) (at : ℕ) (m : MachineState) (stood : slice_get ms at ≡ Some m)
     (receivers number : ℕ) (copies : List SealedEntry) (new : MachineState)
     (done : IsDone m receivers number copies new) (numbers : AreNumbered ms) where
+  -- the copies are of its entry
+  pub copies_same : All (λ (x : SealedEntry). x ≡ done.entry) copies
+  copies_same =
+      subst (All (λ (x : SealedEntry). x ≡ done.entry)) (sym done.copied)
+      (All-replicate (λ (x : SealedEntry). x ≡ done.entry) receivers done.entry refl)
+
   -- its maker is the machine
   pub maker_at : done.entry.entry.maker ≡ at
   maker_at = (may_follow m.config m.events done.entry done.may).1.maker ∙ numbers at m stood

@@ -11,7 +11,7 @@ use Rattle.finished_floor.proofs.Imports.{is_of, is_lost, got_from, arriving, Di
 use Rattle.finished_floor.proofs.Imports.{IsMachine, IsWithinStop, has_stopped, is_reached, with_event, world_of}
 use Rattle.finished_floor.proofs.Imports.{history_there, set_cases, set_same, Config, ArePlaced, count_sent}
 use Rattle.finished_floor.proofs.Imports.{is_scripted, lost_by, IsLossCause, IsLicensed, AreNumbered, IsFate}
-use Rattle.finished_floor.proofs.Imports.{IsHanded, IsSwept, IsWaiting, Waits}
+use Rattle.finished_floor.proofs.Imports.{IsHanded, IsNumbered, IsSwept, IsWaiting, SweepsOn, SweptFloor, Waits}
 use Rattle.std.proofs.lemmas.List.{append_assoc}
 use Rattle.finished_floor.proofs.Arriving.{itself}
 use Rattle.finished_floor.proofs.Once.{differ_sym, once_append}
@@ -237,26 +237,20 @@ module _ (loses : List Lose) (old : List MachineState) (before : List Loss) (wai
           (Contains-head (loss_by why) [])
 
   -- the sweep goes on whether the handed entry is heard or lost
-  pub swept_handed : (new : List MachineState) (more : List Loss) → IsHanded loses to e ms losses new more →
-      IsSwept loses old before later new more
-  swept_handed new more hands =
-      by hands.cause hands.fate hands.losses
+  swept_handed : (new : List MachineState) (more : List Loss) (m then_machine : MachineState)
+      (cause : Option LossWhy) → slice_get ms to ≡ Some m →
+      IsFate (is_scripted loses from e.entry.number to) m e cause then_machine →
+      new ≡ slice_set ms to then_machine → more ≡ losses ++ lost_by e to cause → IsSwept loses old before later new more
+  swept_handed new more m then_machine cause stood fate changed after =
+      by cause fate after
     where
-      -- the machine that is handed the entry
-      m : MachineState
-      m = hands.machine
-
-      -- where it is as it was, so are all
-      placed : (n : MachineState) → n ≡ m → new ≡ slice_set ms to n → new ≡ ms
-      placed n same changed = changed ∙ ap (slice_set ms to) same ∙ set_same ms to m hands.stood
-
-      -- where it is as it was, and there is a cause, the entry is lost by this cause
-      stays : (why : LossWhy) → hands.then_machine ≡ m → IsLossCause loses ms (loss_by why) why →
+      -- where the machine is as it was, and there is a cause, the entry is lost by this cause
+      stays : (why : LossWhy) → then_machine ≡ m → IsLossCause loses ms (loss_by why) why →
           (is_scripted loses from e.entry.number to ≡ true → why ≡ Scripted) →
           more ≡ losses ++ loss_by why ∷ [] → IsSwept loses old before later new more
       stays why same cause named_so l =
           subst (λ (n : List MachineState). IsSwept loses old before later n more)
-          (sym (placed hands.then_machine same hands.changed))
+          (sym (changed ∙ ap (slice_set ms to) same ∙ set_same ms to m stood))
           (subst (λ (x : List Loss). IsSwept loses old before later ms x) (sym l) (lost_now why cause named_so))
 
       -- where no line of the script names the entry, its loss may have any cause
@@ -265,24 +259,22 @@ module _ (loses : List Lose) (old : List MachineState) (before : List Loss) (wai
       not_named why isnt named = absurd (true≢false (sym named ∙ isnt))
 
       -- what a sweep keeps is kept by each fate of the entry
-      by : (cause : Option LossWhy) →
-          IsFate (is_scripted loses from e.entry.number to) m e cause hands.then_machine →
+      by : (cause : Option LossWhy) → IsFate (is_scripted loses from e.entry.number to) m e cause then_machine →
           more ≡ losses ++ lost_by e to cause → IsSwept loses old before later new more
       by None (isnt, hears, then_is) l =
           subst (λ (n : List MachineState). IsSwept loses old before later n more)
-          (sym (hands.changed ∙ ap (slice_set ms to) then_is))
+          (sym (changed ∙ ap (slice_set ms to) then_is))
           (subst (λ (x : List Loss). IsSwept loses old before later (slice_set ms to (with_event (Got e) m)) x)
-          (sym (l ∙ append-nil losses)) (heard_now m hands.stood hears isnt))
+          (sym (l ∙ append-nil losses)) (heard_now m stood hears isnt))
       by (Some Scripted) (scripted, same) l = stays Scripted same scripted (λ named. refl) l
       by (Some LinkFull) fate l = absurd fate
       by (Some ToStopped) (isnt, has, same) l =
-          let at = is.placed to m hands.stood in
-          stays ToStopped same (m, hands.stood, stopped_there m at.machine at.unmarked has)
-          (not_named ToStopped isnt) l
+          let at = is.placed to m stood in
+          stays ToStopped same (m, stood, stopped_there m at.machine at.unmarked has) (not_named ToStopped isnt) l
       by (Some LogFull) (isnt, going, full, same) l =
-          stays LogFull same (m, hands.stood, event.going_on m going, full) (not_named LogFull isnt) l
+          stays LogFull same (m, stood, event.going_on m going, full) (not_named LogFull isnt) l
       by (Some SameDigest) (isnt, borne, same) l =
-          stays SameDigest same (m, hands.stood, (e, sent_before.0, refl, borne)) (not_named SameDigest isnt) l
+          stays SameDigest same (m, stood, (e, sent_before.0, refl, borne)) (not_named SameDigest isnt) l
 
 -- the numbers of machines stay, and as many machines
 pub handed_config : (scripted : Bool) (m n : MachineState) (e : SealedEntry) (cause : Option LossWhy) →
@@ -304,40 +296,76 @@ numbered_set ms at m n stood same numbers place u is =
       | inr s ↦ numbers place u s
     ]
 
-module _ (loses : List Lose) (to : ℕ) (e : SealedEntry) (ms new : List MachineState) (losses more : List Loss)
-    (hands : IsHanded loses to e ms losses new more) where
-  -- each machine still has its place as its number
-  pub handed_numbered : AreNumbered ms → AreNumbered new
-  handed_numbered numbers =
-      subst AreNumbered (sym hands.changed)
-      (numbered_set ms to hands.machine hands.then_machine hands.stood
-      (handed_config _ hands.machine hands.then_machine e hands.cause hands.fate) numbers)
+-- the sweep goes on as an entry that waits is handed to its machine
+pub handed_on : (waits later : Waits) (old new : SweptFloor) (to : ℕ) (e : SealedEntry) → IsNumbered old →
+    e.entry.maker < length old.machines.items → to < length old.machines.items → e.entry.maker ≢ to →
+    waits e.entry.maker to ≡ e ∷ later e.entry.maker to →
+    ((c d : ℕ) → ((c ≡ e.entry.maker) × (d ≡ to) → ⊥) → later c d ≡ waits c d) → IsHanded to e old new →
+    SweepsOn waits old later new
+handed_on waits later old new to e is from_within to_within apart waiting others hands =
+    let ms = old.machines.items in
+    let count = ap length hands.changed ∙ length_set ms to hands.then_machine in
+    record {
+      numbered = record {
+        few = let few = is.few in omega arith;
+        numbers = subst AreNumbered (sym hands.changed) (numbered_set ms to hands.machine hands.then_machine hands.stood
+            (handed_config _ hands.machine hands.then_machine e hands.cause hands.fate) is.numbers);
+      };
+      count = count;
+      loses = hands.loses;
+      swept = λ first before swept.
+          subst (λ (l : List Lose). IsSwept l first before later new.machines.items new.losses.items) (sym hands.loses)
+          (swept_handed old.loses.now first before waits later ms old.losses.items swept to e from_within to_within
+          apart waiting others new.machines.items new.losses.items hands.machine hands.then_machine hands.cause
+          hands.stood hands.fate hands.changed hands.losses);
+    }
 
-  -- handing an entry on keeps the count of machines
-  pub handed_count : length new ≡ length ms
-  handed_count = ap length hands.changed ∙ length_set ms to hands.then_machine
+-- one step of a sweep after another
+pub then_on : (waits middle later : Waits) (old between new : SweptFloor) → SweepsOn waits old middle between →
+    SweepsOn middle between later new → SweepsOn waits old later new
+then_on waits middle later old between new first second = record {
+  numbered = second.numbered;
+  count = second.count ∙ first.count;
+  loses = second.loses ∙ first.loses;
+  swept = λ begun before swept. second.swept begun before (first.swept begun before swept);
+}
+
+-- a sweep that does nothing
+pub none_on : (waits : Waits) (floor : SweptFloor) → IsNumbered floor → SweepsOn waits floor waits floor
+none_on waits floor numbered = record {
+  numbered = numbered;
+  count = refl;
+  loses = refl;
+  swept = λ first before swept. swept;
+}
 
 -- on each way between machines the same waits
-pub swept_waits : (loses : List Lose) (old : List MachineState) (before : List Loss) (waits others : Waits)
-    (ms : List MachineState) (losses : List Loss) →
-    ((c d : ℕ) → c < length ms → d < length ms → c ≢ d → others c d ≡ waits c d) →
-    IsSwept loses old before waits ms losses → IsSwept loses old before others ms losses
-swept_waits loses old before waits others ms losses same is = record {
-  grown = is.grown;
-  placed = is.placed;
-  makers = is.makers;
-  balanced = λ a b la lb apart.
-      ap (λ l. got_from node_of_sealed a (history (world_of ms) b) ++ l) (same a b la lb apart)
-      ∙ is.balanced a b la lb apart;
-  lost = is.lost;
-  losses = is.losses;
-  licensed = is.licensed;
-  once = is.once;
-  of_sent = is.of_sent;
-  scripted = λ c number d lc ld differs low high named.
-      elim (is.scripted c number d lc ld differs low high named) [
-        | inl there ↦ inl there
-        | inr (entry, waiting, number_is) ↦
-            inr (entry, subst (λ l. Contains l entry) (sym (same c d lc ld differs)) waiting, number_is)
-      ];
+pub same_on : (begun waits others : Waits) (old new : SweptFloor) →
+    ((c d : ℕ) → c < length new.machines.items → d < length new.machines.items → c ≢ d → others c d ≡ waits c d) →
+    SweepsOn begun old waits new → SweepsOn begun old others new
+same_on begun waits others old new same on = record {
+  numbered = on.numbered;
+  count = on.count;
+  loses = on.loses;
+  swept = λ first before swept.
+      let is = on.swept first before swept in
+      record {
+        grown = is.grown;
+        placed = is.placed;
+        makers = is.makers;
+        balanced = λ a b la lb apart.
+            ap (λ l. got_from node_of_sealed a (history (world_of new.machines.items) b) ++ l) (same a b la lb apart)
+            ∙ is.balanced a b la lb apart;
+        lost = is.lost;
+        losses = is.losses;
+        licensed = is.licensed;
+        once = is.once;
+        of_sent = is.of_sent;
+        scripted = λ c number d lc ld differs low high named.
+            elim (is.scripted c number d lc ld differs low high named) [
+              | inl there ↦ inl there
+              | inr (entry, waiting, number_is) ↦
+                  inr (entry, subst (λ l. Contains l entry) (sym (same c d lc ld differs)) waiting, number_is)
+            ];
+      };
 }

@@ -43,6 +43,7 @@ pub use Rattle.finished_floor.specs.Scripted.{is_scripted}
 pub use Rattle.finished_floor.specs.Swept.{AreScripted, HoldsSame, IsLicensed, IsLossCause}
 pub use Rattle.finished_floor.specs.Waits.{AreOnWay, waits_of}
 pub use Rattle.finished_floor.specs.Wholes.{IsWholeRun}
+pub use Rattle.finished_floor.specs.declared.handing.SweptFloor.{SweptFloor}
 pub use Rattle.finished_floor.specs.declared.loss.Loss.{Loss}
 pub use Rattle.finished_floor.specs.declared.loss.LossWhy.{LossWhy}
 pub use Rattle.finished_floor.specs.declared.loss.LossWhy.TheVariants.{LinkFull, LogFull, SameDigest, Scripted}
@@ -50,8 +51,8 @@ pub use Rattle.finished_floor.specs.declared.loss.LossWhy.TheVariants.{ToStopped
 pub use Rattle.finished_floor.specs.declared.sweeping.Waiting.{Waiting}
 pub use Rattle.finished_floor.specs.inside.Begun.{IsBegunBy}
 pub use Rattle.finished_floor.specs.inside.Fates.{AreNumbered, IsFate, IsHanded}
-pub use Rattle.finished_floor.specs.inside.Steps.{AreStillBelow, IsStill, IsStillAt, IsSwept, IsWaiting, Waits}
-pub use Rattle.finished_floor.specs.inside.Steps.{actions_left, no_waits, waits_from}
+pub use Rattle.finished_floor.specs.inside.Steps.{AreStillBelow, IsNumbered, IsStill, IsStillAt, IsSwept, IsTurn}
+pub use Rattle.finished_floor.specs.inside.Steps.{IsWaiting, SweepsOn, Waits, actions_left, no_waits, waits_from}
 pub use Rattle.polling_world.proofs.Growing.{sent_in_few}
 pub use Rattle.polling_world.proofs.Keeping.{IsMachine-event}
 pub use Rattle.polling_world.proofs.MadeEntries.{may_follow}

@@ -1,7 +1,7 @@
 -- How many actions are left: one less where a machine acts, and as many where one hears.
 use Rattle.finished_floor.proofs.Imports.{◌≡◌, ◌∙◌, ℕ, zero, suc, ◌+◌, ◌-◌, ◌<◌, Bool, List, [], ◌∷◌, length, Option}
 use Rattle.finished_floor.proofs.Imports.{Some, None, ap, arith, slice_get, slice_set, slice_get_within, SealedEntry}
-use Rattle.finished_floor.proofs.Imports.{Sent, sent, sent_as_many, sent_one_more, Lose, Loss, LossWhy, Scripted}
+use Rattle.finished_floor.proofs.Imports.{Sent, sent, sent_as_many, sent_one_more, LossWhy, Scripted, SweptFloor}
 use Rattle.finished_floor.proofs.Imports.{LinkFull, ToStopped, LogFull, SameDigest, MachineState, with_event, MaySend}
 use Rattle.finished_floor.proofs.Imports.{IsFate, IsHanded, actions_left}
 
@@ -37,11 +37,10 @@ fate_left scripted m n e (Some LogFull) (_, _, _, same) = ap left_of same
 fate_left scripted m n e (Some SameDigest) (_, _, same) = ap left_of same
 
 -- none is done where an entry is handed to a machine
-pub handed_left : (loses : List Lose) (to : ℕ) (e : SealedEntry) (ms new : List MachineState)
-    (losses more : List Loss) →
-    IsHanded loses to e ms losses new more → actions_left new ≡ actions_left ms
-handed_left loses to e ms new losses more hands =
-    let all = left_set ms to hands.machine hands.then_machine hands.stood in
+pub handed_left : (to : ℕ) (e : SealedEntry) (old new : SweptFloor) → IsHanded to e old new →
+    actions_left new.machines.items ≡ actions_left old.machines.items
+handed_left to e old new hands =
+    let all = left_set old.machines.items to hands.machine hands.then_machine hands.stood in
     let same = fate_left _ hands.machine hands.then_machine e hands.cause hands.fate in
     let is = ap actions_left hands.changed in
     omega arith

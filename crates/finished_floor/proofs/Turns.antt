@@ -1,102 +1,65 @@
 -- A round over the machines, and what is known of a machine that didn't act in it.
 use Rattle.finished_floor.proofs.Imports.{◌≡◌, ◌∙◌, ℕ, ◌+◌, ◌<◌, ◌≤◌, inl, inr, Bool, true, false, List, [], length}
-use Rattle.finished_floor.proofs.Imports.{Some, refl, sym, ap, subst, arith, ◌||◌, slice_get, cases_Bool, cases_lt}
+use Rattle.finished_floor.proofs.Imports.{Some, refl, sym, ap, subst, arith, ◌||◌, slice_get, cases_lt}
 use Rattle.finished_floor.proofs.Imports.{true≢false, or_parts, append-nil, All-nil, node_of_sealed, history, one_at}
 use Rattle.finished_floor.proofs.Imports.{Lose, Loss, IsBalanced, AreOnce, Acted, IsActed, MachineState, world_of}
-use Rattle.finished_floor.proofs.Imports.{ArePlaced, AreOfSent, HasGrown, IsAt, IsLicensed, IsWholeRun, AreNumbered}
-use Rattle.finished_floor.proofs.Imports.{did, AreStillBelow, IsStillAt, IsSwept, Waits, actions_left, no_waits}
-use Rattle.finished_floor.proofs.Imports.{max_machines}
+use Rattle.finished_floor.proofs.Imports.{ArePlaced, AreOfSent, HasGrown, IsAt, IsLicensed, IsWholeRun, IsNumbered}
+use Rattle.finished_floor.proofs.Imports.{did, AreStillBelow, IsStillAt, IsSwept, IsTurn, SweptFloor, Waits}
+use Rattle.finished_floor.proofs.Imports.{actions_left, no_waits}
 use Rattle.polling_world.specs.declared.acted.Acted.TheVariants as acted
 use Rattle.polling_world.specs.declared.left.LeftWhy.TheVariants as why
-use Rattle.finished_floor.proofs.Handed.{stopped_there}
+use Rattle.finished_floor.proofs.Handed.{none_on, stopped_there, then_on}
 
--- the machines below `at` acted, or none of them could
-pub record Rounding (loses : List Lose) (count : ℕ) (ms0 : List MachineState) (losses0 : List Loss) (at : ℕ)
-    (some : Bool) (ms : List MachineState) (losses : List Loss) : Type 0 where
-  -- there are `count` machines
-  pub as_many : length ms ≡ count
-  -- which are at most 16
-  pub few : count ≤ max_machines
-  -- each has its place as its number
-  pub numbers : AreNumbered ms
-  -- what a sweep keeps is kept since the round began
-  pub swept : (old : List MachineState) (before : List Loss) → IsSwept loses old before no_waits ms0 losses0 →
-      IsSwept loses old before no_waits ms losses
-  -- where one acted, fewer actions are left
-  pub acted : some ≡ true → actions_left ms < actions_left ms0
-  -- where none did, each below `at` was to act and didn't, and all machines are as they were
-  pub none : some ≡ false → AreStillBelow at ms × (ms ≡ ms0)
+-- as a round begins none has acted
+pub turn_none : (still : Type 0) (floor : SweptFloor) → IsNumbered floor → still → IsTurn still floor false floor
+turn_none still floor numbered is = record {
+  goes_on = none_on no_waits floor numbered;
+  acted = λ now. absurd (true≢false (sym now));
+  none = λ isnt. (is, refl);
+}
 
-module _ (loses : List Lose) (count : ℕ) (ms0 : List MachineState) (losses0 : List Loss) where
-  -- as the round begins none has acted
-  pub rounding_none : length ms0 ≡ count → count ≤ max_machines → AreNumbered ms0 →
-      Rounding loses count ms0 losses0 0 false ms0 losses0
-  rounding_none as_many few numbers = record {
-    as_many = as_many;
-    few = few;
-    numbers = numbers;
-    swept = λ old before s. s;
-    acted = λ now. absurd (true≢false (sym now));
-    none = λ isnt. ((λ place lt. absurd (omega arith)), refl);
+-- no more actions are left than before
+fewer : (still : Type 0) (old new : SweptFloor) (did : Bool) → IsTurn still old did new →
+    actions_left new.machines.items ≤ actions_left old.machines.items
+fewer still old new true is = let l = is.acted refl in omega arith
+fewer still old new false is = let s = ap actions_left (is.none refl).1 in omega arith
+
+module _ (first second both : Type 0) (old between new : SweptFloor) where
+  -- a machine acts after others, or can't
+  pub turn_more : (some now either : Bool) → (some || now) ≡ either → IsTurn first old some between →
+      IsTurn second between now new → (first → between.machines.items ≡ old.machines.items → second → both) →
+      IsTurn both old either new
+  turn_more some now either is was then still = record {
+    goes_on = then_on no_waits no_waits no_waits old between new was.goes_on then.goes_on;
+    acted = λ acts. less some now (is ∙ acts) was then;
+    none = λ neither.
+        let (not_before, not_now) = or_parts some now (is ∙ neither) in
+        let (before, same) = was.none not_before in
+        let (after, stays) = then.none not_now in
+        (still before same after, stays ∙ same);
   }
+    where
+      -- where one acted, fewer actions are left
+      less : (some now : Bool) → (some || now) ≡ true → IsTurn first old some between →
+          IsTurn second between now new → actions_left new.machines.items < actions_left old.machines.items
+      less true now acts was then = let l = was.acted refl in let f = fewer second between new now then in omega arith
+      less false now acts was then =
+          let l = then.acted acts in let f = fewer first old between false was in omega arith
 
-  module _ (at : ℕ) (some : Bool) (ms : List MachineState) (losses : List Loss)
-      (is : Rounding loses count ms0 losses0 at some ms losses) where
-    -- no more actions are left than before
-    fewer : actions_left ms ≤ actions_left ms0
-    fewer =
-        elim (cases_Bool some) [
-          | inl now ↦ (let l = is.acted now in omega arith)
-          | inr isnt ↦ (let s = ap actions_left (is.none isnt).1 in omega arith)
-        ]
+-- whether one acted stays where the last couldn't
+pub nothing_more : (some now : Bool) → now ≡ false → (some || now) ≡ some
+nothing_more true now is = refl
+nothing_more false now is = is
 
-    -- a machine acts once more
-    pub rounding_again : (new : List MachineState) (more : List Loss) →
-        ((old : List MachineState) (before : List Loss) → IsSwept loses old before no_waits ms losses →
-        IsSwept loses old before no_waits new more) →
-        actions_left new < actions_left ms → length new ≡ length ms → AreNumbered new →
-        Rounding loses count ms0 losses0 at true new more
-    rounding_again new more swept less many numbers = record {
-      as_many = many ∙ is.as_many;
-      few = is.few;
-      numbers = numbers;
-      swept = λ old before s. swept old before (is.swept old before s);
-      acted = λ true_is. let f = fewer in omega arith;
-      none = λ isnt. absurd (true≢false isnt);
-    }
-
-    -- the next machine acts, or can't
-    pub rounding_more : (now : Bool) (new : List MachineState) (more : List Loss) →
-        ((old : List MachineState) (before : List Loss) → IsSwept loses old before no_waits ms losses →
-        IsSwept loses old before no_waits new more) →
-        (now ≡ true → actions_left new < actions_left ms) →
-        (now ≡ false → IsStillAt ms at × (new ≡ ms)) → length new ≡ length ms → AreNumbered new →
-        Rounding loses count ms0 losses0 (at + 1) (some || now) new more
-    rounding_more now new more swept less none many numbers = record {
-      as_many = many ∙ is.as_many;
-      few = is.few;
-      numbers = numbers;
-      swept = λ old before s. swept old before (is.swept old before s);
-      acted = λ either.
-          elim (cases_Bool now) [
-            | inl acts ↦ (let l = less acts in let f = fewer in omega arith)
-            | inr stays ↦ elim (cases_Bool some) [
-              | inl was ↦ (let l = is.acted was in let s = ap actions_left (none stays).1 in omega arith)
-              | inr wasnt ↦ absurd (true≢false (sym either ∙ ap (λ b. b || now) wasnt ∙ stays))
-            ]
-          ];
-      none = λ neither.
-          let (not_before, not_now) = or_parts some now neither in
-          let same = (none not_now).1 in
-          let was = is.none not_before in (
-            (λ place lt. subst (λ (l : List MachineState). IsStillAt l place) (sym same)
-                (elim (cases_lt place at) [
-                  | inl low ↦ was.0 place low
-                  | inr high ↦ (let here : at ≡ place = omega arith in subst (IsStillAt ms) here (none not_now).0)
-                ])),
-            same ∙ was.1,
-          );
-    }
+-- where no machine below `at` acted and the next can't, none below the one after it did
+pub still_more : (at : ℕ) (old between : List MachineState) → AreStillBelow at old → between ≡ old →
+    IsStillAt between at → AreStillBelow (at + 1) old
+still_more at old between below same next place lt =
+    elim (cases_lt place at) [
+      | inl low ↦ below place low
+      | inr high ↦ (let here : at ≡ place = omega arith in
+          subst (IsStillAt old) here (subst (λ (l : List MachineState). IsStillAt l at) same next))
+    ]
 
 -- a machine that was to act, and didn't, has a cause for it
 still_whole : (place : ℕ) (m : MachineState) (receivers : ℕ) (answer : Acted) → IsAt place m →

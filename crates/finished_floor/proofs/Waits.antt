@@ -2,9 +2,9 @@
 use Rattle.std.proofs.Common.{cond}
 use Rattle.finished_floor.proofs.Imports.{◌≡◌, ◌≢◌, ℕ, ◌<◌, inl, inr, Bool, false, List, [], ◌∷◌, length, refl, sym}
 use Rattle.finished_floor.proofs.Imports.{ap, subst, arith, ◌==◌, ◌&&◌, cases_eq, eq-eqb, ne_eqb, and_from, and_left}
-use Rattle.finished_floor.proofs.Imports.{and_right, All-head, Lose, Loss, MachineState, Waiting, AreOnWay, waits_of}
-use Rattle.finished_floor.proofs.Imports.{IsHanded, IsSwept, no_waits}
-use Rattle.finished_floor.proofs.Handed.{swept_handed, swept_waits}
+use Rattle.finished_floor.proofs.Imports.{and_right, All-head, Waiting, AreOnWay, waits_of, IsHanded, IsNumbered}
+use Rattle.finished_floor.proofs.Imports.{SweepsOn, SweptFloor, Waits, no_waits}
+use Rattle.finished_floor.proofs.Handed.{handed_on, same_on}
 
 -- it waits on the way from one machine to another
 abbrev is_on : Waiting → ℕ → ℕ → Bool
@@ -34,22 +34,19 @@ elsewhere w ws c d other =
     sym (ap (λ t. cond t (w.entry ∷ waits_of ws c d) (waits_of ws c d)) isnt)
 
 -- the first that waits is handed to its machine
-pub swept_first : (loses : List Lose) (old : List MachineState) (before : List Loss) (ms new : List MachineState)
-    (losses more : List Loss) (rest ws : List Waiting) (w : Waiting) → rest ≡ w ∷ ws → AreOnWay (length ms) rest →
-    IsHanded loses w.to w.entry ms losses new more → IsSwept loses old before (waits_of rest) ms losses →
-    IsSwept loses old before (waits_of ws) new more
-swept_first loses old before ms new losses more rest ws w is on hands swept =
-    let (maker_within, to_within, apart) = All-head (λ (x : Waiting). (x.entry.entry.maker < length ms)
-    × (x.to < length ms) × (x.entry.entry.maker ≢ x.to)) w ws (subst (AreOnWay (length ms)) is on) in
-    swept_handed loses old before (waits_of (w ∷ ws)) (waits_of ws) ms losses
-    (subst (λ (l : List Waiting). IsSwept loses old before (waits_of l) ms losses) is swept)
-    w.to w.entry maker_within to_within apart (first_waits w ws) (elsewhere w ws) new more hands
+pub first_on : (old new : SweptFloor) (rest ws : List Waiting) (w : Waiting) → rest ≡ w ∷ ws →
+    AreOnWay (length old.machines.items) rest → IsNumbered old → IsHanded w.to w.entry old new →
+    SweepsOn (waits_of rest) old (waits_of ws) new
+first_on old new rest ws w is on numbered hands =
+    let (maker_within, to_within, apart) = All-head (λ (x : Waiting). (x.entry.entry.maker < length old.machines.items)
+    × (x.to < length old.machines.items) × (x.entry.entry.maker ≢ x.to)) w ws
+    (subst (AreOnWay (length old.machines.items)) is on) in
+    subst (λ (l : List Waiting). SweepsOn (waits_of l) old (waits_of ws) new) (sym is)
+    (handed_on (waits_of (w ∷ ws)) (waits_of ws) old new w.to w.entry numbered maker_within to_within apart
+    (first_waits w ws) (elsewhere w ws) hands)
 
 -- where none is left, nothing waits
-pub none_waits : (loses : List Lose) (old : List MachineState) (before : List Loss) (ms : List MachineState)
-    (losses : List Loss) (rest : List Waiting) → length rest ≡ 0 → IsSwept loses old before (waits_of rest) ms losses →
-    IsSwept loses old before no_waits ms losses
-none_waits loses old before ms losses [] none swept =
-    swept_waits loses old before (waits_of []) no_waits ms losses (λ c d lc ld differs. refl)
-    swept
-none_waits loses old before ms losses (w ∷ rest) none swept = absurd (omega arith)
+pub none_waits : (begun : Waits) (old new : SweptFloor) (rest : List Waiting) → length rest ≡ 0 →
+    SweepsOn begun old (waits_of rest) new → SweepsOn begun old no_waits new
+none_waits begun old new [] none on = same_on begun (waits_of []) no_waits old new (λ c d lc ld differs. refl) on
+none_waits begun old new (w ∷ rest) none on = absurd (omega arith)

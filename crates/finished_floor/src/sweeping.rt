@@ -14,13 +14,13 @@ ghost use Rattle.finished_floor.specs.Swept.{AreScripted, IsLicensed};
 ghost use Rattle.finished_floor.specs.Waits.{AreOnWay, waits_of};
 ghost use Rattle.finished_floor.specs.Wholes.{IsWholeRun};
 
-use crate::handing::hand_waits;
+use crate::handing::SweptFloor;
 use crate::loss::Loss;
-use crate::rounds::round;
 use election_script::Lose;
 use entry_format::Sealed;
 use polling_world::Machine;
 use std::alloc::{AllocError, Global};
+use std::mem;
 
 /// An entry that waits for a machine.
 #[derive(Drop)]
@@ -71,7 +71,14 @@ pub fn sweep(
     ensures whole { IfOk result (λ _. (place : ℕ) (m : MachineState) →
         slice_get machines.new.items place ≡ Some m → IsWholeRun m) }
 {
-    hand_waits(machines, waits, loses, losses)?;
-    while round(alloc, machines, loses, losses)? {}
+    let mut floor = SweptFloor {
+        machines: mem::replace(machines, Vec::new(alloc)),
+        loses,
+        losses: mem::replace(losses, Vec::new(alloc)),
+    };
+    floor.hand_waits(waits)?;
+    while floor.round(alloc)? {}
+    *machines = floor.machines;
+    *losses = floor.losses;
     Ok(())
 }

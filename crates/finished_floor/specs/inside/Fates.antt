@@ -6,9 +6,8 @@ use Rattle.entry_format.specs.SealedEntry.{SealedEntry}
 use Rattle.entry_order.specs.declared.event.Event.TheVariants.{Got}
 use Rattle.entry_order.specs.History.{held}
 use Rattle.entry_order.specs.Naming.{IsBorneIn}
-use Rattle.election_script.specs.declared.script.Lose.{Lose}
 use Rattle.finished_floor.specs.OfEntries.{lost_by}
-use Rattle.finished_floor.specs.declared.loss.Loss.{Loss}
+use Rattle.finished_floor.specs.declared.handing.SweptFloor.{SweptFloor}
 use Rattle.finished_floor.specs.declared.loss.LossWhy.{LossWhy}
 use Rattle.finished_floor.specs.declared.loss.LossWhy.TheVariants.{Scripted, LinkFull, ToStopped, LogFull, SameDigest}
 use Rattle.polling_world.specs.declared.heard.MachineHeard.TheVariants as heard
@@ -34,12 +33,12 @@ IsFate scripted old e (Some SameDigest) new =
     (scripted ≡ false) × IsBorneIn node_of_sealed (held old.events) (node_of_sealed e).digest × (new ≡ old)
 
 -- the machine at the place `to` was handed the entry
-pub record IsHanded (loses : List Lose) (to : ℕ) (e : SealedEntry) (old : List MachineState) (before : List Loss)
-    (new : List MachineState) (after : List Loss) : Type 0 where
+pub record IsHanded (to : ℕ) (e : SealedEntry) (old new : SweptFloor) : Type 0 where
   pub machine : MachineState
   pub then_machine : MachineState
   pub cause : Option LossWhy
-  pub stood : slice_get old to ≡ Some machine
-  pub fate : IsFate (is_scripted loses e.entry.maker e.entry.number to) machine e cause then_machine
-  pub changed : new ≡ slice_set old to then_machine
-  pub losses : after ≡ before ++ lost_by e to cause
+  pub stood : slice_get old.machines.items to ≡ Some machine
+  pub fate : IsFate (is_scripted old.loses.now e.entry.maker e.entry.number to) machine e cause then_machine
+  pub changed : new.machines.items ≡ slice_set old.machines.items to then_machine
+  pub loses : new.loses.now ≡ old.loses.now
+  pub losses : new.losses.items ≡ old.losses.items ++ lost_by e to cause

@@ -1,5 +1,5 @@
 -- What each step of a sweep keeps.
-use Rattle.std.specs.Prelude.{◌≡◌, ◌≢◌, ◌⊎◌, ℕ, ◌+◌, ◌-◌, ◌<◌, ◌≤◌, ◌==◌, ◌&&◌, nat_le, cond, true, false}
+use Rattle.std.specs.Prelude.{◌≡◌, ◌≢◌, ◌⊎◌, ℕ, ◌+◌, ◌-◌, ◌<◌, ◌≤◌, ◌==◌, ◌&&◌, nat_le, cond, Bool, true, false}
 use Rattle.std.specs.Prelude.{List, [], ◌∷◌, ◌++◌, length, All, Some, slice_get}
 use Rattle.std.specs.List.{Contains}
 use Rattle.entry_format.specs.Nodes.{node_of_sealed}
@@ -7,6 +7,7 @@ use Rattle.entry_format.specs.SealedEntry.{SealedEntry}
 use Rattle.entry_order.specs.History.{sent}
 use Rattle.entry_order.specs.World.{history}
 use Rattle.election_script.specs.declared.script.Lose.{Lose}
+use Rattle.finished_floor.specs.declared.handing.SweptFloor.{SweptFloor}
 use Rattle.finished_floor.specs.declared.loss.Loss.{Loss}
 use Rattle.finished_floor.specs.declared.loss.LossWhy.TheVariants.{Scripted}
 use Rattle.finished_floor.specs.Balance.{IsBalanced}
@@ -19,6 +20,8 @@ use Rattle.finished_floor.specs.Placed.{ArePlaced, AreMadeByThese, AreOfSent, Ha
 use Rattle.finished_floor.specs.Scripted.{is_scripted}
 use Rattle.finished_floor.specs.Done.{did}
 use Rattle.finished_floor.specs.Swept.{IsLicensed}
+use Rattle.finished_floor.specs.inside.Fates.{AreNumbered}
+use Rattle.roster.specs.Machines.{max_machines}
 
 -- what waits on each way
 abbrev pub Waits : Type 0
@@ -72,3 +75,24 @@ AreStillBelow most machines = (place : ℕ) → place < most → IsStillAt machi
 abbrev pub actions_left : List MachineState → ℕ
 actions_left [] = 0
 actions_left (m ∷ machines) = (length m.config.actions - length (sent m.events)) + actions_left machines
+
+-- there are at most 16 machines, and each has its place as its number
+pub record IsNumbered (floor : SweptFloor) : Type 0 where
+  pub few : length floor.machines.items ≤ max_machines
+  pub numbers : AreNumbered floor.machines.items
+
+-- As many machines are there, under the same lines of the script, and whenever the sweep began, it
+-- goes on: what waited as in `waits` waits as in `later`.
+pub record SweepsOn (waits : Waits) (old : SweptFloor) (later : Waits) (new : SweptFloor) : Type 0 where
+  pub numbered : IsNumbered new
+  pub count : length new.machines.items ≡ length old.machines.items
+  pub loses : new.loses.now ≡ old.loses.now
+  pub swept : (first : List MachineState) (before : List Loss) →
+      IsSwept old.loses.now first before waits old.machines.items old.losses.items →
+      IsSwept new.loses.now first before later new.machines.items new.losses.items
+
+-- machines were to act: fewer actions are left, or all machines are as they were, and `still` is so
+pub record IsTurn (still : Type 0) (old : SweptFloor) (some : Bool) (new : SweptFloor) : Type 0 where
+  pub goes_on : SweepsOn no_waits old no_waits new
+  pub acted : some ≡ true → actions_left new.machines.items < actions_left old.machines.items
+  pub none : some ≡ false → still × (new.machines.items ≡ old.machines.items)

@@ -1,7 +1,7 @@
 use Rattle.finished_floor.proofs.Imports.{◌∙◌, ◌≡◌, ◌++◌, ◌∷◌, [], ℕ, Bool, List, Option, Some, None, ap, subst, sym}
 use Rattle.finished_floor.proofs.Imports.{refl, append-nil, SealedEntry, Lose, Loss, LossWhy, MachineState, stands_at}
 use Rattle.finished_floor.proofs.Imports.{is_scripted, lost_by, IsFate}
-use Rattle.finished_floor.proofs.handing.hand_to.Goals as goal
+use Rattle.finished_floor.proofs.handing.SweptFloor.hand_to.Goals as goal
 
 -- what became of the entry, by its own maker and number
 fate_is : (loses : List Lose) (to from number : ℕ) (e : SealedEntry) (scripted : Bool) (m n : MachineState)
@@ -22,8 +22,8 @@ loss_is losses after to from number e why f k is =
 
 -- it is another's
 pub fate-requires : goal.fate-requires
-fate-requires c = λ own. c.requires.other (own ∙ c.requires.numbers c.args.to c.index_mut.result.now
-    (stands_at c.args.machines.now.items c.args.to c.index_mut.result.now c.requires.to c.index_mut.ensures.value))
+fate-requires c = λ own. c.requires.other (own ∙ c.requires.numbered.numbers c.args.to c.index_mut.result.now
+    (stands_at c.args.self.now.machines.items c.args.to c.index_mut.result.now c.requires.to c.index_mut.ensures.value))
 
 -- it was heard
 pub returns-in-None : goal.returns-in-None
@@ -31,12 +31,13 @@ returns-in-None c = record {
   machine = c.index_mut.result.now;
   then_machine = c.fate.new.machine;
   cause = None;
-  stood = stands_at c.args.machines.now.items c.args.to c.index_mut.result.now c.requires.to c.index_mut.ensures.value;
-  fate = fate_is c.args.loses.now c.args.to c.maker-from.result c.number-number.result c.args.s
+  stood = stands_at c.args.self.now.machines.items c.args.to c.index_mut.result.now c.requires.to c.index_mut.ensures.value;
+  fate = fate_is c.args.self.now.loses.now c.args.to c.maker-from.result c.number-number.result c.args.s
       c.is_scripted-scripted.result c.index_mut.result.now c.fate.new.machine c.fate.result None c.maker-from.ensures
       c.number-number.ensures c.is_scripted-scripted.ensures c.in-None.is c.fate.ensures;
   changed = refl;
-  losses = sym (append-nil c.args.losses.now.items);
+  loses = refl;
+  losses = sym (append-nil c.args.self.now.losses.items);
 }
 
 -- it is lost
@@ -45,12 +46,13 @@ returns-in_ok-push-in-Some c = record {
   machine = c.index_mut.result.now;
   then_machine = c.fate.new.machine;
   cause = Some c.in-Some.why;
-  stood = stands_at c.args.machines.now.items c.args.to c.index_mut.result.now c.requires.to c.index_mut.ensures.value;
-  fate = fate_is c.args.loses.now c.args.to c.maker-from.result c.number-number.result c.args.s
+  stood = stands_at c.args.self.now.machines.items c.args.to c.index_mut.result.now c.requires.to c.index_mut.ensures.value;
+  fate = fate_is c.args.self.now.loses.now c.args.to c.maker-from.result c.number-number.result c.args.s
       c.is_scripted-scripted.result c.index_mut.result.now c.fate.new.machine c.fate.result (Some c.in-Some.why)
       c.maker-from.ensures c.number-number.ensures c.is_scripted-scripted.ensures c.in-Some.is c.fate.ensures;
   changed = refl;
-  losses = loss_is c.args.losses.now.items c.push.new.self.items c.args.to c.maker-from.result
+  loses = refl;
+  losses = loss_is c.args.self.now.losses.items c.push.new.self.items c.args.to c.maker-from.result
       c.number-number.result c.args.s c.in-Some.why c.maker-from.ensures c.number-number.ensures
       c.in_ok-push-in-Some.ensures.items;
 }
