@@ -81,8 +81,8 @@ pub record IsNumbered (floor : SweptFloor) : Type 0 where
   pub few : length floor.machines.items ≤ max_machines
   pub numbers : AreNumbered floor.machines.items
 
--- As many machines are there, under the same lines of the script, and whenever the sweep began, it
--- goes on: what waited as in `waits` waits as in `later`.
+-- Whenever the sweep began, it goes on from the old floor, where `waits` is what waits, to the new
+-- one, where `later` is. The machines are as many as before, and the script's lines the same.
 pub record SweepsOn (waits : Waits) (old : SweptFloor) (later : Waits) (new : SweptFloor) : Type 0 where
   pub numbered : IsNumbered new
   pub count : length new.machines.items ≡ length old.machines.items
@@ -91,7 +91,8 @@ pub record SweepsOn (waits : Waits) (old : SweptFloor) (later : Waits) (new : Sw
       IsSwept old.loses.now first before waits old.machines.items old.losses.items →
       IsSwept new.loses.now first before later new.machines.items new.losses.items
 
--- machines were to act: fewer actions are left, or all machines are as they were, and `still` is so
+-- Machines were to act, and the sweep goes on. If some did, fewer actions are left; if none did, all
+-- are as they were, and `still` is so.
 pub record IsTurn (still : Type 0) (old : SweptFloor) (some : Bool) (new : SweptFloor) : Type 0 where
   pub goes_on : SweepsOn no_waits old no_waits new
   pub acted : some ≡ true → actions_left new.machines.items < actions_left old.machines.items

@@ -1,4 +1,4 @@
-use Rattle.finished_floor.proofs.Imports.{◌∙◌, ◌||◌, List, ap, or_right, subst, MachineState, IsStillAt}
+use Rattle.finished_floor.proofs.Imports.{List, or_right, subst, MachineState, IsStillAt}
 use Rattle.finished_floor.proofs.Turns.{nothing_more, turn_more, turn_none}
 use Rattle.finished_floor.proofs.handing.SweptFloor.act_while.Goals as goal
 
