@@ -26,8 +26,7 @@ pub(crate) fn survivors<R: Files<File = File> + AllocGlobal + Threads + Sync>(
     let mut store = FolderStore::make(rt).ok()?;
     let read = read_roster(alloc, &mut store, roster.as_str()).ok()?;
     let work = InThreads { rt };
-    let kept =
-        read_logs_by(&work, alloc, &mut store, logs, &read.roster, &read.election).ok()?;
+    let kept = read_logs_by(&work, alloc, &mut store, logs, &read.roster, &read.election).ok()?;
     let graph = graph_from(alloc, kept).ok()?;
     u32::try_from(graph.count()).ok()
 }

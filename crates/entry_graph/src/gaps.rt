@@ -5,8 +5,8 @@ ghost use Rattle.entry_graph.specs.inside.Tables.{ArePlaces, number_at};
 ghost use Rattle.entry_order.specs.Survivors.{gaps as gaps_of};
 
 use crate::digest_table::DigestTable;
-use log_frontier::{DigestList, ascending};
 use entry_order::Knot;
+use log_frontier::{DigestList, ascending};
 use std::alloc::{AllocError, Global};
 
 /// The digests that one of the survivors names and none of them has, ascending. They are at these

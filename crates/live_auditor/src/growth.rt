@@ -16,9 +16,9 @@ ghost use Rattle.live_auditor.specs.inside.Kept.{IsKept, IsSummed, link_to, live
 ghost use Rattle.live_auditor.specs.inside.KeptOf.{kept_of};
 ghost use Rattle.live_auditor.specs.inside.Unsummed.{IsUnsummed};
 
+use crate::appended::{Appended, Named, appended_in};
 use crate::summary::Summary;
 use crate::survivors::{Grown, Link, Survivors};
-use crate::appended::{Named, Appended, appended_in};
 use entry_format::Sealed;
 use log_frontier::ascending;
 use precedence::Rows;

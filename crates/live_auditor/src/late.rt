@@ -13,12 +13,12 @@ ghost use Rattle.live_auditor.specs.inside.Following.{Follow, FollowOf, IsPushed
 ghost use Rattle.live_auditor.specs.inside.Kept.{IsKept, IsSummed, live_of, nodes_by};
 ghost use Rattle.live_auditor.specs.inside.KeptOf.{kept_of};
 
+use crate::appended::{Named, apart_names};
 use crate::base::{Base, MOST_LATER, later_with};
 use crate::borrowed::Borrowed;
 use crate::growth::{gaps_with, verdicts_by};
 use crate::summary::{Summary, Summed};
 use crate::survivors::{Link, Survivors};
-use crate::appended::{Named, apart_names};
 use auditor::{ShowsSealed, rows};
 use entry_format::Sealed;
 use entry_graph::Graph;

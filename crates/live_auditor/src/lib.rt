@@ -2,6 +2,7 @@
 //! strays, the forks and a verdict on each rule, whatever the order in which they came.
 #![tactic(auto)]
 
+mod appended;
 mod base;
 mod borrowed;
 mod fresh;
@@ -12,7 +13,6 @@ mod live;
 mod seen;
 mod summary;
 mod survivors;
-mod appended;
 mod widths;
 
 pub use fresh::{Fresh, LiveFault};
