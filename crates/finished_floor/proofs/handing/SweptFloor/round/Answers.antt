@@ -1,4 +1,4 @@
-use Rattle.finished_floor.proofs.Imports.{◌≡◌, ◌+◌, ◌||◌, length, arith, refl, subst, AreStillBelow, IsStillAt, IsTurn}
+use Rattle.finished_floor.proofs.Imports.{◌≡◌, ◌+◌, length, arith, refl, subst, AreStillBelow, IsStillAt, IsTurn}
 use Rattle.finished_floor.proofs.Turns.{still_more, turn_more, turn_none}
 use Rattle.finished_floor.proofs.handing.SweptFloor.round.Goals as goal
 
@@ -13,8 +13,8 @@ loop-at-preserved c =
     let now = c.loop-at.self.machines.items in
     let at = c.loop-at.at in
     turn_more (AreStillBelow at ms) (IsStillAt now at) (AreStillBelow (at + 1) ms) c.args.self.now c.loop-at.self
-    c.act_while.new.self c.loop-at.did c.in_ok-did.field-0 (c.loop-at.did || c.in_ok-did.field-0) refl
-    c.loop-at.invariant c.in_ok-did.ensures (λ below same next. still_more at ms now below same next)
+    c.act_while.new.self c.loop-at.did c.in_ok-did.field-0 _ refl c.loop-at.invariant c.in_ok-did.ensures
+    (λ below same next. still_more at ms now below same next)
 
 pub returns : goal.returns
 returns c =
