@@ -1,10 +1,6 @@
 -- What the proofs of this crate take from others.
-pub use Rattle.election_script.specs.Before.{ComesAgain, ComesTooEarly, ComesTooLate, count_of_kind, is_of_kind}
-pub use Rattle.election_script.specs.Before.{is_supervisor_line, machine_told, machines_told, name_told, of_kind}
-pub use Rattle.election_script.specs.Before.{stopped_told, supervisors, told_by, version_of, version_told, words_of}
 pub use Rattle.election_script.specs.Deeds.{ballot_deed, do_read, machine_and_session, override_deed}
-pub use Rattle.election_script.specs.Faults.{Causes, IsFull, IsPlain, causes_of, ending_causes, kind_causes}
-pub use Rattle.election_script.specs.Faults.{place_causes, refused, word_causes, words_causes}
+pub use Rattle.election_script.specs.Left.{words_of}
 pub use Rattle.election_script.specs.Lines.{entry_read, key_read, lose_read}
 pub use Rattle.election_script.specs.Lines.{machine_said, read_line, receiver_read, seed_read}
 pub use Rattle.election_script.specs.Lines.{one_number, step_read, stop_read, stopper_read}
@@ -29,7 +25,6 @@ pub use Rattle.election_script.specs.Kinds.{line_word, named, rank, role_names}
 pub use Rattle.election_script.specs.Lawful.{AreCast, IsBetween, IsBoothAt, IsCast, IsDeedAmong, IsLawful, IsLose}
 pub use Rattle.election_script.specs.Lawful.{IsSession, IsStep, IsStopAt, max_actions, max_events, max_link}
 pub use Rattle.election_script.specs.Lawful.{max_loses, max_steps}
-pub use Rattle.election_script.specs.Reading.{AreGoodBelow, HasNoFault, IsFirstFault, Reads, Tries, line_at}
 pub use Rattle.election_script.specs.WordLines.{Lines}
 pub use Rattle.election_script.specs.Written.{deeds_at, deeds_from, ended, script_text, text_of_lines}
 pub use Rattle.election_script.specs.declared.draft.Line.{Line}
@@ -45,11 +40,10 @@ pub use Rattle.election_script.specs.declared.script.Lose.{Lose}
 pub use Rattle.election_script.specs.declared.script.Script.{Script}
 pub use Rattle.election_script.specs.declared.script.StopAt.{StopAt}
 pub use Rattle.election_script.specs.declared.sheet.Sheet.{Sheet}
-pub use Rattle.election_script.specs.inside.Clears.{AreClear}
 pub use Rattle.election_script.specs.inside.Draft.{HasRoleAt, IsDone}
-pub use Rattle.election_script.specs.inside.Lines.{FindsFirst, IsInOrder, kind_of, line_words, reached_by}
-pub use Rattle.election_script.specs.inside.Sheets.{AreFew, IsFit, IsReached, IsSheet, IsSheetFull, IsWithin, blank}
-pub use Rattle.election_script.specs.inside.Sheets.{is_read, kept, listed, put, script_of, version_in, with_deeds}
+pub use Rattle.election_script.specs.inside.Lines.{IsInOrder, kind_of, line_words, reached_by}
+pub use Rattle.election_script.specs.inside.Sheets.{AreFew, IsFit, IsSheet, IsSheetFull, IsWithin, blank}
+pub use Rattle.election_script.specs.inside.Sheets.{is_read, kept, listed, told_by, put, script_of, version_in, with_deeds}
 pub use Rattle.election_script.specs.inside.Words.{roles_of, stopped_of, texts_of, told}
 pub use Rattle.entry_format.proofs.Taken.{version_small}
 pub use Rattle.entry_format.specs.Deeds.{IsDeedOf}
@@ -67,8 +61,6 @@ pub use Rattle.hall_text.specs.declared.spans.Span.{Span}
 pub use Rattle.hex.proofs.HexLemmas.{decode_of-encode_lower, decode_of-ok}
 pub use Rattle.hex.specs.Hex.{IsBytes, encode_lower, lower_digits}
 unfoldable pub use Rattle.hex.specs.Hex.{encode_with}
-pub use Rattle.item_list.proofs.Rows.{one_first}
-pub use Rattle.item_list.specs.Causes.{IsFirstOf}
 pub use Rattle.lms_ots.proofs.Candidates.{length-u32str}
 pub use Rattle.lms_ots.proofs.Pieces.{range_with_len_next}
 unfoldable pub use Rattle.lms_ots.specs.Ots.{u32str}

@@ -3,4 +3,4 @@ pub mod Words
 pub mod Draft
 pub mod Lines
 pub mod Sheets
-pub mod Clears
+pub mod Resume

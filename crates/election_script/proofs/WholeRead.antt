@@ -1,0 +1,116 @@
+-- The lines of a script are read as it, kind by kind.
+use Rattle.std.specs.Prelude.{nat_le}
+use Rattle.std.proofs.Common.{append_assoc, length-append}
+use Rattle.election_script.proofs.Imports.{◌≡◌, ◌∙◌, ap, sym, refl, arith, ℕ, ◌<◌, ◌≤◌}
+use Rattle.election_script.proofs.Imports.{true, false, List, [], ◌∷◌, ◌++◌, length, map, Some, Ok}
+use Rattle.election_script.proofs.Imports.{append-nil, Kind, rank, line_word, Lines, LineRead}
+use Rattle.election_script.proofs.Imports.{false_from_ne_true, leb-true, Decides-eqb}
+use Rattle.election_script.specs.Words.{◌>>=◌}
+use Rattle.election_script.specs.Left.{Left, End, Next, kind_and_words, is_kind, one, many}
+use Rattle.election_script.specs.Left.{some, one_more, most_lines}
+use Rattle.election_script.proofs.KindByKind.{word_names}
+
+-- what is left to read are lines of these words
+abbrev pub Tells : Left → Lines → Type 0
+Tells (End n) [] = Unit {0}
+Tells (Next n head left) (words ∷ lines) = (head ≡ kind_and_words words) × Tells left lines
+Tells left lines = ⊥
+
+-- the kind of a line and the words after its first
+pub head_is : (k : Kind) (args : List (List ℕ)) → kind_and_words (line_word k ∷ args) ≡ Ok (k, args)
+head_is k args = rw (word_names k) refl
+
+-- a kind is itself
+self : (k : Kind) → is_kind k k ≡ true
+self k = (Decides-eqb (rank k) (rank k)).1 refl
+
+-- the first line is of another kind, if there is one
+abbrev pub IsPast : Kind → Lines → Type 0
+IsPast k [] = Unit {0}
+IsPast k (words ∷ lines) =
+    (j : Kind) × (args : List (List ℕ)) × (words ≡ line_word j ∷ args) × (is_kind k j ≡ false)
+
+-- so it is where others come first, or none of them does
+pub past_map : {A : Type 0} (k j : Kind) (args : A → List (List ℕ)) (xs : List A) (lines : Lines) → is_kind k j ≡ false →
+    IsPast k lines → IsPast k (map (λ x. line_word j ∷ args x) xs ++ lines)
+past_map k j args [] lines other past = past
+past_map k j args (x ∷ xs) lines other past = (j, args x, refl, other)
+
+-- a line that is left
+pub one_back : {A : Type 0} (k : Kind) (read : List (List ℕ) → LineRead A) (args : List (List ℕ)) (value : A)
+    (left : Left) (lines : Lines) → Tells left ((line_word k ∷ args) ∷ lines) → read args ≡ Ok value →
+    (rest : Left) × Tells rest lines × (one k read left ≡ Ok (value, rest))
+one_back k read args value (End n) lines tells is = absurd tells
+one_back k read args value (Next n head rest) lines (same, more) is =
+    (rest, more, rw (same ∙ head_is k args, self k, is) refl)
+
+-- no line of the kind is left
+pub many_none : {A : Type 0} (k : Kind) (read : List A → List (List ℕ) → LineRead A) (values : List A) (left : Left)
+    (lines : Lines) → Tells left lines → IsPast k lines → many k read values left ≡ Ok (values, left)
+many_none k read values (End n) [] tells past = refl
+many_none k read values (End n) (words ∷ lines) tells past = absurd tells
+many_none k read values (Next n head left) [] tells past = absurd tells
+many_none k read values (Next n head left) (words ∷ lines) (same, more) (j, args, is, other) =
+    rw (same ∙ ap kind_and_words is ∙ head_is j args, other) refl
+
+-- each of the values is read after those before it
+abbrev pub AreRead : {A : Type 0} → Kind → (List A → List (List ℕ) → LineRead A) → (A → List (List ℕ)) → List A →
+    List A → Type 0
+AreRead k read args values [] = Unit {0}
+AreRead k read args values (x ∷ xs) =
+    ((read values (args x) >>= one_more k values) ≡ Ok x) × AreRead k read args (values ++ x ∷ []) xs
+
+-- all lines of the kind
+pub many_back : {A : Type 0} (k : Kind) (read : List A → List (List ℕ) → LineRead A) (args : A → List (List ℕ))
+    (values xs : List A) (left : Left) (lines : Lines) → AreRead k read args values xs → IsPast k lines →
+    Tells left (map (λ x. line_word k ∷ args x) xs ++ lines) →
+    (rest : Left) × Tells rest lines × (many k read values left ≡ Ok (values ++ xs, rest))
+many_back {A} k read args values [] left lines reads past tells = (
+  left,
+  tells,
+  many_none k read values left lines tells past
+      ∙ ap (λ (all : List A). Ok (all, left)) (sym (append-nil values)),
+)
+many_back k read args values (x ∷ xs) (End n) lines reads past tells = absurd tells
+many_back {A} k read args values (x ∷ xs) (Next n head left) lines (first, reads) past (same, more) =
+    let (rest, tells, is) = many_back k read args (values ++ x ∷ []) xs left lines reads past more in
+    let goes : many k read values (Next n head left) ≡ many k read (values ++ x ∷ []) left =
+    rw (same ∙ head_is k (args x), self k, first) refl in
+    (rest, tells, goes ∙ is ∙ ap (λ (all : List A). Ok (all, rest)) (append_assoc values (x ∷ []) xs))
+
+-- at least one
+pub some_back : {A : Type 0} (k : Kind) (read : List A → List (List ℕ) → LineRead A) (values : List A) (left : Left)
+    (words : List (List ℕ)) (args : List (List ℕ)) (lines : Lines) → words ≡ line_word k ∷ args →
+    Tells left (words ∷ lines) → some k read values left ≡ many k read values left
+some_back k read values (End n) words args lines is tells = absurd tells
+some_back k read values (Next n head left) words args lines is (same, more) =
+    rw (same ∙ ap kind_and_words is ∙ head_is k args, self k) refl
+
+-- at least one of some
+pub some_map : {A : Type 0} (k : Kind) (read : List A → List (List ℕ) → LineRead A) (args : A → List (List ℕ))
+    (values xs : List A) (left : Left) (lines : Lines) → 0 < length xs →
+    Tells left (map (λ x. line_word k ∷ args x) xs ++ lines) → some k read values left ≡ many k read values left
+some_map k read args values [] left lines some tells = absurd (omega (arith, some))
+some_map k read args values (x ∷ xs) left lines some tells =
+    some_back k read values left (line_word k ∷ args x) (args x) (map (λ x. line_word k ∷ args x) xs ++ lines) refl tells
+
+-- each value is read, if it is after those in front of it
+pub all_read : {A : Type 0} (k : Kind) (read : List A → List (List ℕ) → LineRead A) (args : A → List (List ℕ))
+    (front xs : List A) → ((before : List A) (x : A) (after : List A) → front ++ xs ≡ before ++ x ∷ after →
+    (read before (args x) >>= one_more k before) ≡ Ok x) → AreRead k read args front xs
+all_read k read args front [] each = tt
+all_read {A} k read args front (x ∷ xs) each = (
+  each front x xs refl,
+  all_read k read args (front ++ x ∷ []) xs
+      (λ before y after is. each before y after (sym (append_assoc front (x ∷ []) xs) ∙ is)),
+)
+
+-- there is room for a value among those that there may be
+pub room : {A : Type 0} (k : Kind) (most : ℕ) (all before after : List A) (x : A) (read : LineRead A) →
+    most_lines k ≡ Some most → length all ≤ most → all ≡ before ++ x ∷ after → read ≡ Ok x →
+    (read >>= one_more k before) ≡ Ok x
+room k most all before after x read limit few parts is =
+    let size = ap length parts ∙ length-append before (x ∷ after) in
+    let free : nat_le most (length before) ≡ false = false_from_ne_true (nat_le most (length before))
+    (λ full. omega (arith, size, few, leb-true most (length before) full)) in
+    rw (is, limit, free) refl
