@@ -15,7 +15,7 @@ use Rattle.election_script.specs.Left.{Left, End, Next, LinesRead, Head, at_line
 use Rattle.election_script.specs.inside.Resume.{part_of, resume, with_room, after_words, after_line, after}
 use Rattle.election_script.specs.inside.Resume.{ended}
 use Rattle.election_script.specs.Reading.{script_from}
-use Rattle.election_script.specs.inside.Sheets.{blank, script_of, is_supervised, IsSupervised}
+use Rattle.election_script.specs.inside.Sheets.{blank, script_in, is_supervised, IsSupervised}
 use Rattle.election_script.proofs.Imports.{arith}
 use Rattle.election_script.specs.inside.Resume.{to_version, to_seed, to_key, to_log, to_link}
 use Rattle.election_script.specs.inside.Resume.{to_machine, to_machines, to_deeds, to_loses, to_stops, to_steps}
@@ -271,7 +271,7 @@ no_more false n script = refl
 ends_after : (s : Sheet) (last : Option Kind) → IsSupervised (ended_by s last) → (n : ℕ) →
     resume (ended_by s last) (End n) ≡ at_line n (ended (ended_by s last))
 ends_after s None is n = refl
-ends_after s (Some kind.Machine) is n = no_more (is_supervised s.machines) n (script_of s)
+ends_after s (Some kind.Machine) is n = no_more (is_supervised s.machines) n (script_in s)
 ends_after s (Some kind.Do) is n = rw (is (omega arith)) refl
 ends_after s (Some kind.Lose) is n = rw (is (omega arith)) refl
 ends_after s (Some kind.Stop) is n = rw (is (omega arith)) refl

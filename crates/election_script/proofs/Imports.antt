@@ -20,7 +20,7 @@ pub use Rattle.election_script.specs.Grammar.{AreDeedsOf, IsTextOf, actions_at, 
 pub use Rattle.election_script.specs.Grammar.{how_words, is_passed_over, key_line, line_of, lines_of, lines_of_kind}
 pub use Rattle.election_script.specs.Grammar.{link_line, log_line, lose_line, machine_line, name_at, name_of}
 pub use Rattle.election_script.specs.Grammar.{seed_line, step_line, step_words, stop_line, version_line}
-pub use Rattle.election_script.specs.Kinds.{IsNeeded, IsOnce, how_names, key_heights, key_kinds, kinds, line_kinds}
+pub use Rattle.election_script.specs.Kinds.{IsNeeded, how_names, key_heights, key_kinds, kinds, line_kinds}
 pub use Rattle.election_script.specs.Kinds.{line_word, named, rank, role_names}
 pub use Rattle.election_script.specs.Lawful.{AreCast, IsBetween, IsBoothAt, IsCast, IsDeedAmong, IsLawful, IsLose}
 pub use Rattle.election_script.specs.Lawful.{IsSession, IsStep, IsStopAt, max_actions, max_events, max_link}
@@ -43,7 +43,7 @@ pub use Rattle.election_script.specs.declared.sheet.Sheet.{Sheet}
 pub use Rattle.election_script.specs.inside.Draft.{HasRoleAt, IsDone}
 pub use Rattle.election_script.specs.inside.Lines.{IsInOrder, kind_of, line_words, reached_by}
 pub use Rattle.election_script.specs.inside.Sheets.{AreFew, IsFit, IsSheet, IsSheetFull, IsWithin, blank}
-pub use Rattle.election_script.specs.inside.Sheets.{is_read, kept, listed, told_by, put, script_of, version_in, with_deeds}
+pub use Rattle.election_script.specs.inside.Sheets.{is_read, kept, listed, told_by, put, script_in, version_in, with_deeds}
 pub use Rattle.election_script.specs.inside.Words.{roles_of, stopped_of, texts_of, told}
 pub use Rattle.entry_format.proofs.Taken.{version_small}
 pub use Rattle.entry_format.specs.Deeds.{IsDeedOf}

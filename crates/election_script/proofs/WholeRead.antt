@@ -6,8 +6,8 @@ use Rattle.election_script.proofs.Imports.{true, false, List, [], ◌∷◌, ◌
 use Rattle.election_script.proofs.Imports.{append-nil, Kind, rank, line_word, Lines, LineRead}
 use Rattle.election_script.proofs.Imports.{false_from_ne_true, leb-true, Decides-eqb}
 use Rattle.election_script.specs.Words.{◌>>=◌}
-use Rattle.election_script.specs.Left.{Left, End, Next, kind_and_words, is_kind, one, many}
-use Rattle.election_script.specs.Left.{some, one_more, most_lines}
+use Rattle.election_script.specs.Left.{Left, End, Next, kind_and_words, is_same_kind, one, many}
+use Rattle.election_script.specs.Left.{some, unless_full, most_lines}
 use Rattle.election_script.proofs.KindByKind.{word_names}
 
 -- what is left to read are lines of these words
@@ -21,17 +21,17 @@ pub head_is : (k : Kind) (args : List (List ℕ)) → kind_and_words (line_word 
 head_is k args = rw (word_names k) refl
 
 -- a kind is itself
-self : (k : Kind) → is_kind k k ≡ true
+self : (k : Kind) → is_same_kind k k ≡ true
 self k = (Decides-eqb (rank k) (rank k)).1 refl
 
 -- the first line is of another kind, if there is one
 abbrev pub IsPast : Kind → Lines → Type 0
 IsPast k [] = Unit {0}
 IsPast k (words ∷ lines) =
-    (j : Kind) × (args : List (List ℕ)) × (words ≡ line_word j ∷ args) × (is_kind k j ≡ false)
+    (j : Kind) × (args : List (List ℕ)) × (words ≡ line_word j ∷ args) × (is_same_kind k j ≡ false)
 
 -- so it is where others come first, or none of them does
-pub past_map : {A : Type 0} (k j : Kind) (args : A → List (List ℕ)) (xs : List A) (lines : Lines) → is_kind k j ≡ false →
+pub past_map : {A : Type 0} (k j : Kind) (args : A → List (List ℕ)) (xs : List A) (lines : Lines) → is_same_kind k j ≡ false →
     IsPast k lines → IsPast k (map (λ x. line_word j ∷ args x) xs ++ lines)
 past_map k j args [] lines other past = past
 past_map k j args (x ∷ xs) lines other past = (j, args x, refl, other)
@@ -58,7 +58,7 @@ abbrev pub AreRead : {A : Type 0} → Kind → (List A → List (List ℕ) → L
     List A → Type 0
 AreRead k read args values [] = Unit {0}
 AreRead k read args values (x ∷ xs) =
-    ((read values (args x) >>= one_more k values) ≡ Ok x) × AreRead k read args (values ++ x ∷ []) xs
+    ((read values (args x) >>= unless_full k values) ≡ Ok x) × AreRead k read args (values ++ x ∷ []) xs
 
 -- all lines of the kind
 pub many_back : {A : Type 0} (k : Kind) (read : List A → List (List ℕ) → LineRead A) (args : A → List (List ℕ))
@@ -97,7 +97,7 @@ some_map k read args values (x ∷ xs) left lines some tells =
 -- each value is read, if it is after those in front of it
 pub all_read : {A : Type 0} (k : Kind) (read : List A → List (List ℕ) → LineRead A) (args : A → List (List ℕ))
     (front xs : List A) → ((before : List A) (x : A) (after : List A) → front ++ xs ≡ before ++ x ∷ after →
-    (read before (args x) >>= one_more k before) ≡ Ok x) → AreRead k read args front xs
+    (read before (args x) >>= unless_full k before) ≡ Ok x) → AreRead k read args front xs
 all_read k read args front [] each = tt
 all_read {A} k read args front (x ∷ xs) each = (
   each front x xs refl,
@@ -108,7 +108,7 @@ all_read {A} k read args front (x ∷ xs) each = (
 -- there is room for a value among those that there may be
 pub room : {A : Type 0} (k : Kind) (most : ℕ) (all before after : List A) (x : A) (read : LineRead A) →
     most_lines k ≡ Some most → length all ≤ most → all ≡ before ++ x ∷ after → read ≡ Ok x →
-    (read >>= one_more k before) ≡ Ok x
+    (read >>= unless_full k before) ≡ Ok x
 room k most all before after x read limit few parts is =
     let size = ap length parts ∙ length-append before (x ∷ after) in
     let free : nat_le most (length before) ≡ false = false_from_ne_true (nat_le most (length before))

@@ -61,13 +61,13 @@ fault_here why (Next number (Ok head) left) = At number why
 fault_here why (Next number (Err own) left) = At number own
 
 -- whether the kinds are one
-abbrev pub is_kind : Kind → Kind → Bool
-is_kind kind other = rank kind == rank other
+abbrev pub is_same_kind : Kind → Kind → Bool
+is_same_kind kind other = rank kind == rank other
 
 -- one line of the kind, and what is left after it
 abbrev pub one : {A : Type 0} → Kind → (List (List ℕ) → LineRead A) → Left → LinesRead (A × Left)
 one kind read (Next number (Ok (found, words)) left) =
-    if is_kind kind found then (at_line number (read words) >>= λ value. Ok (value, left))
+    if is_same_kind kind found then (at_line number (read words) >>= λ value. Ok (value, left))
     else Err (At number OutOfOrder)
 one kind read left = Err (fault_here OutOfOrder left)
 
@@ -85,16 +85,16 @@ is_most None count = false
 is_most (Some most) count = nat_le most count
 
 -- the value of a line after these of its kind, unless there are as many as there may be
-abbrev pub one_more : {A : Type 0} → Kind → List A → A → LineRead A
-one_more kind values value = if is_most (most_lines kind) (length values) then Err OutOfRange else Ok value
+abbrev pub unless_full : {A : Type 0} → Kind → List A → A → LineRead A
+unless_full kind values value = if is_most (most_lines kind) (length values) then Err OutOfRange else Ok value
 
 -- all lines of the kind that come next, each after the values of those before, and what is left
 -- after them
 abbrev pub many : {A : Type 0} → Kind → (List A → List (List ℕ) → LineRead A) → List A → Left →
     LinesRead (List A × Left)
 many kind read values (Next number (Ok (found, words)) left) =
-    if is_kind kind found
-    then (at_line number (read values words >>= one_more kind values) >>= λ value.
+    if is_same_kind kind found
+    then (at_line number (read values words >>= unless_full kind values) >>= λ value.
     many kind read (values ++ value ∷ []) left)
     else Ok (values, Next number (Ok (found, words)) left)
 many kind read values left = Ok (values, left)
@@ -103,6 +103,6 @@ many kind read values left = Ok (values, left)
 abbrev pub some : {A : Type 0} → Kind → (List A → List (List ℕ) → LineRead A) → List A → Left →
     LinesRead (List A × Left)
 some kind read values (Next number (Ok (found, words)) left) =
-    if is_kind kind found then many kind read values (Next number (Ok (found, words)) left)
+    if is_same_kind kind found then many kind read values (Next number (Ok (found, words)) left)
     else Err (At number OutOfOrder)
 some kind read values left = Err (fault_here OutOfOrder left)

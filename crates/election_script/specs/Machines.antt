@@ -1,16 +1,27 @@
 -- Machines by their names.
-use Rattle.std.specs.Prelude.{ℕ, Bool, false, not, if◌then◌else◌, List, slice_get}
+use Rattle.std.specs.Prelude.{ℕ, Bool, false, not, if◌then◌else◌, List, map, slice_get}
 use Rattle.std.specs.Prelude.{Option, Some, None, Ok, Err, ok_or}
 use Rattle.std.specs.List.{position_from}
 use Rattle.std.specs.Str.{bytes_eq}
 use Rattle.roster.specs.declared.post.Role.{Role}
 use Rattle.roster.specs.Machines.{is_supervisor}
 use Rattle.election_script.specs.declared.faults.ScriptWhy.TheVariants.{BadName, UnknownName, WrongRole}
+use Rattle.election_script.specs.declared.script.Cast0.{Cast0}
+use Rattle.election_script.specs.declared.script.StopAt.{StopAt}
+use Rattle.election_script.specs.Grammar.{name_at}
 use Rattle.election_script.specs.Words.{LineRead, ◌>>=◌, is_name_word}
 
 -- machines, each by its name and its role
 abbrev pub Machines : Type 0
 Machines = List (List ℕ × Role)
+
+-- the name and the role of each machine
+abbrev pub roles_of : List Cast0 → Machines
+roles_of machines = map (λ (cast : Cast0). (cast.name, cast.role)) machines
+
+-- the names of the machines that stop
+abbrev pub stopped_of : List Cast0 → List StopAt → List (List ℕ)
+stopped_of machines stops = map (λ (stop : StopAt). name_at machines stop.machine) stops
 
 -- the place of the machine of the name
 abbrev pub place_of : Machines → List ℕ → Option ℕ

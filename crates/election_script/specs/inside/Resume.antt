@@ -22,7 +22,7 @@ use Rattle.election_script.specs.Left.{Left, LinesRead, Head, one, some, many, m
 use Rattle.election_script.specs.Reading.{version_read, cast_read, one_supervisor, none_left}
 use Rattle.election_script.specs.inside.Words.{roles_of, stopped_of}
 use Rattle.election_script.specs.inside.Lines.{reached_by}
-use Rattle.election_script.specs.inside.Sheets.{with_deeds, version_in, put, script_of, is_supervised}
+use Rattle.election_script.specs.inside.Sheets.{with_deeds, version_in, put, script_in, is_supervised}
 
 -- deeds in the order of their lines, each after its machine's place
 abbrev pub Deeds : Type 0
@@ -198,7 +198,7 @@ ending_read sheet =
 abbrev pub ended : Sheet → LineRead Script
 ended sheet = do
   whole ← ending_read sheet
-  Ok (script_of sheet)
+  Ok (script_in sheet)
 
 -- what a reader that changes the sheet answers, with the sheet
 abbrev pub seen : Result (Unit {0}) LineFault → Sheet → LineRead Sheet
