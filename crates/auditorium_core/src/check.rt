@@ -45,9 +45,9 @@ use audit_proof::{CheckFault, Proof, Verdict};
 use auditor::{RulesFrom, read_rules, rows};
 use command_line::{Answer, Fault, Status, are_logs, rules_from};
 use entry_graph::Graph;
-use evidence::{AuditFault, RosterRead, graph_from, read_logs, read_roster};
+use evidence::{AuditFault, RosterRead, graph_from, read_logs_by, read_roster};
 use hall_outside::Store;
-use log_files::LogRead;
+use log_files::{EntryWork, LogRead};
 use roster::Roster;
 use rule_language::{Row, Rule, standard};
 use std::alloc::{AllocError, AllocFailed, Global};
@@ -231,7 +231,8 @@ fn check_logs<S: Store>(
 }
 
 /// Reads the logs, and checks the rules by the proof for what they keep.
-fn check_rules<S: Store>(
+fn check_rules<W: EntryWork, S: Store>(
+    work: &W,
     alloc: Global,
     store: &mut S,
     read: RosterRead,
@@ -240,19 +241,21 @@ fn check_rules<S: Store>(
     proof: &str,
     logs: &[String],
 ) -> Result<Checked, AuditFault>
+    requires { W.may_share work.now }
     ensures { IsReadFrom S.Store report_by (map string_bytes logs.now ++ proof.now ∷ [])
         (ChecksFiles read (source_named word.now) (map rule_tree rules.items) proof.now
         (map string_bytes logs.now))
         store.old result store.new }
 {
-    match read_logs(alloc, store, logs, &read.roster, &read.election) {
+    match read_logs_by(work, alloc, store, logs, &read.roster, &read.election) {
         Ok(logs) => check_logs(alloc, store, read.roster, word, rules, proof, logs),
         Err(fault) => Err(fault),
     }
 }
 
 /// Reads the rules that the word names, and then the logs and the proof.
-fn check_under<S: Store>(
+fn check_under<W: EntryWork, S: Store>(
+    work: &W,
     alloc: Global,
     store: &mut S,
     read: RosterRead,
@@ -260,6 +263,7 @@ fn check_under<S: Store>(
     proof: &str,
     logs: &[String],
 ) -> Result<Checked, AuditFault>
+    requires { W.may_share work.now }
     ensures { IsReadFrom S.Store report_by
         (rule_files (source_named word.now) ++ (map string_bytes logs.now ++ proof.now ∷ []))
         (ChecksRules read (source_named word.now) proof.now (map string_bytes logs.now))
@@ -267,18 +271,19 @@ fn check_under<S: Store>(
 {
     match rules_from(word) {
         RulesFrom::Standard => match standard(alloc) {
-            Ok(rules) => check_rules(alloc, store, read, word, rules, proof, logs),
+            Ok(rules) => check_rules(work, alloc, store, read, word, rules, proof, logs),
             Err(_) => Err(AuditFault::Memory),
         },
         RulesFrom::File(name) => match read_rules(alloc, store, name) {
-            Ok(rules) => check_rules(alloc, store, read, word, rules, proof, logs),
+            Ok(rules) => check_rules(work, alloc, store, read, word, rules, proof, logs),
             Err(fault) => Err(fault),
         },
     }
 }
 
 /// Reads all files in order, and checks the rules by the proof.
-fn check_all<S: Store>(
+fn check_all<W: EntryWork, S: Store>(
+    work: &W,
     alloc: Global,
     store: &mut S,
     roster: &str,
@@ -286,13 +291,14 @@ fn check_all<S: Store>(
     proof: &str,
     logs: &[String],
 ) -> Result<Checked, AuditFault>
+    requires { W.may_share work.now }
     ensures { IsReadFrom S.Store report_by
         (check_files roster.now (source_named word.now) proof.now (map string_bytes logs.now))
         (GivesCheck roster.now (source_named word.now) proof.now (map string_bytes logs.now))
         store.old result store.new }
 {
     match read_roster(alloc, store, roster) {
-        Ok(read) => check_under(alloc, store, read, word, proof, logs),
+        Ok(read) => check_under(work, alloc, store, read, word, proof, logs),
         Err(fault) => Err(fault),
     }
 }
@@ -406,7 +412,8 @@ fn answer_of(alloc: Global, checked: &Checked) -> Result<Answer, AllocError>
 }
 
 /// The answer of `check` for the roster, the rules, the proof and the logs in these files.
-pub(crate) fn check<S: Store>(
+pub(crate) fn check<W: EntryWork, S: Store>(
+    work: &W,
     alloc: Global,
     store: &mut S,
     roster: &str,
@@ -414,10 +421,11 @@ pub(crate) fn check<S: Store>(
     proof: &str,
     logs: &[String],
 ) -> Result<Answer, Fault>
+    requires { W.may_share work.now }
     ensures { IsAnsweredBy S.Store (check roster.now rules.now proof.now (map string_bytes logs.now))
         store.old result store.new }
 {
-    match check_all(alloc, store, roster, rules, proof, logs) {
+    match check_all(work, alloc, store, roster, rules, proof, logs) {
         Ok(checked) => Ok(answer_of(alloc, &checked)?),
         Err(fault) => Answer::of_fault(alloc, &fault),
     }

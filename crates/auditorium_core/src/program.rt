@@ -32,8 +32,8 @@ use ways_of_work::{Alone, InThreads};
 
 /// Does what the words ask for, and answers how the program ends: each command. `run` plays a
 /// script in threads; `play`, `repair`, `demo`, `run`, `office` and `endorse` make their keys in
-/// threads, and `audit` and `order` verify signatures in threads. It reads the files that the words
-/// name, and takes all its memory before it writes. It may wait.
+/// threads, and `audit`, `order`, `prove`, `check` and `watch` verify signatures in threads. It reads
+/// the files that the words name, and takes all its memory before it writes. It may wait.
 pub fn auditorium<R: Threads + Wait + Sync, S: Store, K: Sink, G: Gate + Sync>(
     rt: &R,
     alloc: Global,
@@ -147,7 +147,7 @@ fn answer_to<W: LeafWork + EntryWork, S: Store>(
     match request {
         Request::Audit(roster, rules, logs) => audit(work, alloc, store, roster, rules, logs),
         Request::Check(roster, rules, proof, logs) => {
-            check(alloc, store, roster, rules, proof, logs)
+            check(work, alloc, store, roster, rules, proof, logs)
         }
         Request::Demonstrate(sessions) => demonstrate(work, alloc, sessions),
         Request::Endorse(name, file) => endorse(work, alloc, store, name, file),
@@ -157,9 +157,9 @@ fn answer_to<W: LeafWork + EntryWork, S: Store>(
         Request::Office(name, seed) => office(work, alloc, store, name, seed),
         Request::Order(roster, x, y, logs) => order(work, alloc, store, roster, x, y, logs),
         Request::Play(script, prefix) => play(work, alloc, store, script, prefix),
-        Request::Prove(roster, proof, logs) => prove(alloc, store, roster, proof, logs),
+        Request::Prove(roster, proof, logs) => prove(work, alloc, store, roster, proof, logs),
         Request::Repair(script, prefix) => repair(work, alloc, store, script, prefix),
         Request::Run(_, _) => unreachable!(),
-        Request::Watch(roster, rules, logs) => watch(alloc, store, roster, rules, logs),
+        Request::Watch(roster, rules, logs) => watch(work, alloc, store, roster, rules, logs),
     }
 }

@@ -17,9 +17,9 @@ use crate::words::Request;
 use audit_proof::ProveFault;
 use command_line::{Answer, Fault, OutputFile, are_logs};
 use entry_graph::Graph;
-use evidence::{AuditFault, RosterRead, graph_from, read_logs, read_roster};
+use evidence::{AuditFault, RosterRead, graph_from, read_logs_by, read_roster};
 use hall_outside::Store;
-use log_files::LogRead;
+use log_files::{EntryWork, LogRead};
 use precedence::Arrows;
 use std::alloc::{AllocError, Global};
 use std::marker::Model;
@@ -83,37 +83,41 @@ fn proof_of_logs(alloc: Global, name: &str, logs: Vec<LogRead>) -> Result<ProofM
 }
 
 /// Reads the logs, and makes the proof of what they keep.
-fn prove_under<S: Store>(
+fn prove_under<W: EntryWork, S: Store>(
+    work: &W,
     alloc: Global,
     store: &mut S,
     read: &RosterRead,
     proof: &str,
     logs: &[String],
 ) -> Result<ProofMade, AuditFault>
+    requires { W.may_share work.now }
     ensures { IsReadFrom S.Store (λ made. made) (map string_bytes logs.now)
         (ProvesFiles read.now proof.now (map string_bytes logs.now))
         store.old result store.new }
 {
-    match read_logs(alloc, store, logs, &read.roster, &read.election) {
+    match read_logs_by(work, alloc, store, logs, &read.roster, &read.election) {
         Ok(logs) => proof_of_logs(alloc, proof, logs),
         Err(fault) => Err(fault),
     }
 }
 
 /// Reads the roster and the logs, and makes the proof of what they keep.
-fn prove_all<S: Store>(
+fn prove_all<W: EntryWork, S: Store>(
+    work: &W,
     alloc: Global,
     store: &mut S,
     roster: &str,
     proof: &str,
     logs: &[String],
 ) -> Result<ProofMade, AuditFault>
+    requires { W.may_share work.now }
     ensures { IsReadFrom S.Store (λ made. made) (roster.now ∷ map string_bytes logs.now)
         (GivesMade roster.now proof.now (map string_bytes logs.now))
         store.old result store.new }
 {
     match read_roster(alloc, store, roster) {
-        Ok(read) => prove_under(alloc, store, &read, proof, logs),
+        Ok(read) => prove_under(work, alloc, store, &read, proof, logs),
         Err(fault) => Err(fault),
     }
 }
@@ -131,17 +135,19 @@ fn answer_of(alloc: Global, proof: &str, made: ProofMade) -> Result<Answer, Allo
 }
 
 /// The answer of `prove` for the roster and the logs in these files, and the name of the proof's.
-pub(crate) fn prove<S: Store>(
+pub(crate) fn prove<W: EntryWork, S: Store>(
+    work: &W,
     alloc: Global,
     store: &mut S,
     roster: &str,
     proof: &str,
     logs: &[String],
 ) -> Result<Answer, Fault>
+    requires { W.may_share work.now }
     ensures { IsAnsweredBy S.Store (prove roster.now proof.now (map string_bytes logs.now))
         store.old result store.new }
 {
-    match prove_all(alloc, store, roster, proof, logs) {
+    match prove_all(work, alloc, store, roster, proof, logs) {
         Ok(made) => Ok(answer_of(alloc, proof, made)?),
         Err(fault) => Answer::of_fault(alloc, &fault),
     }

@@ -49,10 +49,12 @@ use auditor::{RulesFrom, outcome_of, read_rules, rows};
 use command_line::{Answer, Fault, Status, are_logs, rules_from, status_by};
 use entry_format::Sealed;
 use entry_graph::Graph;
-use evidence::{AuditFault, RosterRead, entries_give_one_graph, graph_of, read_logs, read_roster};
+use evidence::{
+    AuditFault, RosterRead, entries_give_one_graph, graph_of, read_logs_by, read_roster,
+};
 use hall_outside::Store;
 use live_auditor::{Live, LiveFault};
-use log_files::{Kept, LogRead};
+use log_files::{EntryWork, Kept, LogRead};
 use roster::Roster;
 use rule_engine::Verdict;
 use rule_language::{Rule, standard};
@@ -81,18 +83,20 @@ struct EvidenceRead {
 }
 
 /// Reads the logs.
-fn read_with_rules<S: Store>(
+fn read_with_rules<W: EntryWork, S: Store>(
+    work: &W,
     alloc: Global,
     store: &mut S,
     read: RosterRead,
     rules: Vec<Rule>,
     names: &[String],
 ) -> Result<EvidenceRead, AuditFault>
+    requires { W.may_share work.now }
     ensures { IsReadFrom S.Store evidence_of (map string_bytes names.now)
         (ReadsLogs read (map rule_tree rules.items) (map string_bytes names.now))
         store.old result store.new }
 {
-    match read_logs(alloc, store, names, &read.roster, &read.election) {
+    match read_logs_by(work, alloc, store, names, &read.roster, &read.election) {
         Ok(logs) => Ok(EvidenceRead {
             roster: read.roster,
             rules,
@@ -103,13 +107,15 @@ fn read_with_rules<S: Store>(
 }
 
 /// Reads the rules that the word names, and then the logs.
-fn read_with_roster<S: Store>(
+fn read_with_roster<W: EntryWork, S: Store>(
+    work: &W,
     alloc: Global,
     store: &mut S,
     read: RosterRead,
     word: &str,
     names: &[String],
 ) -> Result<EvidenceRead, AuditFault>
+    requires { W.may_share work.now }
     ensures { IsReadFrom S.Store evidence_of
         (rule_files (source_named word.now) ++ map string_bytes names.now)
         (ReadsRules read (source_named word.now) (map string_bytes names.now))
@@ -117,31 +123,33 @@ fn read_with_roster<S: Store>(
 {
     match rules_from(word) {
         RulesFrom::Standard => match standard(alloc) {
-            Ok(rules) => read_with_rules(alloc, store, read, rules, names),
+            Ok(rules) => read_with_rules(work, alloc, store, read, rules, names),
             Err(_) => Err(AuditFault::Memory),
         },
         RulesFrom::File(name) => match read_rules(alloc, store, name) {
-            Ok(rules) => read_with_rules(alloc, store, read, rules, names),
+            Ok(rules) => read_with_rules(work, alloc, store, read, rules, names),
             Err(fault) => Err(fault),
         },
     }
 }
 
 /// Reads the roster, the rules and the logs.
-fn read_evidence<S: Store>(
+fn read_evidence<W: EntryWork, S: Store>(
+    work: &W,
     alloc: Global,
     store: &mut S,
     roster: &str,
     word: &str,
     names: &[String],
 ) -> Result<EvidenceRead, AuditFault>
+    requires { W.may_share work.now }
     ensures { IsReadFrom S.Store evidence_of
         (audit_files roster.now (source_named word.now) (map string_bytes names.now))
         (GivesEvidence roster.now (source_named word.now) (map string_bytes names.now))
         store.old result store.new }
 {
     match read_roster(alloc, store, roster) {
-        Ok(read) => read_with_roster(alloc, store, read, word, names),
+        Ok(read) => read_with_roster(work, alloc, store, read, word, names),
         Err(fault) => Err(fault),
     }
 }
@@ -521,37 +529,41 @@ fn watch_evidence(alloc: Global, found: EvidenceRead, word: &str) -> Result<Answ
 }
 
 /// Reads all files in order, and watches what the logs keep.
-fn watch_all<S: Store>(
+fn watch_all<W: EntryWork, S: Store>(
+    work: &W,
     alloc: Global,
     store: &mut S,
     roster: &str,
     word: &str,
     logs: &[String],
 ) -> Result<Answer, AuditFault>
+    requires { W.may_share work.now }
     ensures read { IsReadFrom S.Store (λ answer. answer)
         (audit_files roster.now (source_named word.now) (map string_bytes logs.now))
         (GivesWatch roster.now (source_named word.now) (map string_bytes logs.now))
         store.old result store.new }
     ensures status { IfOk result (λ answer. answer.status ≢ Status.Absent) }
 {
-    match read_evidence(alloc, store, roster, word, logs) {
+    match read_evidence(work, alloc, store, roster, word, logs) {
         Ok(found) => watch_evidence(alloc, found, word),
         Err(fault) => Err(fault),
     }
 }
 
 /// The answer of `watch` for the roster, the rules and the logs in these files.
-pub(crate) fn watch<S: Store>(
+pub(crate) fn watch<W: EntryWork, S: Store>(
+    work: &W,
     alloc: Global,
     store: &mut S,
     roster: &str,
     rules: &str,
     logs: &[String],
 ) -> Result<Answer, Fault>
+    requires { W.may_share work.now }
     ensures { IsAnsweredBy S.Store (watch roster.now rules.now (map string_bytes logs.now))
         store.old result store.new }
 {
-    match watch_all(alloc, store, roster, rules, logs) {
+    match watch_all(work, alloc, store, roster, rules, logs) {
         Ok(answer) => Ok(answer),
         Err(fault) => Answer::of_fault(alloc, &fault),
     }

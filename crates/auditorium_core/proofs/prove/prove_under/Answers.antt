@@ -8,7 +8,7 @@ returns-in-Ok g c =
     let read = c.args.read.now in
     let names = map string_bytes c.args.logs.now in
     and_then g.S.Store (λ logs. logs.items) names (GivesLogs read.roster.machines read.election names) itself
-    (ProvesLogs c.args.proof.now) c.args.store.now c.read_logs.new.store c.in-Ok.logs c.proof_of_logs.result
+    (ProvesLogs c.args.proof.now) c.args.store.now c.read_logs_by.new.store c.in-Ok.logs c.proof_of_logs.result
     c.in-Ok.ensures c.proof_of_logs.ensures.ok c.proof_of_logs.ensures.err c.proof_of_logs.ensures.only
 
 pub returns-in-Err : goal.returns-in-Err
@@ -16,4 +16,4 @@ returns-in-Err g c =
     let read = c.args.read.now in
     let names = map string_bytes c.args.logs.now in
     and_refused g.S.Store (λ logs. logs.items) names (GivesLogs read.roster.machines read.election names) itself
-    (ProvesLogs c.args.proof.now) c.args.store.now c.read_logs.new.store c.in-Err.fault c.in-Err.ensures
+    (ProvesLogs c.args.proof.now) c.args.store.now c.read_logs_by.new.store c.in-Err.fault c.in-Err.ensures

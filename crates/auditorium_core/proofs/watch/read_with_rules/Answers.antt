@@ -11,7 +11,7 @@ returns-in-Ok g c =
       machines = read.roster.machines;
       rules = map rule_tree c.args.rules.items;
       logs = logs;
-    })) c.args.store.now c.read_logs.new.store c.in-Ok.logs (Ok _) c.in-Ok.ensures refl tt tt
+    })) c.args.store.now c.read_logs_by.new.store c.in-Ok.logs (Ok _) c.in-Ok.ensures refl tt tt
 
 pub returns-in-Err : goal.returns-in-Err
 returns-in-Err g c =
@@ -22,4 +22,4 @@ returns-in-Err g c =
       machines = read.roster.machines;
       rules = map rule_tree c.args.rules.items;
       logs = logs;
-    })) c.args.store.now c.read_logs.new.store c.in-Err.fault c.in-Err.ensures
+    })) c.args.store.now c.read_logs_by.new.store c.in-Err.fault c.in-Err.ensures
