@@ -27,8 +27,8 @@ USED_FROM_BELOW = "entry_order"
 PLACES = """
 command_hints  auditorium_cli  auditorium_core  demonstration   auditorium_view
 .              command_line    .                .               .
-entangled_picture auditor      report_exactness honest_reports  honest_rules
-evidence       live_auditor    report_page      counterexamples honest_logs
+entangled_picture auditor      report_exactness honest_places   counterexamples
+evidence       live_auditor    report_page      .               .
 -----
 .              .               finished_floor   log_lock        broadcast_queues
 ruled_queues   .               .                machine_floor   floor_links

@@ -19,8 +19,8 @@ use Rattle.rule_engine.specs.declared.verdict.Verdict.{Verdict}
 use Rattle.rule_engine.specs.declared.verdict.Verdict.TheVariants as verdict
 use Rattle.command_line.specs.declared.status.Status.TheVariants as status
 use Rattle.polling_world.proofs.OnePlay.{one_play}
-use Rattle.honest_reports.specs.Places.{HasLeft}
-use Rattle.honest_reports.proofs.AuditLaws.{audits_are_refused_only_so, reports_say_none_broken}
+use Rattle.honest_places.specs.Places.{HasLeft}
+use Rattle.honest_places.proofs.AuditLaws.{audits_are_refused_only_so, reports_say_none_broken}
 use Rattle.auditorium_core.specs.Audit.{IsSound}
 use Rattle.auditorium_core.specs.Play.{KeepOrder}
 use Rattle.auditorium_core.proofs.AuditAnswers.{not_absent}

@@ -8,10 +8,10 @@ use Rattle.auditorium_core.proofs.Imports.{report_answer, status_by, Answer, ref
 use Rattle.auditorium_core.proofs.Imports.{IsAuditAnswer, IsAuditOfPlace, IsOfReport}
 use Rattle.std.proofs.Common.{Option}
 use Rattle.auditor.specs.declared.outcome.Outcome.TheVariants as outcome
-use Rattle.honest_reports.specs.Places.{HasLeft}
-use Rattle.honest_reports.proofs.AuditLaws.{audits_are_refused_only_so, reports_accuse_nobody, reports_say_none_broken}
-use Rattle.honest_reports.proofs.AuditLaws.{reports_leave_rules_open, whole_reports_say_all_kept}
-use Rattle.honest_reports.proofs.AuditLaws.{whole_reports_show_distinct}
+use Rattle.honest_places.specs.Places.{HasLeft}
+use Rattle.honest_places.proofs.AuditLaws.{audits_are_refused_only_so, reports_accuse_nobody, reports_say_none_broken}
+use Rattle.honest_places.proofs.AuditLaws.{reports_leave_rules_open, whole_reports_say_all_kept}
+use Rattle.honest_places.proofs.AuditLaws.{whole_reports_show_distinct}
 use Rattle.command_line.specs.declared.status.Status.TheVariants as status
 
 -- no refusal has the status of a report

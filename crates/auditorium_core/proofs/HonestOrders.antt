@@ -12,11 +12,11 @@ use Rattle.std.proofs.Common.{Option, length}
 use Rattle.std.specs.List.{Contains}
 use Rattle.entry_order.specs.Survivors.{gaps}
 use Rattle.entry_order.proofs.Orders.{stamps_rise}
-use Rattle.honest_logs.proofs.Given.{all_given}
-use Rattle.honest_logs.proofs.HonestFiles.{script_distinct, script_given, script_not_refused, script_read}
-use Rattle.honest_logs.proofs.RosterTexts.{read_of_script, world_of_script}
-use Rattle.honest_reports.specs.Places.{HasLeft}
-use Rattle.honest_reports.proofs.RosterGiven.{read_same, roster_not_refused}
+use Rattle.honest_places.proofs.Given.{all_given}
+use Rattle.honest_places.proofs.HonestFiles.{script_distinct, script_given, script_not_refused, script_read}
+use Rattle.honest_places.proofs.RosterTexts.{read_of_script, world_of_script}
+use Rattle.honest_places.specs.Places.{HasLeft}
+use Rattle.honest_places.proofs.RosterGiven.{read_same, roster_not_refused}
 use Rattle.command_line.specs.declared.status.Status.TheVariants as status
 use Rattle.auditorium_core.proofs.PlainSurvivors.{is_exact}
 use Rattle.auditorium_core.proofs.EntryTexts.{named_has}

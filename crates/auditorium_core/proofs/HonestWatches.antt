@@ -18,13 +18,13 @@ use Rattle.std.specs.Prelude.{All, length, codes}
 use Rattle.std.specs.List.{Contains}
 use Rattle.entry_order.specs.declared.three.Three.TheVariants as three
 use Rattle.evidence.specs.Graphs.{IsSealedGraph}
-use Rattle.honest_logs.proofs.HonestFiles.{script_given, script_not_refused}
-use Rattle.honest_logs.proofs.LeftFileFacts.{files_are_read}
-use Rattle.honest_logs.proofs.RosterTexts.{world_of_script}
-use Rattle.honest_rules.proofs.Scripts.{scripts_are_never_too_wide, scripts_lead_to_honest_places}
-use Rattle.honest_reports.specs.Places.{HasLeft}
-use Rattle.honest_reports.proofs.AuditLaws.{audits_are_refused_only_so, reports_say_none_broken}
-use Rattle.honest_reports.proofs.RosterGiven.{read_same, roster_not_refused}
+use Rattle.honest_places.proofs.HonestFiles.{script_given, script_not_refused}
+use Rattle.honest_places.proofs.LeftFileFacts.{files_are_read}
+use Rattle.honest_places.proofs.RosterTexts.{world_of_script}
+use Rattle.honest_places.proofs.RuleScripts.{scripts_are_never_too_wide, scripts_lead_to_honest_places}
+use Rattle.honest_places.specs.Places.{HasLeft}
+use Rattle.honest_places.proofs.AuditLaws.{audits_are_refused_only_so, reports_say_none_broken}
+use Rattle.honest_places.proofs.RosterGiven.{read_same, roster_not_refused}
 use Rattle.auditorium_core.proofs.CommandProofs.{status_is}
 use Rattle.auditorium_core.proofs.HonestAudits.{only_broken}
 use Rattle.auditorium_core.proofs.OneWatch.{report_by}

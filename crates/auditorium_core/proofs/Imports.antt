@@ -213,26 +213,26 @@ pub use Rattle.hall_text.specs.Words.{IsDigestText}
 pub use Rattle.hex.proofs.HexLemmas.{decode_of-encode_lower, decode_of-same}
 pub use Rattle.hex.specs.Hex.{IsBytes, decode_of, encode_lower, lower_digits}
 unfoldable pub use Rattle.hex.specs.Hex.{encode_with}
-pub use Rattle.honest_logs.proofs.Given.{left_agrees}
-pub use Rattle.honest_logs.proofs.HonestGraphs.{of_script_is_honest}
-pub use Rattle.honest_logs.proofs.PlayedFiles.{file_of}
-pub use Rattle.honest_logs.proofs.Scripts.{scripts_are_honest}
-pub use Rattle.honest_logs.proofs.ShortLogs.{logs_are_short}
-pub use Rattle.honest_logs.specs.Agreement.{HaveAll, IsAllGiven}
-pub use Rattle.honest_logs.specs.HonestReading.{IsHonestlyRead}
-pub use Rattle.honest_logs.specs.HonestWorld.{IsHonestWorld}
-pub use Rattle.honest_logs.specs.LeftFiles.{AreAllFilesOf, AreFilesOf, written_logs}
-pub use Rattle.honest_logs.specs.OfScript.{IsOfScript}
-pub use Rattle.honest_logs.specs.WhatIsLeft.{AreReadIn, IsLeftIn}
-pub use Rattle.honest_reports.proofs.Judged.{none_broken}
-pub use Rattle.honest_reports.proofs.RosterGiven.{is_honest, of_script}
-pub use Rattle.honest_reports.specs.Kept.{SaysAllKept, SaysNoneBroken}
-pub use Rattle.honest_reports.specs.Places.{AreWholeFilesOf, IsRosterOf, IsWholeIn, files_read}
-pub use Rattle.honest_reports.specs.Refusals.{IsHonestRefusal}
-pub use Rattle.honest_reports.specs.Reports.{IsHonestReport}
-pub use Rattle.honest_rules.proofs.Audits.{honest_audits_never_say_broken}
-pub use Rattle.honest_rules.specs.Honest.{IsHonest}
-pub use Rattle.honest_rules.specs.Kept.{WereSentIn}
+pub use Rattle.honest_places.proofs.Given.{left_agrees}
+pub use Rattle.honest_places.proofs.HonestGraphs.{of_script_is_honest}
+pub use Rattle.honest_places.proofs.PlayedFiles.{file_of}
+pub use Rattle.honest_places.proofs.LogScripts.{scripts_are_honest}
+pub use Rattle.honest_places.proofs.ShortLogs.{logs_are_short}
+pub use Rattle.honest_places.specs.Agreement.{HaveAll, IsAllGiven}
+pub use Rattle.honest_places.specs.HonestReading.{IsHonestlyRead}
+pub use Rattle.honest_places.specs.HonestWorld.{IsHonestWorld}
+pub use Rattle.honest_places.specs.LeftFiles.{AreAllFilesOf, AreFilesOf, written_logs}
+pub use Rattle.honest_places.specs.OfScript.{IsOfScript}
+pub use Rattle.honest_places.specs.WhatIsLeft.{AreReadIn, IsLeftIn}
+pub use Rattle.honest_places.proofs.Judged.{none_broken}
+pub use Rattle.honest_places.proofs.RosterGiven.{is_honest, of_script}
+pub use Rattle.honest_places.specs.ReportsKept.{SaysAllKept, SaysNoneBroken}
+pub use Rattle.honest_places.specs.Places.{AreWholeFilesOf, IsRosterOf, IsWholeIn, files_read}
+pub use Rattle.honest_places.specs.Refusals.{IsHonestRefusal}
+pub use Rattle.honest_places.specs.Reports.{IsHonestReport}
+pub use Rattle.honest_places.proofs.RuleAudits.{honest_audits_never_say_broken}
+pub use Rattle.honest_places.specs.Honest.{IsHonest}
+pub use Rattle.honest_places.specs.RulesKept.{WereSentIn}
 pub use Rattle.hss_sign.specs.Signs.{HssSigns}
 pub use Rattle.live_auditor.specs.Adding.{Becomes, Collides, IsAddAnswer, IsOfSameAudit, IsTooWideOver}
 pub use Rattle.live_auditor.specs.Live.{IsLive, IsOfMachine, LiveState, max_added}

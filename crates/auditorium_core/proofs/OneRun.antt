@@ -10,7 +10,7 @@ use Rattle.auditorium_core.proofs.Imports.{refusal_answer, log_file, SayUndone, 
 use Rattle.auditorium_core.proofs.Imports.{run_answer, scripts_are_honest}
 use Rattle.polling_world.proofs.Placing.{get-map}
 use Rattle.entry_order.specs.History.{entry_of}
-use Rattle.honest_logs.proofs.Given.{event_was_sent}
+use Rattle.honest_places.proofs.Given.{event_was_sent}
 use Rattle.finished_floor.specs.Losses.{AreLosses}
 use Rattle.auditorium_core.specs.Play.{machine_lines}
 use Rattle.auditorium_core.specs.Run.{IsRunAnswer}

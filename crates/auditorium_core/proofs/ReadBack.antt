@@ -18,9 +18,9 @@ use Rattle.std.proofs.lemmas.List.{append_cancel_left, append_cancel_right}
 use Rattle.entry_order.proofs.Lists.{Contains-cons_cases}
 use Rattle.entry_order.proofs.Places.{all_at, place_of}
 use Rattle.auditorium_core.proofs.Imports.{AreRunMachines}
-use Rattle.honest_logs.specs.WhatIsLeft.{IsLeftOf}
-use Rattle.honest_logs.proofs.ReadLogs.{whole_is_left}
-use Rattle.honest_reports.specs.Places.{HasLeft}
+use Rattle.honest_places.specs.WhatIsLeft.{IsLeftOf}
+use Rattle.honest_places.proofs.ReadLogs.{whole_is_left}
+use Rattle.honest_places.specs.Places.{HasLeft}
 use Rattle.auditorium_core.proofs.Imports.{standard}
 use Rattle.command_line.specs.declared.status.Status.TheVariants as status
 use Rattle.auditorium_core.specs.HonestAudit.{IsAuditOfPlace, TellsHonestReport}

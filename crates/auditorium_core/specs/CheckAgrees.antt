@@ -7,7 +7,7 @@ use Rattle.audit_proof.specs.declared.fault.Verdict.{Verdict}
 use Rattle.audit_proof.specs.declared.fault.Verdict.TheVariants.{Kept, Broken, Unsettled}
 use Rattle.auditor.specs.Audits.{GivesReport}
 use Rattle.auditor.specs.Report.{AuditReport}
-use Rattle.honest_reports.specs.Places.{files_read}
+use Rattle.honest_places.specs.Places.{files_read}
 use Rattle.command_line.specs.Lines.{Answer}
 use Rattle.auditorium_core.specs.Audit.{IsSound}
 use Rattle.command_line.specs.Reports.{source_named}

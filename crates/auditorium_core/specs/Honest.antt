@@ -11,8 +11,8 @@ use Rattle.election_script.specs.declared.script.Script.{Script}
 use Rattle.log_files.specs.declared.sealed_log.LogRead.{LogRead}
 use Rattle.polling_world.specs.Keys.{roster_of}
 use Rattle.polling_world.specs.Making.{election_of}
-use Rattle.honest_logs.specs.HonestReading.{IsHonestlyRead}
-use Rattle.honest_logs.specs.LeftFiles.{AreAllFilesOf}
+use Rattle.honest_places.specs.HonestReading.{IsHonestlyRead}
+use Rattle.honest_places.specs.LeftFiles.{AreAllFilesOf}
 use Rattle.auditorium_core.specs.declared.order_word.OrderWord.{OrderWord}
 use Rattle.auditorium_core.specs.declared.order_word.OrderWord.TheVariants.{Same, Before, After, Apart, Unknown}
 use Rattle.command_line.specs.declared.status.Status.TheVariants.{Done}

@@ -7,16 +7,16 @@ use Rattle.entry_order.specs.Naming.{Distinct}
 use Rattle.entry_order.specs.World.{World, sent_in}
 use Rattle.election_script.specs.declared.script.Script.{Script}
 use Rattle.evidence.specs.Refusal.{Refusal}
-use Rattle.honest_logs.specs.LeftFiles.{AreAllFilesOf}
+use Rattle.honest_places.specs.LeftFiles.{AreAllFilesOf}
 use Rattle.rule_language.specs.Standard.{standard_rules}
 use Rattle.rule_engine.specs.declared.verdict.Verdict.TheVariants as verdict
 use Rattle.auditor.specs.Report.{AuditReport}
 use Rattle.report_exactness.specs.ReportExact.{IsOpenFor}
 use Rattle.auditor.specs.Sources.{RuleSource, standard}
-use Rattle.honest_reports.specs.Kept.{SaysAllKept, SaysNoneBroken}
-use Rattle.honest_reports.specs.Places.{AreWholeFilesOf, files_read}
-use Rattle.honest_reports.specs.Refusals.{IsHonestRefusal}
-use Rattle.honest_reports.specs.Reports.{IsHonestReport}
+use Rattle.honest_places.specs.ReportsKept.{SaysAllKept, SaysNoneBroken}
+use Rattle.honest_places.specs.Places.{AreWholeFilesOf, files_read}
+use Rattle.honest_places.specs.Refusals.{IsHonestRefusal}
+use Rattle.honest_places.specs.Reports.{IsHonestReport}
 use Rattle.command_line.specs.declared.status.Status.{Status}
 use Rattle.command_line.specs.declared.status.Status.TheVariants as status
 use Rattle.auditorium_core.specs.HonestPlace.{OnEachPlace}

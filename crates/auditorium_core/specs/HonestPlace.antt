@@ -7,8 +7,8 @@ use Rattle.entry_order.specs.World.{World}
 use Rattle.election_script.specs.declared.script.Script.{Script}
 use Rattle.polling_world.specs.Keys.{roster_of}
 use Rattle.polling_world.specs.Machines.{MachineState}
-use Rattle.honest_logs.specs.LeftFiles.{AreAllFilesOf, written_logs}
-use Rattle.honest_reports.specs.Places.{AreWholeFilesOf, HasLeft, IsRosterOf}
+use Rattle.honest_places.specs.LeftFiles.{AreAllFilesOf, written_logs}
+use Rattle.honest_places.specs.Places.{AreWholeFilesOf, HasLeft, IsRosterOf}
 
 -- this holds of each honest place that left these files: of each lawful script, and of each world
 -- to which its machines come by some steps

@@ -9,7 +9,7 @@ use Rattle.entry_order.specs.World.{World, sent_in}
 use Rattle.election_script.specs.declared.script.Script.{Script}
 use Rattle.polling_world.specs.Machines.{MachineState}
 use Rattle.polling_world.specs.Worlds.{world_of}
-use Rattle.honest_logs.specs.LeftFiles.{AreAllFilesOf, written_logs}
+use Rattle.honest_places.specs.LeftFiles.{AreAllFilesOf, written_logs}
 use Rattle.auditor.specs.Sources.{standard}
 use Rattle.command_line.specs.declared.status.Status.TheVariants as status
 use Rattle.auditorium_core.specs.Answer.{IsAnswerTo}

@@ -10,7 +10,7 @@ use Rattle.evidence.specs.Graphs.{entries_of}
 use Rattle.auditor.specs.Audits.{GivesReport}
 use Rattle.auditor.specs.Outcomes.{is_broken}
 use Rattle.auditor.specs.Report.{AuditReport}
-use Rattle.honest_reports.specs.Places.{files_read}
+use Rattle.honest_places.specs.Places.{files_read}
 use Rattle.live_auditor.specs.Summary.{Summary}
 use Rattle.command_line.specs.declared.status.Status.TheVariants as status
 use Rattle.auditorium_core.specs.HonestPlace.{OnEachPlace}

@@ -44,7 +44,7 @@ pub use Rattle.entry_order.specs.declared.event.Event.{Event}
 pub use Rattle.entry_order.specs.declared.event.Event.TheVariants.{Got, Sent}
 pub use Rattle.entry_order.specs.declared.step.Step.{Step}
 pub use Rattle.entry_order.specs.declared.step.Step.TheVariants.{Act, Hear}
-pub use Rattle.honest_rules.specs.Honest.{IsHonest, MayAs, role_at}
+pub use Rattle.honest_places.specs.Honest.{IsHonest, MayAs, role_at}
 pub use Rattle.polling_world.specs.declared.left.LeftWhy.TheVariants.{BoothNot, SupervisorNot}
 pub use Rattle.roster.specs.declared.post.Post.{Post}
 pub use Rattle.roster.specs.declared.post.Role.{Role}

@@ -22,7 +22,7 @@ use Rattle.rule_language.specs.declared.form.Form.TheVariants as form
 use Rattle.rule_language.specs.Trees.{Trees, no_trees, tree_then}
 use Rattle.rule_meaning.specs.Meaning.{Holds}
 use Rattle.survivor_rows.specs.Rows.{row_of}
-use Rattle.honest_rules.specs.Honest.{role_at}
+use Rattle.honest_places.specs.Honest.{role_at}
 
 -- the rules of the role give no cause against the deed, or this one first
 abbrev pub MayInSpiteOf : LeftWhy → Role → ℕ → List (Event SealedEntry) → Deed → Type 0

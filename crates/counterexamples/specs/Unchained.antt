@@ -11,7 +11,7 @@ use Rattle.entry_order.specs.Naming.{has_digest, IsNew}
 use Rattle.entry_order.specs.World.{World, history, sent_in}
 use Rattle.roster.specs.declared.post.Post.{Post}
 use Rattle.roster.specs.Machines.{HaveOneSupervisor}
-use Rattle.honest_rules.specs.Honest.{MayAs, role_at}
+use Rattle.honest_places.specs.Honest.{MayAs, role_at}
 
 -- the frontier without what the machine sent itself
 abbrev pub frontier_of_others : List (Event SealedEntry) → List (List ℕ)

@@ -2,7 +2,7 @@
 //! fails. Each is the contract of a function with an empty body.
 
 ghost use Rattle.booth_core.specs.declared.state.BoothNot.TheVariants.{LogNotWhole, NotAuthorised};
-ghost use Rattle.honest_rules.specs.Honest.{IsHonest};
+ghost use Rattle.honest_places.specs.Honest.{IsHonest};
 ghost use Rattle.counterexamples.specs.InSpite.{FailsAtSome, IsHonestBut, own_booth};
 ghost use Rattle.counterexamples.specs.Unchained.{IsHonestUnchained};
 ghost use Rattle.polling_world.specs.declared.left.LeftWhy.TheVariants.{BoothNot, SupervisorNot};

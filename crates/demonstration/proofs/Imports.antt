@@ -24,9 +24,9 @@ pub use Rattle.evidence.specs.Refusal.{Refusal, refusal_of, too_long}
 pub use Rattle.evidence.specs.RosterFile.{GivesRoster, max_roster}
 pub use Rattle.evidence.specs.Same.{Agree}
 pub use Rattle.evidence.specs.declared.roster_file.RosterRead.{RosterRead}
-pub use Rattle.honest_logs.proofs.ReadLogs.{left_has_header, whole_is_left}
-pub use Rattle.honest_logs.proofs.RosterTexts.{script_roster_is_read}
-pub use Rattle.honest_logs.specs.WhatIsLeft.{IsLeftOf, end_of}
+pub use Rattle.honest_places.proofs.ReadLogs.{left_has_header, whole_is_left}
+pub use Rattle.honest_places.proofs.RosterTexts.{script_roster_is_read}
+pub use Rattle.honest_places.specs.WhatIsLeft.{IsLeftOf, end_of}
 pub use Rattle.log_files.specs.LogFile.{IsSealedLogOf}
 pub use Rattle.log_files.specs.LogText.{HasHeader, header_tree}
 pub use Rattle.log_files.specs.Written.{log_text, record_text}

@@ -6,7 +6,7 @@ use Rattle.entry_format.specs.SealedEntry.{SealedEntry}
 use Rattle.entry_order.specs.declared.event.Event.{Event}
 use Rattle.entry_order.specs.History.{entry_of}
 use Rattle.log_files.specs.Written.{log_text}
-use Rattle.honest_logs.specs.WhatIsLeft.{end_of}
+use Rattle.honest_places.specs.WhatIsLeft.{end_of}
 
 -- a booth ends a session with a ballot that is cast, with one that is challenged, or with none
 -- (VoteBox, USENIX Security 2008)

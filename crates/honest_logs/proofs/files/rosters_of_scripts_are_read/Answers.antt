@@ -1,5 +1,0 @@
-use Rattle.honest_logs.proofs.RosterTexts.{script_roster_is_read}
-use Rattle.honest_logs.proofs.files.rosters_of_scripts_are_read.Goals as goal
-
-pub returns : goal.returns
-returns c = script_roster_is_read

@@ -1,8 +1,0 @@
-use Rattle.honest_logs.proofs.Given.{all_given, shows_distinct}
-use Rattle.honest_logs.proofs.laws.answers_show_distinct.Goals as goal
-
-pub returns-clause-all : goal.returns-clause-all
-returns-clause-all c = all_given
-
-pub returns-clause-distinct : goal.returns-clause-distinct
-returns-clause-distinct c = shows_distinct

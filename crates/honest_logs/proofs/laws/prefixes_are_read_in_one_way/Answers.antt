@@ -1,8 +1,0 @@
-use Rattle.honest_logs.proofs.OneReading.{same_end, same_kept}
-use Rattle.honest_logs.proofs.laws.prefixes_are_read_in_one_way.Goals as goal
-
-pub returns-clause-kept : goal.returns-clause-kept
-returns-clause-kept c = same_kept
-
-pub returns-clause-end : goal.returns-clause-end
-returns-clause-end c = same_end

@@ -1,5 +1,0 @@
-use Rattle.honest_logs.proofs.NamedOnce.{named_once}
-use Rattle.honest_logs.proofs.lengths.a_machine_names_each_digest_once.Goals as goal
-
-pub returns : goal.returns
-returns g c = named_once (g.T.Knot.node)

@@ -1,5 +1,0 @@
-use Rattle.honest_logs.proofs.ShortLogs.{logs_are_short}
-use Rattle.honest_logs.proofs.lengths.honest_logs_are_within_their_limit.Goals as goal
-
-pub returns : goal.returns
-returns c = logs_are_short

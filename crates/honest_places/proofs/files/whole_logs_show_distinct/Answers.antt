@@ -1,0 +1,5 @@
+use Rattle.honest_places.proofs.HonestGraphs.{graph_shows_distinct}
+use Rattle.honest_places.proofs.files.whole_logs_show_distinct.Goals as goal
+
+pub returns : goal.returns
+returns c = graph_shows_distinct

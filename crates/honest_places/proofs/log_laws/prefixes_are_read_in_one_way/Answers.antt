@@ -1,0 +1,8 @@
+use Rattle.honest_places.proofs.OneReading.{same_end, same_kept}
+use Rattle.honest_places.proofs.log_laws.prefixes_are_read_in_one_way.Goals as goal
+
+pub returns-clause-kept : goal.returns-clause-kept
+returns-clause-kept c = same_kept
+
+pub returns-clause-end : goal.returns-clause-end
+returns-clause-end c = same_end

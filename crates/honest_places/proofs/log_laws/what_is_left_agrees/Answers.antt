@@ -1,0 +1,5 @@
+use Rattle.honest_places.proofs.Given.{left_agrees}
+use Rattle.honest_places.proofs.log_laws.what_is_left_agrees.Goals as goal
+
+pub returns : goal.returns
+returns c = left_agrees

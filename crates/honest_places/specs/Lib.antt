@@ -1,0 +1,16 @@
+pub mod HonestWorld
+pub mod OfScript
+pub mod WhatIsLeft
+pub mod LeftFiles
+pub mod Agreement
+pub mod HonestReading
+pub mod Named
+pub mod Honest
+pub mod RulesKept
+pub mod PlacesOfScripts
+pub mod Places
+pub mod Reports
+pub mod ReportsKept
+pub mod Open
+pub mod Refusals
+pub mod ReportLaws

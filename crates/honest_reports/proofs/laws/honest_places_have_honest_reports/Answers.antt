@@ -1,5 +1,0 @@
-use Rattle.honest_reports.proofs.AuditLaws.{reports_accuse_nobody}
-use Rattle.honest_reports.proofs.laws.honest_places_have_honest_reports.Goals as goal
-
-pub returns : goal.returns
-returns c = reports_accuse_nobody

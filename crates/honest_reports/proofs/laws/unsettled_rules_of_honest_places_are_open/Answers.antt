@@ -1,5 +1,0 @@
-use Rattle.honest_reports.proofs.AuditLaws.{reports_leave_rules_open}
-use Rattle.honest_reports.proofs.laws.unsettled_rules_of_honest_places_are_open.Goals as goal
-
-pub returns : goal.returns
-returns c = reports_leave_rules_open

@@ -1,6 +1,0 @@
-pub mod Places
-pub mod Reports
-pub mod Kept
-pub mod Open
-pub mod Refusals
-pub mod Laws
