@@ -25,8 +25,9 @@ USED_FROM_BELOW = "entry_order"
 # The rows of boxes from the top down; `.` is an empty place, and a line of dashes parts two bands. Where the
 # ways go straight up there are empty places.
 PLACES = """
-command_hints  auditorium_cli  auditorium_core  demonstration   auditorium_view
-.              command_line    .                .               .
+command_hints  auditorium_cli  auditorium_core  .               auditorium_view
+.              log_commands    office_commands  place_commands  .
+.              command_line    .                demonstration   .
 entangled_picture auditor      report_exactness honest_places   counterexamples
 evidence       live_auditor    report_page      .               .
 -----

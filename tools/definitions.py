@@ -36,6 +36,8 @@ from collections import defaultdict
 ROOT = pathlib.Path(__file__).resolve().parent.parent
 PAGE = ROOT / "docs" / "BELIEVE.md"
 TOP = ("auditorium_core", "auditorium")
+# The crates with the commands in families, and the one with the laws on honest places.
+FAMILIES = ("log_commands", "place_commands", "office_commands", "honest_places")
 INSIDE = "specs/inside/"
 # What says of each command what it is, by one record for each.
 TABLE = "command_parts"
@@ -301,6 +303,13 @@ def commands(known):
     return found
 
 
+def key_at_top(known, name):
+    """A definition of the top crate or of a family's."""
+    crates_with = [crate for crate in (TOP[0], *FAMILIES) if any(other == crate and name in module.bodies
+                                                                 for (other, _), module in known.items())]
+    return key_of(known, crates_with[0] if crates_with else TOP[0], name)
+
+
 def key_of(known, crate, name):
     """A definition by its crate and name, which this script or the page begins at."""
     for other, module in known:
@@ -323,14 +332,14 @@ def parts_to_read(known, named):
     """The parts by name, each with the definitions to be read for it, and all that is reached in all."""
     by_word = commands(known)
     law = reached_from(known, [key_of(known, "entry_order", name) for name in LAW])
-    meaning = [key_of(known, TOP[0], name) for name in MEANING]
+    meaning = [key_at_top(known, name) for name in MEANING]
     answers = [root for word, roots in by_word.items() if word != MANY_ANSWERS for root in roots]
     fixed = set(reached_from(known, answers, meaning)) - set(law)
     leading = leading_to(known, meaning, fixed)
     roots = {root for given in by_word.values() for root in given}
     parts = {"law": law, "all": reached_from(known, named[TOP], roots)}
     parts |= {word: reached_from(known, given) for word, given in by_word.items()}
-    parts["laws"] = reached_from(known, [key_of(known, TOP[0], name) for name in LAWS])
+    parts["laws"] = reached_from(known, [key_at_top(known, name) for name in LAWS])
     every = set().union(*parts.values())
     common = set(law) | set(parts["all"])
     read = {}

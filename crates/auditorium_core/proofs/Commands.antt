@@ -9,22 +9,22 @@ use Rattle.std.specs.Prelude.{codes}
 use Rattle.auditorium_core.specs.Words.{gaps}
 use Rattle.auditorium_core.specs.Words.{play}
 use Rattle.auditorium_core.proofs.CitedLaws.{CitedLaws}
-use Rattle.auditorium_core.proofs.CommandProofs.{HasStatuses, IsCompleted, HasOneAnswer}
-use Rattle.auditorium_core.proofs.AuditCommand.{audit_has_statuses, audit_completed, audit_one}
-use Rattle.auditorium_core.proofs.CheckCommand.{check_has_statuses, check_completed, check_one}
+use Rattle.command_line.proofs.CommandProofs.{HasStatuses, IsCompleted, HasOneAnswer}
+use Rattle.log_commands.proofs.AuditCommand.{audit_has_statuses, audit_completed, audit_one}
+use Rattle.log_commands.proofs.CheckCommand.{check_has_statuses, check_completed, check_one}
 use Rattle.auditorium_core.proofs.DemonstrationCommand.{demonstration_has_statuses, demonstration_completed}
 use Rattle.auditorium_core.proofs.DemonstrationCommand.{demonstration_one}
-use Rattle.auditorium_core.proofs.EndorseCommand.{endorse_has_statuses, endorse_completed, endorse_one}
-use Rattle.auditorium_core.proofs.EndorsedCommand.{endorsed_has_statuses, endorsed_completed, endorsed_one}
-use Rattle.auditorium_core.proofs.GapsCommand.{gaps_has_statuses, gaps_completed, gaps_one}
-use Rattle.auditorium_core.proofs.MakeCommand.{make_has_statuses, make_completed, make_one}
-use Rattle.auditorium_core.proofs.OfficeCommand.{office_has_statuses, office_completed, office_one}
-use Rattle.auditorium_core.proofs.OrderCommand.{order_has_statuses, order_completed, order_one}
-use Rattle.auditorium_core.proofs.PlayCommand.{play_has_statuses, play_completed, play_one}
-use Rattle.auditorium_core.proofs.ProveCommand.{prove_has_statuses, prove_completed, prove_one}
-use Rattle.auditorium_core.proofs.RepairCommand.{repair_has_statuses, repair_completed, repair_one}
-use Rattle.auditorium_core.proofs.RunCommand.{run_has_statuses, run_completed}
-use Rattle.auditorium_core.proofs.WatchCommand.{watch_has_statuses, watch_completed, watch_one}
+use Rattle.office_commands.proofs.EndorseCommand.{endorse_has_statuses, endorse_completed, endorse_one}
+use Rattle.office_commands.proofs.EndorsedCommand.{endorsed_has_statuses, endorsed_completed, endorsed_one}
+use Rattle.log_commands.proofs.GapsCommand.{gaps_has_statuses, gaps_completed, gaps_one}
+use Rattle.place_commands.proofs.MakeCommand.{make_has_statuses, make_completed, make_one}
+use Rattle.office_commands.proofs.OfficeCommand.{office_has_statuses, office_completed, office_one}
+use Rattle.log_commands.proofs.OrderCommand.{order_has_statuses, order_completed, order_one}
+use Rattle.place_commands.proofs.PlayCommand.{play_has_statuses, play_completed, play_one}
+use Rattle.log_commands.proofs.ProveCommand.{prove_has_statuses, prove_completed, prove_one}
+use Rattle.place_commands.proofs.RepairCommand.{repair_has_statuses, repair_completed, repair_one}
+use Rattle.place_commands.proofs.RunCommand.{run_has_statuses, run_completed}
+use Rattle.log_commands.proofs.WatchCommand.{watch_has_statuses, watch_completed, watch_one}
 
 -- each command has its statuses
 pub have_statuses : (command : Command) → HasStatuses (command_parts command)

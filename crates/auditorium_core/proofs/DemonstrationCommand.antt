@@ -5,11 +5,11 @@ use Rattle.auditorium_core.proofs.Imports.{◌≡◌, ℕ, List, [], ◌∷◌, 
 use Rattle.auditorium_core.proofs.Imports.{IsRefusedSo, Answer, OrRefused, report_statuses, GivesDemonstration}
 use Rattle.auditorium_core.proofs.Imports.{demonstration_answer, IsDemonstrationAnswer, ShowsReport}
 use Rattle.auditorium_core.proofs.Imports.{demonstration_parts, IsCarriedOut}
-use Rattle.auditorium_core.proofs.CommandProofs.{HasStatuses, IsCompleted, HasOneAnswer, contains_as, carried_out_as}
-use Rattle.auditorium_core.proofs.CommandProofs.{of_read}
+use Rattle.command_line.proofs.CommandProofs.{HasStatuses, IsCompleted, HasOneAnswer, contains_as, carried_out_as}
+use Rattle.command_line.proofs.CommandProofs.{of_read}
 use Rattle.auditorium_core.proofs.OneDemonstrationAnswer.{ShowOne, same_half, same_demonstration}
-use Rattle.auditorium_core.proofs.ReportCommands.{outcome_done, outcome_status, refused_status, absent_status}
-use Rattle.auditorium_core.proofs.ReportCommands.{report_statuses_some}
+use Rattle.log_commands.proofs.ReportCommands.{outcome_done, outcome_status, refused_status, absent_status}
+use Rattle.log_commands.proofs.ReportCommands.{report_statuses_some}
 
 -- a number of sessions has one answer
 pub demonstration_one : ShowOne → (sessions : ℕ) → HasOneAnswer (demonstration_parts sessions)

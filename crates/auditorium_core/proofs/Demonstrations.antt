@@ -21,12 +21,12 @@ use Rattle.command_line.specs.declared.status.Status.TheVariants as status
 use Rattle.polling_world.proofs.OnePlay.{one_play}
 use Rattle.honest_places.specs.Places.{HasLeft}
 use Rattle.honest_places.proofs.AuditLaws.{audits_are_refused_only_so, reports_say_none_broken}
-use Rattle.auditorium_core.specs.Audit.{IsSound}
-use Rattle.auditorium_core.specs.Play.{KeepOrder}
-use Rattle.auditorium_core.proofs.AuditAnswers.{not_absent}
-use Rattle.auditorium_core.proofs.SoundReports.{given_is_sound}
+use Rattle.log_commands.specs.Audit.{IsSound}
+use Rattle.place_commands.specs.Play.{KeepOrder}
+use Rattle.log_commands.proofs.AuditAnswers.{not_absent}
+use Rattle.log_commands.proofs.SoundReports.{given_is_sound}
 use Rattle.command_line.proofs.Faults.{IsAnswerOfFault, refused_or}
-use Rattle.auditorium_core.proofs.HonestAudits.{only_broken}
+use Rattle.log_commands.proofs.HonestAudits.{only_broken}
 
 -- what no verdict is, none is counted as
 none_counted : (is : Verdict → Bool) (verdicts : List Verdict) →

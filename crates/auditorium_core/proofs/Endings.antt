@@ -24,7 +24,7 @@ no_usage command e = let no : status.Usage ≡ status.Absent = e in cc
 module _ {S : Type 0} (of : StoreGhosts S) (IsDone : Command → Type 0) (words : List (List ℕ)) where
   -- an answer of a command is one to the words that mean it
   pub answered_words : (command : Command) (old new : S) (result : Result Answer Fault) → IsDone command →
-      Means words command → IsAnsweredBy of command old result new → AreAnswered of IsDone words old result new
+      Means words command → IsAnsweredBy of (command_parts command) old result new → AreAnswered of IsDone words old result new
   answered_words command old new result done means given = record {
     answer = right result given.answer;
     absent = absent result given.absent;
@@ -34,7 +34,7 @@ module _ {S : Type 0} (of : StoreGhosts S) (IsDone : Command → Type 0) (words 
   }
     where
       -- where there is an answer, it is right for the words
-      right : (result : Result Answer Fault) → IfOk result (λ answer. IsAnswerAsRead of command old answer new) →
+      right : (result : Result Answer Fault) → IfOk result (λ answer. IsAnswerAsRead of (command_parts command) old answer new) →
           IfOk result (λ answer. AnswersWords IsDone words (λ names P. OnRead of names P old new) answer)
       right (Ok answer) is = inl (command, done, means, is)
       right (Err why) is = tt

@@ -15,8 +15,8 @@ use Rattle.auditorium_core.proofs.Imports.{IsSignedByNumber, IsUsedUp, NumbersRi
 use Rattle.auditorium_core.proofs.Imports.{SetsSome, Command, Means, endorse, endorsed, office}
 use Rattle.std.specs.List.{All}
 use Rattle.office_key.proofs.GoodSignatures.{endorsed as signs_well}
-use Rattle.auditorium_core.proofs.EndorseCommand.{office_read, unsigned_parts}
-use Rattle.auditorium_core.proofs.EndorsedCommand.{bad, good, one_signed}
+use Rattle.office_commands.proofs.EndorseCommand.{office_read, unsigned_parts}
+use Rattle.office_commands.proofs.EndorsedCommand.{bad, good, one_signed}
 use Rattle.auditorium_core.proofs.OfficeCallsLeave.{IsLeftOfTwo, left_elsewhere, left_of_two, none_set, of_sets}
 use Rattle.auditorium_core.proofs.OfficeCallsLeave.{office_is_no_other, refusal_writes_none, set_elsewhere, set_here}
 

@@ -3,7 +3,7 @@ use Rattle.auditorium_core.proofs.Imports.{◌≡◌, ◌∙◌, ℕ, inl, inr, 
 use Rattle.auditorium_core.proofs.Imports.{generated, Refusal, Agree, Demonstration, ScriptsAreShownInOneWay}
 use Rattle.auditorium_core.proofs.Imports.{ScriptsAreRefusedInOneWay, ScriptsAreShownOrRefused, Answer, OrRefused}
 use Rattle.auditorium_core.proofs.Imports.{IsHalfOf, GivesDemonstration, demonstration_answer, IsDemonstrationAnswer}
-use Rattle.auditorium_core.proofs.SameOr.{same_or}
+use Rattle.command_line.proofs.SameOr.{same_or}
 
 -- a script shows one thing or is refused in one way, and not both
 pub record ShowOne : Type 0 where

@@ -20,7 +20,7 @@ use Rattle.log_files.specs.Written.{record_text}
 use Rattle.log_files.proofs.RecordTexts.{tree_of, records_fit, records_spelt}
 use Rattle.election_script.specs.declared.script.StopAt.{StopAt}
 use Rattle.finished_floor.specs.Places.{IsStopOf}
-use Rattle.auditorium_core.specs.Run.{AreRunMachines, IsRunMachine}
+use Rattle.place_commands.specs.Run.{AreRunMachines, IsRunMachine}
 use Rattle.polling_world.specs.Configs.{config_of}
 
 -- ---- the events of a log

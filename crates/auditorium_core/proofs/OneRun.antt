@@ -12,14 +12,14 @@ use Rattle.polling_world.proofs.Placing.{get-map}
 use Rattle.entry_order.specs.History.{entry_of}
 use Rattle.honest_places.proofs.Given.{event_was_sent}
 use Rattle.finished_floor.specs.Losses.{AreLosses}
-use Rattle.auditorium_core.specs.Play.{machine_lines}
-use Rattle.auditorium_core.specs.Run.{IsRunAnswer}
+use Rattle.place_commands.specs.Play.{machine_lines}
+use Rattle.place_commands.specs.Run.{IsRunAnswer}
 use Rattle.auditorium_core.specs.OneRun.{AreSameButCauses, HistoriesDetermineRuns, WrittenFilesDetermineAnswers}
 use Rattle.auditorium_core.specs.OneRun.{IsRunAnswerWith}
 use Rattle.auditorium_core.proofs.CitedLaws.{CitedLaws}
 use Rattle.auditorium_core.proofs.Commands.{have_one_answer, of_command}
 use Rattle.auditorium_core.proofs.OneHistory.{AllValidly, same_log_events, same_machines}
-use Rattle.auditorium_core.proofs.OnePlayAnswer.{PlayOne, one_script, same_undone}
+use Rattle.place_commands.proofs.OnePlayAnswer.{PlayOne, one_script, same_undone}
 use Rattle.auditorium_core.proofs.SameLosses.{same_losses}
 
 -- an output without losses

@@ -23,8 +23,8 @@ use Rattle.honest_places.proofs.ReadLogs.{whole_is_left}
 use Rattle.honest_places.specs.Places.{HasLeft}
 use Rattle.auditorium_core.proofs.Imports.{standard}
 use Rattle.command_line.specs.declared.status.Status.TheVariants as status
-use Rattle.auditorium_core.specs.HonestAudit.{IsAuditOfPlace, TellsHonestReport}
-use Rattle.auditorium_core.specs.Play.{machine_log_name, roster_file, roster_name}
+use Rattle.log_commands.specs.HonestAudit.{IsAuditOfPlace, TellsHonestReport}
+use Rattle.place_commands.specs.Play.{machine_log_name, roster_file, roster_name}
 use Rattle.auditorium_core.specs.ReadBack.{AreReadBack, PlaysAreReadBack, RepairsAreReadBack, RunsAreReadBack}
 use Rattle.auditorium_core.specs.ReadBack.{log_names}
 

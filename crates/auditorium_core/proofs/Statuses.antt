@@ -5,7 +5,7 @@ use Rattle.auditorium_core.proofs.Imports.{◌≡◌, List, ℕ, inl, inr, map, 
 use Rattle.auditorium_core.proofs.Imports.{Status, Command, command_parts, Means, AreGood, Answer, usage_answer}
 use Rattle.auditorium_core.proofs.Imports.{AnswersWords, IsOfAnswers, HasItsWords}
 use Rattle.command_line.specs.declared.status.Status.TheVariants as status
-use Rattle.auditorium_core.proofs.CommandProofs.{IsOfCommands}
+use Rattle.command_line.proofs.CommandProofs.{IsOfCommands}
 use Rattle.auditorium_core.proofs.Commands.{have_statuses}
 
 -- a status that a command can have is one that an answer can have

@@ -6,16 +6,11 @@ use Rattle.hall_outside.specs.declared.stores.Store.{Ghosts as StoreGhosts}
 use Rattle.evidence.specs.NamedFiles.{OnExposed, OnRead}
 use Rattle.command_line.specs.declared.status.Status.{Status}
 use Rattle.command_line.specs.declared.status.Status.TheVariants as status
-use Rattle.auditorium_core.specs.HonestAudit.{IsOfReport}
+use Rattle.command_line.specs.Reports.{IsCarriedOut}
 use Rattle.auditorium_core.specs.Words.{Command, command_parts, Means}
 use Rattle.command_line.specs.Lines.{Answer}
 use Rattle.command_line.specs.Outside.{Outside, outside}
 use Rattle.command_line.specs.Written.{IsUnwritten, IsWritten, IsWrittenBy}
-
--- the statuses of a command that was carried out: 0, 1, 2, 3 and 7
-abbrev pub IsCarriedOut : Status → Type 0
-IsCarriedOut status.Undone = ⊤
-IsCarriedOut other = IsOfReport other
 
 -- no count of faults rose
 pub record HasNoFailure (old new : Outside) : Type 0 where

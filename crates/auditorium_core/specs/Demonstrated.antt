@@ -17,11 +17,11 @@ use Rattle.demonstration.specs.declared.shown.Demonstration.{Demonstration}
 use Rattle.demonstration.specs.Lines.{demonstration_text}
 use Rattle.demonstration.specs.Shown.{IsAudited, IsDemonstrationOf, IsRefusedSo}
 use Rattle.command_line.specs.declared.status.Status.TheVariants as status
-use Rattle.auditorium_core.specs.Audit.{IsSound}
-use Rattle.auditorium_core.specs.ReportAnswers.{report_statuses}
+use Rattle.log_commands.specs.Audit.{IsSound}
+use Rattle.log_commands.specs.ReportAnswers.{report_statuses}
 use Rattle.command_line.specs.Reports.{status_by}
 use Rattle.command_line.specs.Lines.{Answer, OrRefused}
-use Rattle.auditorium_core.specs.Play.{KeepOrder}
+use Rattle.place_commands.specs.Play.{KeepOrder}
 use Rattle.command_line.specs.WordForms.{AreSessions}
 use Rattle.command_line.specs.CommandParts.{CommandParts, OnNoFile}
 

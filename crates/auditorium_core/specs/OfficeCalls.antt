@@ -10,8 +10,8 @@ use Rattle.office_key.specs.Endorsements.{endorsement}
 use Rattle.office_key.specs.Offices.{IsOffice, office_text, next_office}
 use Rattle.command_line.specs.declared.status.Status.{Status}
 use Rattle.command_line.specs.declared.status.Status.TheVariants.{Done}
-use Rattle.auditorium_core.specs.Endorse.{GivesUnsigned, Unsigned, endorse_answer, signature_file}
-use Rattle.auditorium_core.specs.OfficeFile.{office_file}
+use Rattle.office_commands.specs.Endorse.{GivesUnsigned, Unsigned, endorse_answer, signature_file}
+use Rattle.office_commands.specs.OfficeFile.{office_file}
 use Rattle.auditorium_core.specs.Outcome.{HasDone, IsGivenSomehow}
 use Rattle.command_line.specs.Written.{PlacesInTurn}
 use Rattle.command_line.specs.Outside.{Outside}

@@ -9,8 +9,8 @@ use Rattle.finished_floor.specs.declared.loss.LossWhy.TheVariants.{Scripted, ToS
 use Rattle.hall_outside.specs.Files.{Files}
 use Rattle.evidence.specs.NamedFiles.{OnExposed}
 use Rattle.command_line.specs.Lines.{Answer, OrRefused}
-use Rattle.auditorium_core.specs.ScriptFile.{GivesScript}
-use Rattle.auditorium_core.specs.Run.{IsRunOf, loss_lines}
+use Rattle.place_commands.specs.ScriptFile.{GivesScript}
+use Rattle.place_commands.specs.Run.{IsRunOf, loss_lines}
 use Rattle.auditorium_core.specs.Words.{IsAny}
 use Rattle.auditorium_core.specs.Answer.{AnswersWords}
 

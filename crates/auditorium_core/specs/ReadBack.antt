@@ -13,13 +13,13 @@ use Rattle.honest_places.specs.LeftFiles.{AreAllFilesOf, written_logs}
 use Rattle.auditor.specs.Sources.{standard}
 use Rattle.command_line.specs.declared.status.Status.TheVariants as status
 use Rattle.auditorium_core.specs.Answer.{IsAnswerTo}
-use Rattle.auditorium_core.specs.Honest.{IsHonestOrder}
-use Rattle.auditorium_core.specs.HonestAudit.{TellsHonestReport}
+use Rattle.log_commands.specs.Honest.{IsHonestOrder}
+use Rattle.log_commands.specs.HonestAudit.{TellsHonestReport}
 use Rattle.command_line.specs.Lines.{Answer}
 use Rattle.command_line.specs.Written.{with_files}
-use Rattle.auditorium_core.specs.Play.{IsPlayOf, machine_log_name, roster_name}
-use Rattle.auditorium_core.specs.Repair.{IsRepairOf}
-use Rattle.auditorium_core.specs.Run.{IsRunOf}
+use Rattle.place_commands.specs.Play.{IsPlayOf, machine_log_name, roster_name}
+use Rattle.place_commands.specs.Repair.{IsRepairOf}
+use Rattle.place_commands.specs.Run.{IsRunOf}
 use Rattle.auditorium_core.specs.Words.{audit, order}
 
 -- the names of the files of all machines' logs

@@ -3,20 +3,20 @@
 use Rattle.std.specs.Prelude.{◌≡◌, ℕ, List, IsTrue, ⊤}
 use Rattle.command_line.specs.WordForms.{have_form}
 use Rattle.command_line.specs.CommandParts.{CommandParts}
-use Rattle.auditorium_core.specs.Audit.{audit_parts}
-use Rattle.auditorium_core.specs.Check.{check_parts}
+use Rattle.log_commands.specs.Audit.{audit_parts}
+use Rattle.log_commands.specs.Check.{check_parts}
 use Rattle.auditorium_core.specs.Demonstrated.{demonstration_parts}
-use Rattle.auditorium_core.specs.Endorse.{endorse_parts}
-use Rattle.auditorium_core.specs.Endorsed.{endorsed_parts}
-use Rattle.auditorium_core.specs.Gaps.{gaps_parts}
-use Rattle.auditorium_core.specs.Made.{make_parts}
-use Rattle.auditorium_core.specs.Office.{office_parts}
-use Rattle.auditorium_core.specs.Order.{order_parts}
-use Rattle.auditorium_core.specs.Play.{play_parts}
-use Rattle.auditorium_core.specs.Prove.{prove_parts}
-use Rattle.auditorium_core.specs.Repair.{repair_parts}
-use Rattle.auditorium_core.specs.Run.{run_parts}
-use Rattle.auditorium_core.specs.Watch.{watch_parts}
+use Rattle.office_commands.specs.Endorse.{endorse_parts}
+use Rattle.office_commands.specs.Endorsed.{endorsed_parts}
+use Rattle.log_commands.specs.Gaps.{gaps_parts}
+use Rattle.place_commands.specs.Made.{make_parts}
+use Rattle.office_commands.specs.Office.{office_parts}
+use Rattle.log_commands.specs.Order.{order_parts}
+use Rattle.place_commands.specs.Play.{play_parts}
+use Rattle.log_commands.specs.Prove.{prove_parts}
+use Rattle.place_commands.specs.Repair.{repair_parts}
+use Rattle.place_commands.specs.Run.{run_parts}
+use Rattle.log_commands.specs.Watch.{watch_parts}
 
 -- what a valid command line asks for
 pub data Command : Type 0 where

@@ -1,10 +1,3 @@
 pub mod Promise
-pub mod Losses
-pub mod EntryNames
-pub mod Presence
 pub mod Demonstrating
-pub mod Endorsing
-pub mod Checking
-pub mod Watching
 pub mod Meaning
-pub mod Repaired

@@ -7,25 +7,13 @@ ghost use Rattle.auditorium_core.specs.Demonstrated.{IsHalfOf, demonstration_ans
 ghost use Rattle.command_line.specs.Lines.{Answer};
 ghost use Rattle.command_line.specs.WordForms.{AreSessions};
 ghost use Rattle.auditorium_core.specs.inside.Demonstrating.{IsShown};
-ghost use Rattle.auditorium_core.specs.inside.Meaning.{IsReadAs};
 
-use crate::words::Request;
 use command_line::{Answer, Fault, sessions_of, status_by};
 use demonstration::{Demonstration, write_demonstration};
 use election_script::Script;
 use lms_sign::{LeafWork, LmsSecret};
 use polling_world::keys_by;
 use std::alloc::{AllocError, Global};
-
-/// The request that the words after `demo` make.
-pub(crate) fn demonstration_request(rest: &[String]) -> Option<Request<'_>>
-    ensures { IsReadAs (codes "demo") (map string_bytes rest.now) result }
-{
-    match rest {
-        [word] => Some(Request::Demonstrate(sessions_of(word.as_str())?)),
-        _ => None,
-    }
-}
 
 /// Half of the number of sessions, rounded up.
 fn half_of(sessions: u32) -> u32

@@ -8,7 +8,6 @@ ghost use Rattle.auditorium_core.specs.Words.{run, IsAny, IsStill, Means};
 ghost use Rattle.auditorium_core.specs.Answer.{AnswersWords, HasItsWords};
 ghost use Rattle.auditorium_core.specs.Outcome.{HasDone, IsGivenBy, IsGivenSomehow};
 ghost use Rattle.command_line.specs.Outside.{Outside, outside};
-ghost use Rattle.auditorium_core.specs.CheckAgrees.{ChecksAgreeWithAudits, ChecksSayNoMore};
 ghost use Rattle.auditorium_core.specs.Complete.{IsComplete, IsCompleteAsRead};
 ghost use Rattle.auditorium_core.specs.OneRun.{HistoriesDetermineRuns, WrittenFilesDetermineAnswers};
 ghost use Rattle.auditorium_core.specs.ReadBack.{
@@ -95,32 +94,6 @@ pub fn statuses_have_their_words()
     ensures still { (words : List (List ℕ)) (told : Option Files) (answer : Answer) →
         AnswersWords IsStill words (OnExposed told) answer → HasItsWords IsStill words answer }
 {}
-
-/// `check` by the proof that `prove` writes for the same logs answers with the verdicts of `audit`,
-/// rule for rule. It does nothing.
-pub fn checks_agree_with_audits()
-    ensures { ChecksAgreeWithAudits }
-{
-    roster_files_give_one_answer();
-    log_files_give_one_answer();
-    entries_give_one_graph();
-    survivors_are_sound();
-    one_text_is_canonical();
-    proofs_are_read_in_one_way();
-    rules_are_read_in_one_way();
-}
-
-/// `check` by any proof, whoever made it, says of each rule what `audit` says, or that it is
-/// unsettled. It does nothing.
-pub fn checks_say_no_more()
-    ensures { ChecksSayNoMore }
-{
-    roster_files_give_one_answer();
-    log_files_give_one_answer();
-    entries_give_one_graph();
-    survivors_are_sound();
-    rules_are_read_in_one_way();
-}
 
 /// What the program has done for files as they were read it has done over the exposed files. So the
 /// other laws hold of it. It does nothing.

@@ -4,42 +4,20 @@
 //! So a status other than `WriteFault` says that all of its answer was written, or nothing.
 #![tactic(auto)]
 
-mod audit;
-mod check;
 mod demonstrating;
-mod endorse;
-mod endorsed;
-mod entry_word;
-mod gaps;
 mod laws;
-mod make;
-mod named_bytes;
-mod office;
-mod office_file;
 mod office_laws;
-mod order;
-mod order_word;
-mod play;
 mod program;
-mod proof_file;
-mod prove;
-mod repair;
-mod run;
-mod script_file;
-mod watch;
-mod watch_laws;
+mod requests;
 mod words;
 
 pub use command_line::Status;
 pub use laws::{
     answers_are_complete, answers_are_over_exposed_files, answers_as_read_are_complete,
-    checks_agree_with_audits, checks_say_no_more, histories_determine_answers, one_answer_is_right,
-    only_runs_need_threads, statuses_have_their_words, written_files_are_read_back,
+    histories_determine_answers, one_answer_is_right, only_runs_need_threads,
+    statuses_have_their_words, written_files_are_read_back,
 };
 pub use office_laws::{
     endorsements_are_called_good, endorsements_leave_three_states, numbers_sign_once,
 };
 pub use program::{auditorium, auditorium_still};
-pub use watch_laws::{
-    honest_watches_break_no_rule, orders_of_logs_end_alike, watches_agree_with_audits,
-};

@@ -4,27 +4,28 @@ ghost use Rattle.auditorium_core.specs.Outcome.{HasDone, IsGivenBy};
 ghost use Rattle.command_line.specs.Outside.{outside};
 ghost use Rattle.auditorium_core.specs.Words.{IsAny, IsStill, Means, command_parts, run};
 ghost use Rattle.auditorium_core.specs.inside.Meaning.{asked};
-ghost use Rattle.auditorium_core.specs.inside.Promise.{AreAnswered, IsAnsweredBy};
+ghost use Rattle.auditorium_core.specs.inside.Promise.{AreAnswered};
+ghost use Rattle.command_line.specs.Promise.{IsAnsweredBy};
 
-use crate::audit::audit;
-use crate::check::check;
 use crate::demonstrating::demonstrate;
-use crate::endorse::endorse;
-use crate::endorsed::endorsed;
-use crate::gaps::gaps;
-use crate::make::make;
-use crate::office::office;
-use crate::order::order;
-use crate::play::play;
-use crate::prove::prove;
-use crate::repair::repair;
-use crate::run::run;
-use crate::watch::watch;
 use crate::words::{Request, request_of};
 use command_line::{Answer, Fault, Status, end_with};
 use hall_outside::{Gate, Sink, Store};
 use lms_sign::LeafWork;
+use log_commands::audit::audit;
+use log_commands::check::check;
+use log_commands::gaps::gaps;
+use log_commands::order::order;
+use log_commands::prove::prove;
+use log_commands::watch::watch;
 use log_files::EntryWork;
+use office_commands::endorse::endorse;
+use office_commands::endorsed::endorsed;
+use office_commands::office::office;
+use place_commands::make::make;
+use place_commands::play::play;
+use place_commands::repair::repair;
+use place_commands::run::run;
 use std::alloc::Global;
 use std::sync::Wait;
 use std::thread::Threads;
@@ -141,7 +142,7 @@ fn answer_to<W: LeafWork + EntryWork, S: Store>(
     requires shared { W.may_share work.now }
     requires still { IsStill (asked request) }
     requires allowed { (command_parts (asked request)).IsAllowed }
-    ensures { IsAnsweredBy S.Store (asked request.entry)
+    ensures { IsAnsweredBy S.Store (command_parts (asked request.entry))
         store.old result store.new }
 {
     match request {

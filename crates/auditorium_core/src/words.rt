@@ -3,20 +3,11 @@ ghost use Rattle.std.specs.Prelude.{IfNone, IfSome, map, string_bytes};
 ghost use Rattle.auditorium_core.specs.Words.{Command, Means};
 ghost use Rattle.auditorium_core.specs.inside.Meaning.{IsReadAs, asked};
 
-use crate::audit::audit_request;
-use crate::check::check_request;
-use crate::demonstrating::demonstration_request;
-use crate::endorse::endorse_request;
-use crate::endorsed::endorsed_request;
-use crate::gaps::gaps_request;
-use crate::make::make_request;
-use crate::office::office_request;
-use crate::order::order_request;
-use crate::play::play_request;
-use crate::prove::prove_request;
-use crate::repair::repair_request;
-use crate::run::run_request;
-use crate::watch::watch_request;
+use crate::requests::{
+    audit_request, check_request, demonstration_request, endorse_request, endorsed_request,
+    gaps_request, make_request, office_request, order_request, play_request, prove_request,
+    repair_request, run_request, watch_request,
+};
 use command_line::have_form;
 
 /// What a valid command line asks for.

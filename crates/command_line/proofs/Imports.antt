@@ -25,3 +25,11 @@ pub use Rattle.std.proofs.lemmas.List.{drop_all, drop_more}
 pub use Rattle.std.proofs.lemmas.Result.{IfOk-weaker}
 pub use Rattle.std.specs.Fmt.{decimal}
 pub use Rattle.std.specs.Prelude.{Err, IfErr, IfOk, IfSome, IsErr, IsSomeAnd, Ok, OnErr, OnOk, Result, is_ok}
+pub use Rattle.command_line.specs.CommandParts.{CommandParts}
+pub use Rattle.command_line.specs.Reports.{IsCarriedOut}
+pub use Rattle.command_line.specs.Lines.{Answer, OrRefused, refusal_answer}
+pub use Rattle.command_line.specs.declared.status.Status.{Status}
+pub use Rattle.evidence.specs.Refusal.{Refusal, absent, refused}
+pub use Rattle.evidence.specs.Same.{Agree}
+pub use Rattle.std.proofs.Common.{List, ap, inl, inr, subst, sym, ℕ, ◌∙◌, ◌≡◌}
+pub use Rattle.std.specs.Prelude.{Err, Ok, Result, ⊤}

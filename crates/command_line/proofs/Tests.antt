@@ -1,6 +1,6 @@
 -- Tests of words.
 use Rattle.command_line.proofs.Imports.{◌≡◌, List, [], ◌∷◌, String, Global, map, string_bytes, ap, refl}
-use Rattle.std.proofs.Common.{Bool, ◌&&◌}
+use Rattle.std.proofs.Common.{◌&&◌}
 use Rattle.std.specs.List.{list_all}
 use Rattle.command_line.specs.WordForms.{have_form, is_command_word}
 

@@ -4,6 +4,8 @@ use Rattle.hall_outside.specs.Counts.{HasCause, ComesExactly}
 use Rattle.hall_outside.specs.declared.stores.Store.{Ghosts as StoreGhosts}
 use Rattle.command_line.specs.declared.answer.Fault.{Fault}
 use Rattle.command_line.specs.declared.answer.Fault.TheVariants.{ReadFault}
+use Rattle.evidence.specs.NamedFiles.{OnRead}
+use Rattle.command_line.specs.CommandParts.{CommandParts}
 use Rattle.command_line.specs.Lines.{Answer}
 
 module _ {S : Type 0} (of : StoreGhosts S) where
@@ -18,3 +20,11 @@ module _ {S : Type 0} (of : StoreGhosts S) where
     pub read_fault : HasCause (of.read_faults old) (of.read_faults new) (IsErrOf result ReadFault)
     pub files : of.files new ≡ of.files old
     pub write_faults : of.write_faults new ≡ of.write_faults old
+
+  -- what a command gives for its files as they were read
+  abbrev pub IsAnswerAsRead : CommandParts → S → Answer → S → Type 0
+  IsAnswerAsRead parts old answer new = OnRead of parts.files (λ files. parts.IsAnswer files answer) old new
+
+  -- the result of a call is right for a command
+  abbrev pub IsAnsweredBy : CommandParts → S → Result Answer Fault → S → Type 0
+  IsAnsweredBy parts = IsAnswered (IsAnswerAsRead parts) (λ answer. answer.status ≡ parts.absence)

@@ -1,10 +1,9 @@
 -- How an answer is written, and what that leaves.
-use Rattle.std.specs.Prelude.{◌≡◌, ℕ, List, [], ◌∷◌, take, drop, Option, ◌⊎◌, Bool, true, false, Result}
+use Rattle.std.specs.Prelude.{◌≡◌, ℕ, List, [], ◌∷◌, take, drop, Option, ◌⊎◌, Bool, true, false}
 use Rattle.hall_outside.specs.Counts.{HasRisen}
 use Rattle.hall_outside.specs.Files.{Files, with_file, SetsPrefix}
 use Rattle.hall_outside.specs.Writing.{appended, AppendsPrefix, OffersAll, PutsFile}
 use Rattle.hall_outside.specs.declared.sinks.Sink.{Ghosts as SinkGhosts}
-use Rattle.hall_outside.specs.declared.stores.Failed.{Failed}
 use Rattle.hall_outside.specs.declared.stores.Store.{Ghosts as StoreGhosts}
 use Rattle.command_line.specs.Lines.{Answer}
 use Rattle.command_line.specs.Outside.{Outside}

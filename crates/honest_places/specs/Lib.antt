@@ -9,6 +9,7 @@ pub mod Honest
 pub mod RulesKept
 pub mod PlacesOfScripts
 pub mod Places
+pub mod EachPlace
 pub mod Reports
 pub mod ReportsKept
 pub mod Open

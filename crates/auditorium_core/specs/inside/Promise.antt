@@ -1,24 +1,14 @@
--- What every command promises of its answer and of the store.
-use Rattle.std.specs.Prelude.{◌≡◌, List, ℕ, Result}
+-- What the program promises of its answer and of the store.
+use Rattle.std.specs.Prelude.{List, ℕ, Result}
 use Rattle.hall_outside.specs.declared.stores.Store.{Ghosts as StoreGhosts}
 use Rattle.evidence.specs.NamedFiles.{OnRead}
 use Rattle.command_line.specs.declared.answer.Fault.{Fault}
 use Rattle.command_line.specs.Lines.{Answer}
 use Rattle.command_line.specs.Promise.{IsAnswered}
-use Rattle.auditorium_core.specs.Words.{Command, command_parts}
+use Rattle.auditorium_core.specs.Words.{Command}
 use Rattle.auditorium_core.specs.Answer.{AnswersWords, TellsAbsence}
 
 module _ {S : Type 0} (of : StoreGhosts S) where
-  -- what a command gives for its files as they were read
-  abbrev pub IsAnswerAsRead : Command → S → Answer → S → Type 0
-  IsAnswerAsRead command old answer new = OnRead of (command_parts command).files
-      (λ files. (command_parts command).IsAnswer files answer) old new
-
-  -- the result of a call is right for a command
-  abbrev pub IsAnsweredBy : Command → S → Result Answer Fault → S → Type 0
-  IsAnsweredBy command =
-      IsAnswered of (IsAnswerAsRead command) (λ answer. answer.status ≡ (command_parts command).absence)
-
   -- the result of a call is right for words, where these are the commands
   abbrev pub AreAnswered : (Command → Type 0) → List (List ℕ) → S → Result Answer Fault → S → Type 0
   AreAnswered IsDone words =

@@ -1,6 +1,6 @@
 use Rattle.std.proofs.Common.{Bool, true, false}
-use Rattle.command_line.proofs.Imports.{◌≡◌, ◌∙◌, List, ℕ, ap, sym, subst, inl, inr, refl, rules, is_ok, take, drop}
-use Rattle.command_line.proofs.Imports.{OnErr, OnOk, PlacesAll, PlacesInTurn, SetsSome, with_files}
+use Rattle.command_line.proofs.Imports.{◌≡◌, ◌∙◌, List, ℕ, ap, subst, inl, inr, rules, is_ok}
+use Rattle.command_line.proofs.Imports.{OnErr, OnOk, PlacesAll, SetsSome, with_files}
 use Rattle.command_line.proofs.Cuts.{all_where, on_err, some_ahead, some_where}
 use Rattle.command_line.proofs.writing.place_in_turn.Goals as goal
 

@@ -1,8 +1,0 @@
-use Rattle.auditorium_core.proofs.Imports.{◌≡◌, ◌++◌, string_bytes, map, take, flat_map, zip, rule_tree, checked_line}
-use Rattle.auditorium_core.proofs.check.add_rules.Given as goal
-
--- the lines of the rules so far
-abbrev pub invariant-loop-i : goal.invariant-loop-i
-invariant-loop-i l =
-    string_bytes l.lines
-    ≡ string_bytes l.fn.lines ++ flat_map checked_line (take l.i (zip (map rule_tree l.rules) l.verdicts))

@@ -1,7 +1,0 @@
-use Rattle.auditorium_core.proofs.Imports.{map, take, rule_tree, nodes_of, AreChecked}
-use Rattle.auditorium_core.proofs.check.check_each.Given as goal
-
--- the verdicts on the rules so far
-abbrev pub invariant-loop-place : goal.invariant-loop-place
-invariant-loop-place l =
-    AreChecked l.rows (nodes_of l.graph) l.proof (map rule_tree (take l.place l.rules)) l.verdicts.items

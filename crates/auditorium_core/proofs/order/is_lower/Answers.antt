@@ -1,9 +1,0 @@
-use Rattle.auditorium_core.proofs.Imports.{◌∙◌, ap, is_lt}
-use Rattle.auditorium_core.proofs.EntryPlaces.{lower_at}
-use Rattle.auditorium_core.proofs.order.is_lower.Goals as goal
-
-pub returns-in-Some : goal.returns-in-Some
-returns-in-Some c = rw c.in-Some.is
-    (lower_at c.args.graph.now.survivors c.args.at c.in-Some.other c.node-in-Some.result.now c.node.result.now
-    c.digest.result.now c.digest-digest.result.now c.is_lt.result c.node-in-Some.ensures.value c.node.ensures.value
-    c.digest.ensures.value c.digest-digest.ensures.value (c.is_lt.ensures ∙ ap is_lt c.cmp.ensures))

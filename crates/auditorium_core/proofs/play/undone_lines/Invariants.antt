@@ -1,6 +1,0 @@
-use Rattle.auditorium_core.proofs.Imports.{take, string_bytes, SayUndone}
-use Rattle.auditorium_core.proofs.play.undone_lines.Given as goal
-
--- the lines of the machines so far
-abbrev pub invariant-loop-machine : goal.invariant-loop-machine
-invariant-loop-machine l = SayUndone (take l.machine-index l.machines) (string_bytes l.lines)

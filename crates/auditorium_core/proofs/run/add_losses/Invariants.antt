@@ -1,7 +1,0 @@
-use Rattle.auditorium_core.proofs.Imports.{◌≡◌, ◌++◌, take, string_bytes, loss_lines}
-use Rattle.auditorium_core.proofs.run.add_losses.Given as goal
-
--- the lines of the losses so far
-abbrev pub invariant-loop-loss : goal.invariant-loop-loss
-invariant-loop-loss l =
-    string_bytes l.lines ≡ string_bytes l.fn.lines ++ loss_lines l.roster.machines (take l.loss-index l.losses)

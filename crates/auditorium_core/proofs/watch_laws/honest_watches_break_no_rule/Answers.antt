@@ -1,5 +1,0 @@
-use Rattle.auditorium_core.proofs.HonestWatches.{watches_break_none}
-use Rattle.auditorium_core.proofs.watch_laws.honest_watches_break_no_rule.Goals as goal
-
-pub returns : goal.returns
-returns c = watches_break_none

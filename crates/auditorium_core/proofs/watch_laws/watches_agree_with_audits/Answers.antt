@@ -1,5 +1,0 @@
-use Rattle.auditorium_core.proofs.WatchAgreement.{watches_agree}
-use Rattle.auditorium_core.proofs.watch_laws.watches_agree_with_audits.Goals as goal
-
-pub returns : goal.returns
-returns c = watches_agree c.entries_give_one_graph.ensures c.files_give_one_report.ensures

@@ -1,0 +1,187 @@
+-- A check by the proof that `prove` writes agrees with an audit.
+use Rattle.std.proofs.Common.{length, Option, Some}
+use Rattle.log_commands.proofs.Imports.{◌≡◌, ◌∙◌, ℕ, ◌≤◌, List, [], ◌∷◌, ◌++◌, map, inl, inr, refl, sym, ap, subst}
+use Rattle.log_commands.proofs.Imports.{Ok, Err, length-map, Post}
+use Rattle.log_commands.proofs.Imports.{SealedEntry, EntryGraph, parents_of, ragged_of, LogRead, Row}
+use Rattle.log_commands.proofs.Imports.{standard_rules, RuleTree, three_in, IsJudged, verdict_of, IsCheckAnswer}
+use Rattle.log_commands.proofs.Imports.{IsCanonicalText, IsCanonicalProof, three_by, Line, canonical_full}
+use Rattle.log_commands.proofs.Imports.{full_proofs_say_all, RosterRead, Refusal, absent, refused}
+use Rattle.log_commands.proofs.Imports.{entries_of, GivesGraph, SameLogs, SameGraph, same_entries}
+use Rattle.log_commands.proofs.Imports.{WithGraph, WithRules, GivesReport, nodes_of}
+use Rattle.log_commands.proofs.Imports.{AreJudged, AuditReport, report_on, row_of, RuleSource, standard, in_file}
+use Rattle.log_commands.proofs.Imports.{files_read, Answer, refusal_answer, source_named, ProofMade, ProvesFiles}
+use Rattle.log_commands.proofs.Imports.{GivesMade, proof_answer, max_proof, CheckReport}
+use Rattle.log_commands.proofs.Imports.{AreChecked, ChecksLogs, ChecksFiles, GivesCheck, IsCheckOver, check_answer}
+use Rattle.log_commands.proofs.Imports.{without_entries, ChecksAgreeWithAudits}
+use Rattle.rule_engine.specs.declared.verdict.Verdict.{Verdict as AuditVerdict}
+use Rattle.rule_engine.specs.declared.verdict.Verdict.TheVariants as audited
+use Rattle.audit_proof.specs.declared.fault.Verdict.{Verdict}
+use Rattle.log_commands.proofs.OneOrderAnswer.{OrderOne}
+use Rattle.log_commands.proofs.OneProof.{ProofOne, SameCheck, one_check}
+use Rattle.log_commands.proofs.SameNodes.{same_nodes}
+use Rattle.log_commands.proofs.SoundReports.{given_is_sound}
+
+-- ---- a rule's verdict
+
+module _ (rows : List Row) (graph : EntryGraph SealedEntry) (lines : List Line) (size : length rows ≡ length graph.survivors)
+    (given : List SealedEntry) (gives : GivesGraph given (Ok graph))
+    (canonical : IsCanonicalProof (nodes_of graph) lines) where
+  -- by the canonical proof a rule has the value that it has by the graph
+  value_same : (rule : RuleTree) →
+      three_by rows (ragged_of graph.links) lines rule.body
+      ≡ three_in rows (parents_of graph.links) (ragged_of graph.links) rule.body
+  value_same rule =
+      full_proofs_say_all rows (nodes_of graph) lines size gives.2.kept.linked.arrows.descends canonical.proof
+      (canonical_full (nodes_of graph) lines canonical) rule.body
+
+  -- so it has the verdict of an audit
+  checked_as : (rule : RuleTree) (v : AuditVerdict) → IsJudged rows (nodes_of graph) rule.body (Ok v) →
+      IsCheckAnswer rows (ragged_of graph.links) lines rule.body (Ok (without_entries v))
+  checked_as rule audited.Kept (narrow, is) = (narrow, sym (ap verdict_of (value_same rule ∙ is)))
+  checked_as rule (audited.Broken places) (narrow, (is, _)) = (narrow, sym (ap verdict_of (value_same rule ∙ is)))
+  checked_as rule audited.Unsettled (narrow, is) = (narrow, sym (ap verdict_of (value_same rule ∙ is)))
+
+  all_checked : (rules : List RuleTree) (vs : List AuditVerdict) → AreJudged rows (nodes_of graph) rules vs →
+      AreChecked rows (nodes_of graph) lines rules (map without_entries vs)
+  all_checked [] [] judged = tt
+  all_checked [] (v ∷ vs) judged = absurd judged
+  all_checked (r ∷ rules) [] judged = absurd judged
+  all_checked (r ∷ rules) (v ∷ vs) judged = (checked_as r v judged.0, all_checked rules vs judged.1)
+
+-- ---- what the files give a check
+
+-- the report of a check with the verdicts of an audit's
+abbrev pub check_of : AuditReport → CheckReport
+check_of report = record {
+  machines = report.machines;
+  survivors = report.graph.survivors;
+  rules = report.rules;
+  verdicts = map without_entries report.verdicts;
+}
+
+module _ (order : OrderOne) (one : ProofOne) (proof : List ℕ) (names : List (List ℕ)) (made : ProofMade)
+    (report : AuditReport) where
+  -- by the graph of what the logs keep
+  graph_gives : (machines : List Post) (source : RuleSource) (rules : List RuleTree) (logs : List LogRead)
+      (graph : EntryGraph SealedEntry) → GivesGraph (entries_of logs) (Ok graph) →
+      IsCanonicalText (nodes_of graph) made.text → length made.text ≤ max_proof →
+      WithGraph machines source rules names logs graph (Ok report) →
+      ChecksLogs machines source rules proof (Some made.text) logs (Ok (check_of report))
+  graph_gives machines source rules logs graph gives (lines, canonical, text) fits (inl (vs, judged, e)) =
+      let expected : AuditReport = report_on machines names logs graph rules vs in
+      let same : report ≡ expected = cc in
+      let rows = map (row_of machines) graph.survivors in
+      subst (λ r. ChecksLogs machines source rules proof (Some made.text) logs (Ok (check_of r))) (sym same)
+      (inl (
+        graph,
+        gives,
+        inl (
+          lines,
+          (fits, (text, canonical.proof)),
+          inl (
+            map without_entries vs,
+            all_checked rows graph lines (length-map graph.survivors (row_of machines)) (entries_of logs) gives
+                canonical rules vs judged,
+            refl,
+          ),
+        ),
+      ))
+  graph_gives machines source rules logs graph gives canonical fits (inr (r, bad, e)) = cc
+
+  -- by the files of logs, under one roster
+  files_give : (read : RosterRead) (source : RuleSource) (rules : List RuleTree) (files : List (Option (List ℕ))) →
+      ProvesFiles read proof names files (Ok made) → WithRules read source rules names files (Ok report) →
+      ChecksFiles read source rules proof names (files ++ Some made.text ∷ []) (Ok (check_of report))
+  files_give read source rules files (inl (found, keep, inl (graph, gives, (count, canonical, fits))))
+      (inl (logs, also, inl (other, graphed, with))) =
+      let alike : SameLogs found logs =
+      order.logs read.roster.machines read.election names files (Ok found) (Ok logs) keep also in
+      let entries : entries_of found ≡ entries_of logs = same_entries found logs alike in
+      let moved = subst (λ (es : List SealedEntry). GivesGraph es (Ok graph)) entries gives in
+      let same : SameGraph graph other = order.graph (entries_of logs) (Ok graph) (Ok other) moved graphed in
+      let text = one.text (nodes_of graph) (nodes_of other) (same_nodes (entries_of logs) graph other moved graphed same)
+      made.text canonical in (
+        files,
+        Some made.text,
+        refl,
+        inl (logs, also, graph_gives read.roster.machines source rules logs other graphed text fits with),
+      )
+  files_give read source rules files (inl (found, keep, inl made_of)) (inl (logs, also, inr (r, bad, e))) = cc
+  files_give read source rules files (inl (found, keep, inl made_of)) (inr (r, bad, e)) = cc
+  files_give read source rules files (inl (found, keep, inr (r, bad, e))) with = cc
+  files_give read source rules files (inr (r, bad, e)) with = cc
+
+  -- by all files
+  all_give : (roster : List ℕ) (source : RuleSource) (roster_file rules_file : Option (List ℕ))
+      (files : List (Option (List ℕ))) → GivesMade roster proof names (roster_file ∷ files) (Ok made) →
+      GivesReport roster source names (files_read roster_file source rules_file files) (Ok report) →
+      GivesCheck roster source proof names (files_read roster_file source rules_file (files ++ Some made.text ∷ []))
+      (Ok (check_of report))
+  all_give roster standard roster_file rules_file files (inl (read, found, proves)) (inl (other, also, with)) =
+      let same : Ok read ≡ Ok other = order.roster roster roster_file (Ok read) (Ok other) found also in
+      let reads : read ≡ other = cc in
+      inl (
+        other,
+        also,
+        files_give other standard standard_rules files
+            (subst (λ (r : RosterRead). ProvesFiles r proof names files (Ok made)) reads proves) with,
+      )
+  all_give roster (in_file name) roster_file rules_file files (inl (read, found, proves))
+      (inl (other, also, inl (rules, gives, with))) =
+      let same : Ok read ≡ Ok other = order.roster roster roster_file (Ok read) (Ok other) found also in
+      let reads : read ≡ other = cc in
+      inl (
+        other,
+        also,
+        inl (
+          rules,
+          gives,
+          files_give other (in_file name) rules files
+              (subst (λ (r : RosterRead). ProvesFiles r proof names files (Ok made)) reads proves) with,
+        ),
+      )
+  all_give roster (in_file name) roster_file rules_file files (inl proved) (inl (other, also, inr (r, bad, e))) = cc
+  all_give roster standard roster_file rules_file files (inl proved) (inr (r, bad, e)) = cc
+  all_give roster (in_file name) roster_file rules_file files (inl proved) (inr (r, bad, e)) = cc
+  all_give roster source roster_file rules_file files (inr (r, bad, e)) with = cc
+
+-- ---- the law
+
+-- an answer that writes a file is no refusal
+no_refusal : (refusal : Refusal) (name text : List ℕ) → (refusal_answer refusal).files ≡ (name, text) ∷ [] → ⊥
+no_refusal (absent file) name text e = cc
+no_refusal (refused file place cause) name text e = cc
+
+-- what is written is what was made
+written_text : (proof text : List ℕ) (made : ProofMade) → (proof_answer proof made).files ≡ (proof, text) ∷ [] →
+    made.text ≡ text
+written_text proof text made e =
+    let file : (proof, made.text) ≡ (proof, text) = cc in ap (λ (named : List ℕ × List ℕ). named.1) file
+
+pub checks_agree : OrderOne → ProofOne → ChecksAgreeWithAudits
+checks_agree order one roster rules proof logs roster_file rules_file log_files text proved checked report
+    (inl (refusal, gives, e)) writes audits checks =
+    absurd (no_refusal refusal proof text (sym (ap (λ (a : Answer). a.files) e) ∙ writes))
+checks_agree order one roster rules proof logs roster_file rules_file log_files text proved checked report
+    (inr (made, gives, e)) writes audits checks =
+    let same : made.text ≡ text = written_text proof text made (sym (ap (λ (a : Answer). a.files) e) ∙ writes) in
+    let source = source_named rules in
+    let found = all_give order one proof logs made report roster source roster_file rules_file log_files gives audits in
+    let files : List (Option (List ℕ)) = files_read roster_file source rules_file (log_files ++ Some text ∷ []) in
+    let here = subst (λ (t : List ℕ). GivesCheck roster source proof logs
+    (files_read roster_file source rules_file (log_files ++ Some t ∷ [])) (Ok (check_of report))) same found in
+    (by files here checks, given_is_sound roster source logs (files_read roster_file source rules_file log_files) report audits)
+  where
+    -- by what the check answers over files that give this report
+    by : (files : List (Option (List ℕ))) →
+        GivesCheck roster (source_named rules) proof logs files (Ok (check_of report)) →
+        IsCheckOver roster rules proof logs files checked →
+        checked ≡ check_answer report.rules (map without_entries report.verdicts)
+    by files found (inl (refusal, gives, e)) =
+        absurd (one_check order one roster (source_named rules) proof logs files (Err refusal) (Ok (check_of report))
+        gives found)
+    by files found (inr (other, gives, is)) =
+        let same : SameCheck other (check_of report) =
+        one_check order one roster (source_named rules) proof logs files (Ok other) (Ok (check_of report)) gives found in
+        is.told ∙ ap (λ (rs : List RuleTree). check_answer rs other.verdicts) same.rules
+        ∙ ap (λ (vs : List Verdict). check_answer report.rules vs) same.verdicts

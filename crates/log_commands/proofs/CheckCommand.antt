@@ -1,0 +1,66 @@
+-- The command `check`.
+use Rattle.log_commands.proofs.Imports.{◌≢◌, ◌∙◌, ℕ, List, [], ◌∷◌, inl, inr, refl, sym, ap, arith}
+use Rattle.log_commands.proofs.Imports.{Ok, Err, All-from_recursion, RuleTree, Status}
+use Rattle.log_commands.proofs.Imports.{source_named, CheckReport, GivesCheck, IsCheckOf}
+use Rattle.log_commands.proofs.Imports.{verdict_on_all, checked_status, check_answer, check_parts}
+use Rattle.log_commands.proofs.Imports.{IsCarriedOut}
+use Rattle.std.specs.List.{Contains}
+use Rattle.audit_proof.specs.declared.fault.Verdict.{Verdict}
+use Rattle.audit_proof.specs.declared.fault.Verdict.TheVariants.{Kept, Broken, Unsettled}
+use Rattle.command_line.specs.declared.status.Status.TheVariants as status
+use Rattle.command_line.proofs.CommandProofs.{IsOfCommands, HasStatuses, IsCompleted, HasOneAnswer, contains_as}
+use Rattle.command_line.proofs.CommandProofs.{carried_out_as, of_read}
+use Rattle.log_commands.proofs.OneOrderAnswer.{OrderOne}
+use Rattle.log_commands.proofs.OneProof.{ProofOne, SameCheck, one_check}
+use Rattle.command_line.proofs.SameOr.{same_or}
+
+-- over files it has one answer
+pub check_one : OrderOne → ProofOne → (roster rules proof : List ℕ) (logs : List (List ℕ)) →
+    HasOneAnswer (check_parts roster rules proof logs)
+check_one order one roster rules proof logs files a b =
+    same_or SameCheck (GivesCheck roster (source_named rules) proof logs files) IsCheckOf a b
+    (one_check order one roster (source_named rules) proof logs files)
+    (λ f g gives same x y.
+    x.told ∙ ap (λ (rs : List RuleTree). check_answer rs f.verdicts) same.rules
+    ∙ ap (λ (vs : List Verdict). check_answer g.rules vs) same.verdicts ∙ sym y.told)
+
+-- each verdict has a status of a command that was carried out
+verdict_done : (verdict : Verdict) → IsCarriedOut (checked_status verdict)
+verdict_done Kept = tt
+verdict_done Broken = tt
+verdict_done Unsettled = tt
+
+-- `check` is carried out over files that give a report
+pub check_completed : OrderOne → ProofOne → (roster rules proof : List ℕ) (logs : List (List ℕ)) →
+    IsCompleted (check_parts roster rules proof logs)
+check_completed order one roster rules proof logs files answer (inl (refusal, gives, e)) (report, given) =
+    absurd (one_check order one roster (source_named rules) proof logs files (Err refusal) (Ok report) gives given)
+check_completed order one roster rules proof logs files answer (inr (other, gives, is)) (report, given) =
+    carried_out_as answer (check_answer other.rules other.verdicts) is.told (verdict_done (verdict_on_all other.verdicts))
+
+-- its statuses
+abbrev own_statuses : List Status
+own_statuses = status.Done ∷ status.Unsettled ∷ status.Broken ∷ status.Refused ∷ status.Absent ∷ []
+
+verdict_has : (verdict : Verdict) → Contains own_statuses (checked_status verdict)
+verdict_has Kept = (0, omega arith, refl)
+verdict_has Unsettled = (1, omega arith, refl)
+verdict_has Broken = (2, omega arith, refl)
+
+pub check_has_statuses : (roster rules proof : List ℕ) (logs : List (List ℕ)) →
+    HasStatuses (check_parts roster rules proof logs)
+check_has_statuses roster rules proof logs = record {
+  own = λ files answer is.
+      of_read own_statuses (3, omega arith, refl) (4, omega arith, refl)
+      (GivesCheck roster (source_named rules) proof logs files) IsCheckOf answer
+      (λ (report : CheckReport) right.
+      contains_as own_statuses answer (check_answer report.rules report.verdicts) right.told
+      (verdict_has (verdict_on_all report.verdicts))) is;
+  some = All-from_recursion IsOfCommands own_statuses (tt, (tt, (tt, (tt, (tt, tt)))));
+}
+
+-- the status of a verdict isn't that of an absent file
+pub verdict_not_absent : (verdict : Verdict) → checked_status verdict ≢ status.Absent
+verdict_not_absent Kept e = cc
+verdict_not_absent Broken e = cc
+verdict_not_absent Unsettled e = cc

@@ -1,0 +1,51 @@
+-- Steps that read, and steps between them that don't.
+use Rattle.std.proofs.Common.{Option, length}
+use Rattle.log_commands.proofs.Imports.{◌≡◌, ◌≢◌, ℕ, List, refl, arith, Result, Ok, Err}
+use Rattle.log_commands.proofs.Imports.{IfOk-weaker, IfSome, StoreGhosts, AuditFault, Refusal, refusal_of}
+use Rattle.log_commands.proofs.Imports.{IsAbsent, OnRead, OnAllRead, IsReadFrom, all_weaker, err_by, no_cause}
+use Rattle.log_commands.proofs.Imports.{none_read, on_refusal, on_weaker}
+use Rattle.evidence.specs.declared.fault.AuditFault.TheVariants.{ReadFault}
+
+module _ {S T U : Type 0} (of : StoreGhosts S) (value : T → U) (names : List (List ℕ)) where
+  -- what is read, under another name
+  pub read_as : (First Whole : List (Option (List ℕ)) → Result U Refusal → Type 0) (old new : S)
+      (result : Result T AuditFault) → IsReadFrom of value names First old result new
+      → ((files : List (Option (List ℕ))) (answer : Result U Refusal) → First files answer → Whole files answer)
+      → IsReadFrom of value names Whole old result new
+  read_as First Whole old new result read join = record {
+    ok = IfOk-weaker result (λ found. OnAllRead of names (λ files. First files (Ok (value found))) old new)
+        (λ found. OnAllRead of names (λ files. Whole files (Ok (value found))) old new)
+        (λ found. all_weaker of names (λ files. First files (Ok (value found)))
+        (λ files. Whole files (Ok (value found))) old new (λ files long. join files (Ok (value found)))) read.ok;
+    err = err_by result (λ refusal. OnRead of names (λ files. First files (Err refusal)) old new)
+        (λ refusal. OnRead of names (λ files. Whole files (Err refusal)) old new)
+        (λ refusal. on_weaker of names (λ files. First files (Err refusal)) (λ files. Whole files (Err refusal)) old new
+        (λ files long. join files (Err refusal))) read.err;
+    absent = read.absent;
+    absences = read.absences;
+    read_fault = read.read_fault;
+    files = read.files;
+    write_faults = read.write_faults;
+  }
+
+  -- a step that reads nothing is refused
+  pub refused_unread : (Whole : List (Option (List ℕ)) → Result U Refusal → Type 0) (now : S) (fault : AuditFault)
+      → IfSome (refusal_of fault)
+      (λ refusal. (files : List (Option (List ℕ))) → length files ≡ length names → Whole files (Err refusal))
+      → fault ≢ ReadFault → ¬ IsAbsent fault → IsReadFrom of value names Whole now (Err fault) now
+  refused_unread Whole now fault err no_read no_absence = record {
+    ok = tt;
+    err = on_refusal
+        (λ refusal. (files : List (Option (List ℕ))) → length files ≡ length names → Whole files (Err refusal))
+        (λ refusal. OnRead of names (λ files. Whole files (Err refusal)) now now) (refusal_of fault)
+        (λ refusal holds. none_read of names (λ files. Whole files (Err refusal)) now holds) err;
+    absent = λ not_memory. record {
+      only = λ absence. absurd (no_absence absence);
+      always = λ more. absurd (omega (arith, more));
+    };
+    absences = omega arith;
+    read_fault = no_cause (of.read_faults now) (of.read_faults now) refl
+        (λ e. no_read (let same : fault ≡ ReadFault = cc in same));
+    files = refl;
+    write_faults = refl;
+  }

@@ -1,0 +1,183 @@
+-- What is said of entries, one after another.
+use Rattle.std.proofs.Common.{suc, true, length, Some, length-append}
+use Rattle.std.specs.Prelude.{◌⊎◌, codes}
+use Rattle.log_commands.proofs.Imports.{one_count, same_count}
+use Rattle.log_commands.proofs.Imports.{one_place, ◌≡◌, ◌∙◌, ℕ, ◌+◌, ◌<◌, ◌≤◌, List, [], ◌∷◌, ◌++◌, map, take, inl}
+use Rattle.log_commands.proofs.Imports.{inr, refl, sym, ap, subst, arith, append_assoc, append-nil, slice_get}
+use Rattle.log_commands.proofs.Imports.{Result, Ok, Err, AllZip, false≢true, cases_lt, cases_order, length-map}
+use Rattle.log_commands.proofs.Imports.{length-take-le, take-take, slice_get_within, same_Some, SealedEntry}
+use Rattle.log_commands.proofs.Imports.{element_at, push_before, last_at, Post, RuleTree, is_too_wide}
+use Rattle.log_commands.proofs.Imports.{EntriesGiveOneGraph, Refusal, refused, Agree, SameGraph, AreJudged}
+use Rattle.log_commands.proofs.Imports.{IsFirstTooWide, nodes_of, is_broken, is_unsettled, row_of, RuleSource}
+use Rattle.log_commands.proofs.Imports.{standard, source_word, judged_is_narrow, SameVerdict, verdicts_agree}
+use Rattle.log_commands.proofs.Imports.{IsTooWideOver, Summary, After, is_kept, AreSummaries, GivesSummaries}
+use Rattle.log_commands.proofs.Imports.{IsTooWideAfter, watch_line, watch_lines}
+use Rattle.log_commands.specs.Watch.{IsNarrowOver}
+
+-- ---- one more
+
+-- one more line
+pub lines_more : (n : ℕ) (ss : List Summary) (s : Summary) →
+    watch_lines n (ss ++ s ∷ []) ≡ watch_lines n ss ++ watch_line (n + length ss) s
+lines_more n [] s = append-nil (watch_line n s) ∙ ap (λ k. watch_line k s) (let e : n ≡ n + 0 = omega arith in e)
+lines_more n (t ∷ ss) s =
+    ap (λ text. watch_line n t ++ text) (lines_more (n + 1) ss s)
+    ∙ sym (append_assoc (watch_line n t) (watch_lines (n + 1) ss) (watch_line (n + 1 + length ss) s))
+    ∙ ap (λ k. (watch_line n t ++ watch_lines (n + 1) ss) ++ watch_line k s)
+    (let e : n + 1 + length ss ≡ n + suc (length ss) = omega arith in e)
+
+module _ (machines : List Post) (rules : List RuleTree) (entries : List SealedEntry) where
+  -- of no entry nothing is said
+  pub none_said : AreSummaries machines rules (take 0 entries) []
+  none_said = record { one_each = refl; each = λ n s at. absurd (omega (arith, slice_get_within [] n s at)) }
+
+  module _ (k : ℕ) (within : k < length entries) (ss : List Summary) (s : Summary)
+      (so_far : AreSummaries machines rules (take k entries) ss)
+      (next : After machines rules (take (k + 1) entries) s) where
+    -- there are as many summaries as entries
+    many : length ss ≡ k
+    many = so_far.one_each ∙ length-take-le k entries (omega (arith, within))
+
+    -- the summary at a place is of the entries up to there
+    placed : (n : ℕ) (t : Summary) → slice_get (ss ++ s ∷ []) n ≡ Some t →
+        (n < k) ⊎ (k ≤ n) → After machines rules (take (n + 1) (take (k + 1) entries)) t
+    placed n t at (inl early) =
+        let (u, there) = element_at ss n (omega (arith, many, early)) in
+        let same : u ≡ t = same_Some u t (sym (push_before ss s n u there) ∙ at) in
+        subst (λ es. After machines rules es t)
+        (take-take (n + 1) k entries (omega (arith, early))
+        ∙ sym (take-take (n + 1) (k + 1) entries (omega (arith, early))))
+        (subst (λ (v : Summary). After machines rules (take (n + 1) (take k entries)) v) same
+        (so_far.each n u there))
+    placed n t at (inr late) =
+        let inside = slice_get_within (ss ++ s ∷ []) n t at in
+        let last : n ≡ length ss = omega (arith, late, inside, many, length-append ss (s ∷ [])) in
+        let same : s ≡ t =
+        same_Some s t (sym (last_at ss s) ∙ sym (ap (slice_get (ss ++ s ∷ [])) last) ∙ at) in
+        let is : n + 1 ≡ k + 1 = omega (arith, last, many) in
+        subst (λ es. After machines rules es t)
+        (ap (λ m. take m entries) (sym is) ∙ sym (take-take (n + 1) (k + 1) entries (omega (arith, is))))
+        (subst (λ (v : Summary). After machines rules (take (k + 1) entries) v) same next)
+
+    -- one entry more is said
+    pub said_more : AreSummaries machines rules (take (k + 1) entries) (ss ++ s ∷ [])
+    said_more = record {
+      one_each = (let count = length-take-le (k + 1) entries (omega (arith, within)) in
+          omega (arith, length-append ss (s ∷ []), many, count));
+      each = λ n t at. placed n t at (cases_lt n k);
+    }
+
+-- ---- at most one answer
+
+-- summaries that say the same have one line
+pub same_line : (n : ℕ) (s t : Summary) → s.survivors ≡ t.survivors → s.gaps ≡ t.gaps →
+    AllZip SameVerdict s.verdicts t.verdicts → watch_line n s ≡ watch_line n t
+same_line n s t survivors gaps verdicts =
+    let kept = same_count is_kept (λ v w same. (one_count v w same).kept) s.verdicts t.verdicts verdicts in
+    let broken = same_count is_broken (λ v w same. (one_count v w same).broken) s.verdicts t.verdicts verdicts in
+    let unsettled = same_count is_unsettled (λ v w same. (one_count v w same).unsettled) s.verdicts t.verdicts verdicts in
+    rw (survivors, gaps, kept, broken, unsettled) refl
+
+module _ (graphs : EntriesGiveOneGraph) (machines : List Post) (rules : List RuleTree) (entries : List SealedEntry) where
+  -- entries are said in one way
+  pub one_line : (s t : Summary) → After machines rules entries s → After machines rules entries t → (n : ℕ) →
+      watch_line n s ≡ watch_line n t
+  one_line s t a b n =
+      let same : SameGraph a.graph b.graph = graphs entries (Ok a.graph) (Ok b.graph) a.graphed b.graphed in
+      let by_rows = subst (λ (S : List SealedEntry). AreJudged (map (row_of machines) S) (nodes_of b.graph) rules t.verdicts)
+      (sym same.survivors) b.judged in
+      same_line n s t (a.survivors ∙ ap length same.survivors ∙ sym b.survivors)
+      (a.gaps ∙ same.gaps ∙ sym b.gaps)
+      (verdicts_agree (map (row_of machines) a.graph.survivors) a.graph b.graph
+      a.graphed.2.kept.linked.arrows.descends b.graphed.2.kept.linked.arrows.descends same
+      (length-map a.graph.survivors (row_of machines)) standard rules (Ok s.verdicts) (Ok t.verdicts) a.judged by_rows)
+
+  -- and where they are, no rule is too wide
+  said_is_narrow : (s : Summary) → After machines rules entries s → (place : ℕ) →
+      IsTooWideOver machines rules entries place → ⊥
+  said_is_narrow s a place (graph, graphed, first) =
+      let same : SameGraph a.graph graph = graphs entries (Ok a.graph) (Ok graph) a.graphed graphed in
+      absurd (false≢true
+      (sym (judged_is_narrow (map (row_of machines) a.graph.survivors) (nodes_of a.graph) rules s.verdicts place first.rule
+      a.judged first.stands)
+      ∙ subst (λ (S : List SealedEntry). is_too_wide (map (row_of machines) S) first.rule.body 1 ≡ true)
+      (sym same.survivors) first.too_wide))
+
+  -- the first rule that is too wide has one place
+  one_wide : (p q : ℕ) → IsTooWideOver machines rules entries p → IsTooWideOver machines rules entries q → p ≡ q
+  one_wide p q (graph, graphed, first) (other, also, second) =
+      let same : SameGraph graph other = graphs entries (Ok graph) (Ok other) graphed also in
+      one_place (map (row_of machines) graph.survivors) rules p q first
+      (subst (λ (S : List SealedEntry). IsFirstTooWide (map (row_of machines) S) rules q) (sym same.survivors) second)
+
+module _ (graphs : EntriesGiveOneGraph) (machines : List Post) (rules : List RuleTree)
+    (entries : List SealedEntry) where
+  -- where the first entries are said, they are narrow after each
+  pub none_wide : (k : ℕ) → k ≤ length entries → (ss : List Summary) → AreSummaries machines rules (take k entries) ss →
+      (n : ℕ) → n < k → IsNarrowOver machines rules (take (n + 1) entries)
+  none_wide k within ss said n less =
+      let long = length-take-le k entries within in
+      let (s, at) = element_at ss n (omega (arith, said.one_each, long, less)) in
+      let a : After machines rules (take (n + 1) entries) s =
+      subst (λ es. After machines rules es s) (take-take (n + 1) k entries (omega (arith, less))) (said.each n s at) in
+      record {
+        graph = a.graph;
+        graphed = a.graphed;
+        narrow = said_is_narrow graphs machines rules (take (n + 1) entries) s a;
+      }
+
+-- summaries that have the same line at each place have the same lines
+same_lines : (ss ts : List Summary) → length ss ≡ length ts →
+    ((n : ℕ) (s t : Summary) → slice_get ss n ≡ Some s → slice_get ts n ≡ Some t → (k : ℕ) →
+    watch_line k s ≡ watch_line k t) →
+    (k : ℕ) → watch_lines k ss ≡ watch_lines k ts
+same_lines [] [] long each k = refl
+same_lines [] (t ∷ ts) long each k = absurd (omega (arith, long))
+same_lines (s ∷ ss) [] long each k = absurd (omega (arith, long))
+same_lines (s ∷ ss) (t ∷ ts) long each k =
+    ap (λ text. text ++ watch_lines (k + 1) ss) (each 0 s t refl refl k)
+    ∙ ap (λ text. watch_line k t ++ text)
+    (same_lines ss ts (omega (arith, long)) (λ n. each (suc n)) (k + 1))
+
+module _ (graphs : EntriesGiveOneGraph) (machines : List Post) (source : RuleSource) (rules : List RuleTree)
+    (entries : List SealedEntry) where
+  -- entries that are all said aren't too wide after one of them
+  all_narrow : (ss : List Summary) → AreSummaries machines rules entries ss → (place : ℕ) →
+      IsTooWideAfter machines rules entries place → ⊥
+  all_narrow ss said place late =
+      let (s, at) = element_at ss late.before (subst (λ n. late.before < n) (sym said.one_each) late.within) in
+      said_is_narrow graphs machines rules (take (late.before + 1) entries) s (said.each late.before s at) place
+      late.too_wide
+
+  -- nor are they after one before the first
+  none_earlier : (p q : ℕ) (one : IsTooWideAfter machines rules entries p)
+      (other : IsTooWideAfter machines rules entries q) → one.before < other.before → ⊥
+  none_earlier p q one other less = (other.earlier one.before less).narrow p one.too_wide
+
+  -- so the first that is too wide has one place
+  one_late : (p q : ℕ) → IsTooWideAfter machines rules entries p → IsTooWideAfter machines rules entries q → p ≡ q
+  one_late p q one other = by (cases_order one.before other.before)
+    where
+      -- by which comes first
+      by : (one.before ≡ other.before) ⊎ ((one.before < other.before) ⊎ (other.before < one.before)) → p ≡ q
+      by (inl same) =
+          one_wide graphs machines rules (take (one.before + 1) entries) p q one.too_wide
+          (subst (λ n. IsTooWideOver machines rules (take (n + 1) entries) q) (sym same) other.too_wide)
+      by (inr (inl less)) = absurd (none_earlier p q one other less)
+      by (inr (inr more)) = absurd (none_earlier q p other one more)
+
+  -- entries give one answer
+  pub summaries_agree : (p q : Result (List Summary) Refusal) → GivesSummaries machines source rules entries p →
+      GivesSummaries machines source rules entries q → Agree (λ ss ts. watch_lines 1 ss ≡ watch_lines 1 ts) p q
+  summaries_agree (Ok ss) (Ok ts) (few, a) (_, b) =
+      same_lines ss ts (a.one_each ∙ sym b.one_each)
+      (λ n s t at also. one_line graphs machines rules (take (n + 1) entries) s t (a.each n s at) (b.each n t also)) 1
+  summaries_agree (Ok ss) (Err r) (few, a) (inl (too, e)) = absurd (too few)
+  summaries_agree (Ok ss) (Err r) (few, a) (inr (_, (place, late, e))) = absurd (all_narrow ss a place late)
+  summaries_agree (Err r) (Ok ts) (inl (too, e)) (few, b) = absurd (too few)
+  summaries_agree (Err r) (Ok ts) (inr (_, (place, late, e))) (few, b) = absurd (all_narrow ts b place late)
+  summaries_agree (Err r) (Err s) (inl (too, e)) (inl (_, f)) = e ∙ sym f
+  summaries_agree (Err r) (Err s) (inl (too, e)) (inr (few, _)) = absurd (too few)
+  summaries_agree (Err r) (Err s) (inr (few, _)) (inl (too, f)) = absurd (too few)
+  summaries_agree (Err r) (Err s) (inr (_, (p, one, e))) (inr (_, (q, other, f))) =
+      e ∙ ap (λ n. refused (source_word source) n (codes "TooWide")) (one_late p q one other) ∙ sym f

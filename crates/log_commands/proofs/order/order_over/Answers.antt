@@ -1,0 +1,10 @@
+use Rattle.log_commands.proofs.Imports.{SealedEntry, EntryGraph, entries_of, GivesGraph, IsOrderAmong}
+use Rattle.command_line.proofs.Faults.{refused_or}
+use Rattle.log_commands.proofs.order.order_over.Goals as goal
+
+pub returns-in-Err-clause-told : goal.returns-in-Err-clause-told
+returns-in-Err-clause-told c =
+    refused_or (GivesGraph (entries_of c.args.logs.items))
+    (λ (graph : EntryGraph SealedEntry).
+    IsOrderAmong c.args.roster.now.machines graph.survivors c.args.x.now c.args.y.now)
+    c.in-Err.fault c.of_fault.result c.of_fault.ensures.ok c.in-Err.ensures.err

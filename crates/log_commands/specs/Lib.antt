@@ -1,0 +1,16 @@
+pub mod EntryWords
+pub mod Lines
+pub mod ReportAnswers
+pub mod TwoEntries
+pub mod Honest
+pub mod HonestAudit
+pub mod Audit
+pub mod ProofFile
+pub mod Check
+pub mod Gaps
+pub mod Order
+pub mod Prove
+pub mod Watch
+pub mod CheckAgrees
+pub mod WatchAgrees
+pub mod inside

@@ -1,0 +1,4 @@
+-- Definitions that no public clause needs.
+pub mod EntryNames
+pub mod Checking
+pub mod Watching

@@ -1,0 +1,18 @@
+use Rattle.office_commands.proofs.Imports.{[], refl, AtLast, GivesBytes, max_signed, unsigned_of}
+use Rattle.office_commands.proofs.Imports.{file_ends}
+use Rattle.office_commands.proofs.FileSteps.{file_last}
+use Rattle.office_commands.proofs.endorse.read_for.Goals as goal
+
+pub returns-in-Ok : goal.returns-in-Ok
+returns-in-Ok g c =
+    let store = g.S.Store in
+    file_last store (λ bytes. bytes.items) (GivesBytes max_signed c.args.file.now) c.args.file.now unsigned_of
+    (λ bytes. record { office = c.args.office; bytes = bytes }) c.args.store.now c.read_bytes.new.store c.in-Ok.bytes _
+    refl c.in-Ok.ensures
+
+pub returns-in-Err : goal.returns-in-Err
+returns-in-Err g c =
+    let store = g.S.Store in
+    file_ends store (λ bytes. bytes.items) (GivesBytes max_signed c.args.file.now) c.args.file.now unsigned_of
+    (λ bytes. AtLast (record { office = c.args.office; bytes = bytes })) [] c.args.store.now
+    c.read_bytes.new.store c.in-Err.fault c.in-Err.ensures

@@ -1,0 +1,23 @@
+use Rattle.office_commands.proofs.Imports.{[], ◌∷◌, AtLast, FileThen, GivesBytes, max_signed, max_small}
+use Rattle.office_commands.proofs.Imports.{signed_of}
+use Rattle.office_commands.proofs.Imports.{file_ends, file_joins}
+use Rattle.office_commands.proofs.endorsed.read_signed.Goals as goal
+
+pub returns-in-Ok : goal.returns-in-Ok
+returns-in-Ok g c =
+    let store = g.S.Store in
+    let signature = c.args.signature.now in
+    file_joins store (λ bytes. bytes.items) (GivesBytes max_signed c.args.file.now) c.args.file.now signed_of
+    (λ m. FileThen (GivesBytes max_small signature)
+    (λ s. AtLast (record { key = c.args.key.items; bytes = m; signature = s }))) (signature ∷ [])
+    c.args.store.now c.read_bytes.new.store c.read_signature.new.store
+    c.in-Ok.bytes c.read_signature.result c.in-Ok.ensures c.read_signature.ensures
+
+pub returns-in-Err : goal.returns-in-Err
+returns-in-Err g c =
+    let store = g.S.Store in
+    let signature = c.args.signature.now in
+    file_ends store (λ bytes. bytes.items) (GivesBytes max_signed c.args.file.now) c.args.file.now signed_of
+    (λ m. FileThen (GivesBytes max_small signature)
+    (λ s. AtLast (record { key = c.args.key.items; bytes = m; signature = s }))) (signature ∷ [])
+    c.args.store.now c.read_bytes.new.store c.in-Err.fault c.in-Err.ensures

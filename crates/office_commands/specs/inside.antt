@@ -1,0 +1,3 @@
+-- Definitions that no public clause needs.
+pub mod Presence
+pub mod Endorsing
