@@ -4,7 +4,6 @@ pub mod Rows
 pub mod Steps
 pub mod Exact
 pub mod Leaves
-pub mod Rowed
 pub mod FormulasRead
 pub mod RulesRead
 pub mod RulesSteps
