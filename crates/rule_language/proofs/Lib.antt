@@ -6,7 +6,6 @@ pub mod Exact
 pub mod Leaves
 pub mod FormulasRead
 pub mod RulesRead
-pub mod RulesSteps
 pub mod WrittenForms
 pub mod WrittenTexts
 pub mod StandardText

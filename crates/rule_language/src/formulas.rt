@@ -23,6 +23,7 @@ const MAX_PARTS: usize = 64;
 
 /// Takes a formula, in which `levels` more parentheses may open.
 #[cycle(formulas)]
+#[tactic(auto, using(crate::proofs::Steps::formula_at, crate::proofs::Views::views))]
 pub(crate) fn read_formula(
     alloc: Global,
     text: &[u8],
@@ -203,7 +204,7 @@ fn read_quantified(
 
 /// Takes 1 to 64 formulas and the parenthesis after them.
 #[cycle(formulas)]
-#[tactic(auto, unfolding(crate::specs::Reader::row))]
+#[tactic(auto, unfolding(crate::specs::Reader::row), using(crate::proofs::Steps::parts_first))]
 fn read_parts(
     alloc: Global,
     text: &[u8],

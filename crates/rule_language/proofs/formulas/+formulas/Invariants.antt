@@ -1,9 +1,8 @@
-use Rattle.std.proofs.Common.{◌≡◌, ◌≤◌, ◌+◌, ◌-◌, ◌*◌, vec_len, Ok}
-use Rattle.rule_language.specs.Trees.{joined_trees}
+use Rattle.std.proofs.Common.{◌≡◌, ◌≤◌, ◌+◌, ◌-◌, ◌*◌, vec_len}
 use Rattle.rule_language.specs.Forms.{trees_of}
-use Rattle.rule_language.specs.Steps.{follow}
-use Rattle.rule_language.specs.Reader.{formula, parts, several}
+use Rattle.rule_language.specs.Reader.{formula, several}
 use Rattle.rule_language.specs.inside.Unread.{IsNext, unread, bindings}
+use Rattle.rule_language.proofs.Steps.{parts_after}
 use Rattle.rule_language.proofs.formulas.+formulas.Given as goal
 
 -- each of these is called with fewer parentheses that may open, or after one with a greater rank
@@ -32,8 +31,8 @@ decreases-read_parts l = 8 * l.levels + 3
 abbrev pub invariant-read_parts-parts : goal.invariant-read_parts-parts
 invariant-read_parts-parts l = record {
   all : several (formula l.levels (bindings l.scope)) (unread l.text l.fn.token)
-      ≡ follow (parts (64 - vec_len l.parts) (formula l.levels (bindings l.scope)) (unread l.text l.token))
-      (λ more next. Ok (joined_trees (trees_of l.parts.items) more, next));
+      ≡ parts_after (trees_of l.parts.items) (64 - vec_len l.parts) (formula l.levels (bindings l.scope))
+      (unread l.text l.token);
   next : IsNext l.text l.token;
   few : vec_len l.parts ≤ 64;
 }

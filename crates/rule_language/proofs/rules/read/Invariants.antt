@@ -1,12 +1,15 @@
-use Rattle.std.proofs.Common.{◌≤◌, ◌-◌, vec_len}
-use Rattle.rule_language.specs.inside.Unread.{IsNext}
-use Rattle.rule_language.proofs.RulesSteps.{AreFirst}
+use Rattle.std.proofs.Common.{◌≡◌, ◌≤◌, ◌-◌, map, vec_len}
+use Rattle.rule_language.specs.Forms.{rule_tree}
+use Rattle.rule_language.specs.Reader.{rules_of, without_rest}
+use Rattle.rule_language.specs.inside.Unread.{IsNext, unread, rule_names}
+use Rattle.rule_language.proofs.Steps.{rules_after}
 use Rattle.rule_language.proofs.rules.read.Given as goal
 
--- the rules so far are the first
+-- the rules so far, followed by those that are left, are all
 abbrev pub invariant-rules : goal.invariant-rules
 invariant-rules l = record {
-  all : AreFirst l.text l.rules.items (vec_len l.rules) l.token;
+  all : rules_of l.text ≡ without_rest (rules_after (map rule_tree l.rules.items) (256 - vec_len l.rules)
+      (rule_names l.rules.items) (unread l.text l.token));
   next : IsNext l.text l.token;
   few : vec_len l.rules ≤ 256;
 }
