@@ -6,6 +6,7 @@ use Rattle.std.proofs.Math.ListN.{drop_of_length-le}
 use Rattle.std.proofs.lemmas.List.{get_or-drop, drop_more, drop-drop, length-drop}
 use Rattle.std.proofs.lemmas.Bool.{ne_eqb, eq-eqb, le-leb, lt-ltb, le-ltb, leb-true, eqb-false, not-true, and_parts}
 use Rattle.std.proofs.lemmas.Bool.{cases_lt}
+use Rattle.std.proofs.lemmas.Bool.Decides.{nat_tests}
 use Rattle.hall_text.specs.Spans.{IsWordByte, IsParenthesis, IsToken, piece}
 use Rattle.hall_text.specs.Places.{CutsNoWord, BeginsToken}
 use Rattle.hall_text.proofs.TokenLemmas.{some_bytes, between_after}
@@ -15,34 +16,13 @@ use Rattle.rule_language.specs.Tokens.{token_then, bad_byte, text_end, row_from,
 use Rattle.hall_text.specs.Tokens.{is_parenthesis, is_word_byte}
 
 -- a byte of a word passes the test, and no other test
-pub word_tested : (b : ℕ) → IsWordByte b → (is_separator b ≡ false) × (is_parenthesis b ≡ false) × (is_word_byte b ≡
-    true)
-word_tested b (low, high, open_not, close_not) = (
-  rw (ne_eqb b 32 (λ e. omega arith)) (rw (ne_eqb b 9 (λ e. omega arith)) (rw (ne_eqb b 10 (λ e. omega arith))
-      (rw (ne_eqb b 13 (λ e. omega arith)) refl))),
-  rw (ne_eqb b 40 open_not) (rw (ne_eqb b 41 close_not) refl),
-  rw (le-leb 33 b low) (rw (le-leb b 126 high) (rw (ne_eqb b 40 open_not) (rw (ne_eqb b 41 close_not) refl))),
-)
+pub word_tested : (b : ℕ) → IsWordByte b → (is_separator b ≡ false) × (is_parenthesis b ≡ false)
+    × (is_word_byte b ≡ true)
+word_tested b word = (grind (arith, nat_tests), grind (arith, nat_tests), grind (arith, nat_tests))
 
 -- what passes the test is a byte of a word
 pub word_byte : (b : ℕ) → is_word_byte b ≡ true → IsWordByte b
-word_byte b is =
-    let (low, more) = and_parts (nat_le 33 b) (nat_le b 126 && (not (b == 40) && not (b == 41))) is in
-    let (high, others) = and_parts (nat_le b 126) (not (b == 40) && not (b == 41)) more in
-    let (l, r) = and_parts (not (b == 40)) (not (b == 41)) others in (
-      leb-true 33 b low,
-      leb-true b 126 high,
-      eqb-false b 40 (not-true (b == 40) l),
-      eqb-false b 41 (not-true (b == 41) r),
-    )
-
--- what isn't one fails it
-untested : (b : ℕ) → ¬ (IsWordByte b) → is_word_byte b ≡ false
-untested b other = by (is_word_byte b) refl
-  where
-    by : (test : Bool) → is_word_byte b ≡ test → is_word_byte b ≡ false
-    by true is = absurd (other (word_byte b is))
-    by false is = is
+word_byte b is = grind (arith, nat_tests)
 
 -- a separator is passed over
 pub separator_more : (text : List ℕ) (at : ℕ) → at < length text → is_separator (get_or text at 0) ≡ true →
@@ -51,9 +31,7 @@ separator_more text at within separates = rw (drop_more text at 0 within) (rw se
 
 -- a separator begins no token
 pub separator_begins : (b : ℕ) → is_separator b ≡ true → ¬ (IsWordByte b ⊎ IsParenthesis b)
-separator_begins b separates (inl word) = let no = (word_tested b word).0 in cc (no, separates)
-separator_begins b separates (inr (inl e)) = let shut : false ≡ true = rw e at separates in cc shut
-separator_begins b separates (inr (inr e)) = let shut : false ≡ true = rw e at separates in cc shut
+separator_begins b separates = grind (arith, nat_tests)
 
 -- after the last byte the text ends
 pub end_row : (text : List ℕ) (at : ℕ) → length text ≤ at → row_from at (drop at text) ≡ text_end at
@@ -67,7 +45,7 @@ goes (b ∷ bytes) some word = (word_tested b word).2
 -- and whether it ends there
 stops : (bytes : List ℕ) → (0 < length bytes → ¬ (IsWordByte (get_or bytes 0 0))) → goes_on bytes ≡ false
 stops [] other = refl
-stops (b ∷ bytes) other = untested b (other (omega arith))
+stops (b ∷ bytes) other = let none : ¬ (IsWordByte b) = other (omega arith) in grind (arith, nat_tests)
 
 -- bytes of a word, after which it ends, are a token
 word_row : (n at : ℕ) (bytes : List ℕ) → suc n ≤ length bytes →
@@ -83,11 +61,6 @@ word_row (suc n) at (b ∷ bytes) few all ends =
     let rest = word_row n (at + 1) bytes (omega arith) (λ i few. all (suc i) (omega arith)) ends in
     let place : at + 1 + suc n ≡ at + suc (suc n) = omega arith in
     rw separates (rw alone (rw word (rw on (rw rest (rw place refl)))))
-
--- a parenthesis is no separator
-alone_tested : (b : ℕ) → IsParenthesis b → (is_separator b ≡ false) × (is_parenthesis b ≡ true)
-alone_tested b (inl is) = rw is (refl, refl)
-alone_tested b (inr is) = rw is (refl, refl)
 
 -- a token, and what is after it
 pub token_row : (text : List ℕ) (at end : ℕ) → at < end → IsToken text (record { start = at; end = end }) →
@@ -110,7 +83,9 @@ token_row text at end some (inr alone) =
     let inside : end ≤ length text = alone.inside in
     let one : end ≡ at + 1 = alone.one in
     let size : end - at ≡ 1 = omega arith in
-    let (separates, parenthesis) = alone_tested (get_or text at 0) alone.byte in
+    let byte : IsParenthesis (get_or text at 0) = alone.byte in
+    let separates : is_separator (get_or text at 0) ≡ false = grind (arith, nat_tests) in
+    let parenthesis : is_parenthesis (get_or text at 0) ≡ true = grind (arith, nat_tests) in
     let here : drop at text ≡ get_or text at 0 ∷ drop (at + 1) text = drop_more text at 0 (omega arith) in
     rw (size, one, here) (rw separates (rw parenthesis refl))
 
@@ -118,10 +93,8 @@ token_row text at end some (inr alone) =
 pub bad_row : (text : List ℕ) (at : ℕ) → at < length text → is_separator (get_or text at 0) ≡ false →
     ¬ (BeginsToken text at) → row_from at (drop at text) ≡ bad_byte at
 bad_row text at within separates none =
-    let word : is_word_byte (get_or text at 0) ≡ false = untested _ (λ is. none (inl is)) in
-    let left : (get_or text at 0 == 40) ≡ false = ne_eqb _ 40 (λ is. none (inr (inl is))) in
-    let right : (get_or text at 0 == 41) ≡ false = ne_eqb _ 41 (λ is. none (inr (inr is))) in
-    let parenthesis : is_parenthesis (get_or text at 0) ≡ false = rw left (rw right refl) in
+    let word : is_word_byte (get_or text at 0) ≡ false = grind (arith, nat_tests) in
+    let parenthesis : is_parenthesis (get_or text at 0) ≡ false = grind (arith, nat_tests) in
     rw (drop_more text at 0 within) (rw separates (rw parenthesis (rw word refl)))
 
 -- the token that begins there, or the bad byte
