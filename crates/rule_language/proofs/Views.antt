@@ -9,6 +9,7 @@ use Rattle.rule_language.specs.declared.formula.Formula.{the_lemmas, fold_out-Fo
 use Rattle.rule_language.specs.declared.formula.Formula.TheOpen.{Formula-F}
 use Rattle.rule_language.specs.declared.form.Form.{Form}
 use Rattle.rule_language.specs.Trees.{Trees, no_trees, tree_then}
+use Rattle.rule_language.specs.inside.Parts.{parts_of}
 use Rattle.rule_language.specs.Forms.{tree_of, trees_of, in_front, all_in_front, tree_step}
 use Rattle.rule_language.specs.declared.formula.Formula.{ForEvery}
 use Rattle.rule_language.specs.Trees.{joined_trees}
@@ -88,24 +89,15 @@ view-Less t u = search (rules, the_lemmas)
 abbrev pub IsInFront : (Trees → Trees) → Form → Trees → Type 0
 IsInFront put form parts = (rest : Trees) → put rest ≡ tree_then form parts rest
 
+-- the form that is first in a row
+abbrev form_in : Trees → Form
+form_in no_trees = form.True
+form_in (tree_then form parts rest) = form
+
 -- one level puts one form with its parts in front, whatever is inside
 shape_step : (x : Formula-F (Trees → Trees)) → (form : Form) × (parts : Trees) × IsInFront (tree_step x) form parts
 shape_step Formula-F.True = (form.True, no_trees, λ rest. refl)
-shape_step (Formula-F.ForEvery v kind body) = (form.ForEvery v kind, body.value no_trees, λ rest. refl)
-shape_step (Formula-F.ForSome v kind body) = (form.ForSome v kind, body.value no_trees, λ rest. refl)
-shape_step (Formula-F.EveryBefore v kind u body) = (form.EveryBefore v kind u, body.value no_trees, λ rest. refl)
-shape_step (Formula-F.SomeBefore v kind u body) = (form.SomeBefore v kind u, body.value no_trees, λ rest. refl)
-shape_step (Formula-F.And parts) = (form.And, all_in_front parts.items, λ rest. refl)
-shape_step (Formula-F.Or parts) = (form.Or, all_in_front parts.items, λ rest. refl)
-shape_step (Formula-F.Not body) = (form.Not, body.value no_trees, λ rest. refl)
-shape_step (Formula-F.Implies f g) = (form.Implies, f.value (g.value no_trees), λ rest. refl)
-shape_step (Formula-F.Same v u) = (form.Same v u, no_trees, λ rest. refl)
-shape_step (Formula-F.Before v u) = (form.Before v u, no_trees, λ rest. refl)
-shape_step (Formula-F.Next v u) = (form.Next v u, no_trees, λ rest. refl)
-shape_step (Formula-F.Is v role) = (form.Is v role, no_trees, λ rest. refl)
-shape_step (Formula-F.OfKind v kind) = (form.OfKind v kind, no_trees, λ rest. refl)
-shape_step (Formula-F.Equal t s) = (form.Equal t s, no_trees, λ rest. refl)
-shape_step (Formula-F.Less t s) = (form.Less t s, no_trees, λ rest. refl)
+shape_step x = (form_in (tree_step x no_trees), parts_of (tree_step x no_trees), λ rest. refl)
 
 -- each formula puts one form with its parts in front
 pub shape : (f : Formula) → (form : Form) × (parts : Trees) × IsInFront (in_front f) form parts

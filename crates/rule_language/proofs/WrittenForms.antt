@@ -17,28 +17,11 @@ pub enclosed_text : (f : Form) (inside : List ℕ) → f ≢ form.True
 enclosed_text form.True inside other = absurd (other refl)
 enclosed_text f inside other = refl
 
--- a formula in parentheses, piece by piece
-pub written_form : (tree : Trees) (f : Form) (parts : Trees) (old : List ℕ)
-    → tree ≡ tree_then f parts no_trees → f ≢ form.True
-    → ((old ++ 32 ∷ 40 ∷ []) ++ with_spaces (form_words f)) ++ row_text parts ++ 41 ∷ [] ≡ old ++ row_text tree
-written_form tree f parts old is other =
-    append_assoc ((old ++ 32 ∷ 40 ∷ []) ++ with_spaces (form_words f)) (row_text parts) (41 ∷ [])
-    ∙ append_assoc (old ++ 32 ∷ 40 ∷ []) (with_spaces (form_words f)) (row_text parts ++ 41 ∷ [])
-    ∙ append_assoc old (32 ∷ 40 ∷ []) (with_spaces (form_words f) ++ (row_text parts ++ 41 ∷ []))
-    ∙ ap (λ xs. old ++ 32 ∷ xs) (sym (enclosed_text f (row_text parts) other)
-    ∙ sym (append-nil (form_text f (row_text parts))))
-    ∙ ap (λ t. old ++ row_text t) (sym is)
-
--- a formula's text is the old bytes with each of its pieces appended in turn
-pub written_pieces : (tree : Trees) (f : Form) (parts : Trees) (old opened headed filled closed : List ℕ)
-    → tree ≡ tree_then f parts no_trees → f ≢ form.True → opened ≡ old ++ 32 ∷ 40 ∷ []
-    → headed ≡ opened ++ with_spaces (form_words f) → filled ≡ headed ++ row_text (parts_of tree)
-    → closed ≡ filled ++ 41 ∷ [] → closed ≡ old ++ row_text tree
-written_pieces tree f parts old opened headed filled closed is other opens heads fills closes =
-    closes
-    ∙ ap (λ xs. xs ++ 41 ∷ []) (fills ∙ ap (λ t. headed ++ row_text (parts_of t)) is
-    ∙ ap (λ xs. xs ++ row_text parts) (heads ∙ ap (λ xs. xs ++ with_spaces (form_words f)) opens))
-    ∙ written_form tree f parts old is other
+-- a formula in parentheses
+pub row_of_form : (tree : Trees) (f : Form) → tree ≡ tree_then f (parts_of tree) no_trees → f ≢ form.True →
+    row_text tree ≡ 32 ∷ 40 ∷ (with_spaces (form_words f) ++ (row_text (parts_of tree) ++ 41 ∷ []))
+row_of_form tree f is other = ap row_text is
+    ∙ ap (λ xs. 32 ∷ xs) (append-nil (form_text f (row_text (parts_of tree))) ∙ enclosed_text f (row_text (parts_of tree)) other)
 
 -- a row is written formula by formula
 pub row_front : (p : Formula) (rest : Trees) → row_text (in_front p rest) ≡ row_text (tree_of p) ++ row_text rest

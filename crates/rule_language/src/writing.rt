@@ -1,7 +1,7 @@
 //! Writing the text of rules.
 ghost use Rattle.std.specs.Prelude.{◌≡◌, ◌∷◌, ◌++◌, [], map, codes, IfOk, OnOk};
 ghost use Rattle.rule_language.specs.Kinds.{kind_word};
-ghost use Rattle.rule_language.specs.Trees.{Trees, no_trees, tree_then};
+ghost use Rattle.rule_language.specs.Trees.{no_trees, tree_then};
 ghost use Rattle.rule_language.specs.Forms.{tree_of, trees_of, rule_tree};
 ghost use Rattle.rule_language.specs.Spelling.{variable, term_word, form_words};
 ghost use Rattle.rule_language.specs.Written.{spaced, with_spaces, row_text, rule_text, rules_text};
@@ -147,8 +147,9 @@ fn push_form(alloc: Global, out: &mut Vec<u8>, form: Form) -> Result<(), Memory>
 }
 
 /// The form of a formula.
+#[tactic(auto, using(crate::proofs::Views::views))]
 fn form_of(formula: &Formula) -> Form
-    ensures { (parts : Trees) × (tree_of formula.now ≡ tree_then result parts no_trees) }
+    ensures { tree_of formula.now ≡ tree_then result (parts_of (tree_of formula.now)) no_trees }
 {
     match formula {
         Formula::True => Form::True,
@@ -180,6 +181,7 @@ fn form_of(formula: &Formula) -> Form
 
 /// Appends a space and the formula.
 #[cycle(writing)]
+#[tactic(auto, using(crate::proofs::WrittenForms::row_of_form))]
 fn push_formula(alloc: Global, out: &mut Vec<u8>, formula: &Formula) -> Result<(), Memory>
     ensures { OnOk result (out.new.items ≡ out.old.items ++ row_text (tree_of formula.now)) }
 {
