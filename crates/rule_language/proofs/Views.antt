@@ -16,10 +16,6 @@ use Rattle.rule_language.specs.Trees.{joined_trees}
 use Rattle.std.proofs.Common.{sym, List, [], ◌∷◌, ◌++◌}
 use Rattle.rule_language.specs.declared.form.Form.TheVariants as form
 
--- `true` is a form without formulas in it
-pub view-True : tree_of True ≡ tree_then form.True no_trees no_trees
-view-True = search (rules, the_lemmas)
-
 -- the formulas of an `and` are its list, in order
 pub view-And : (v : Vec Formula Global) → tree_of (And v) ≡ tree_then form.And (trees_of v.items) no_trees
 view-And v = search (rules, the_lemmas)
@@ -28,62 +24,10 @@ view-And v = search (rules, the_lemmas)
 pub view-Or : (v : Vec Formula Global) → tree_of (Or v) ≡ tree_then form.Or (trees_of v.items) no_trees
 view-Or v = search (rules, the_lemmas)
 
--- a `not` has one formula in it
-pub view-Not : (b : Box Formula Global) → tree_of (Not b) ≡ tree_then form.Not (tree_of b.value) no_trees
-view-Not b = search (rules, the_lemmas)
-
 -- an `implies` has its two formulas in it, the condition first
 pub view-Implies : (a b : Box Formula Global) → tree_of (Implies a b) ≡ tree_then form.Implies
     (in_front a.value (tree_of b.value)) no_trees
 view-Implies a b = search (rules, the_lemmas)
-
--- the body of an `every` is the one formula in it
-pub view-ForEvery : (v : ℕ) (k : Kind) (b : Box Formula Global)
-    → tree_of (ForEvery v k b) ≡ tree_then (form.ForEvery v k) (tree_of b.value) no_trees
-view-ForEvery v k b = search (rules, the_lemmas)
-
--- the body of a `some` is the one formula in it
-pub view-ForSome : (v : ℕ) (k : Kind) (b : Box Formula Global) → tree_of (ForSome v k b) ≡ tree_then (form.ForSome v k)
-    (tree_of b.value) no_trees
-view-ForSome v k b = search (rules, the_lemmas)
-
--- the body of an `every` with `before` is the one formula in it
-pub view-EveryBefore : (v : ℕ) (k : Kind) (u : ℕ) (b : Box Formula Global)
-    → tree_of (EveryBefore v k u b) ≡ tree_then (form.EveryBefore v k u) (tree_of b.value) no_trees
-view-EveryBefore v k u b = search (rules, the_lemmas)
-
--- the body of a `some` with `before` is the one formula in it
-pub view-SomeBefore : (v : ℕ) (k : Kind) (u : ℕ) (b : Box Formula Global)
-    → tree_of (SomeBefore v k u b) ≡ tree_then (form.SomeBefore v k u) (tree_of b.value) no_trees
-view-SomeBefore v k u b = search (rules, the_lemmas)
-
--- `same` has no formulas in it
-pub view-Same : (v u : ℕ) → tree_of (Same v u) ≡ tree_then (form.Same v u) no_trees no_trees
-view-Same v u = search (rules, the_lemmas)
-
--- `before` has none
-pub view-Before : (v u : ℕ) → tree_of (Before v u) ≡ tree_then (form.Before v u) no_trees no_trees
-view-Before v u = search (rules, the_lemmas)
-
--- `next` has none
-pub view-Next : (v u : ℕ) → tree_of (Next v u) ≡ tree_then (form.Next v u) no_trees no_trees
-view-Next v u = search (rules, the_lemmas)
-
--- a test of the role has none
-pub view-Is : (v : ℕ) (r : Role) → tree_of (Is v r) ≡ tree_then (form.Is v r) no_trees no_trees
-view-Is v r = search (rules, the_lemmas)
-
--- a test of the kind has none
-pub view-OfKind : (v : ℕ) (k : Kind) → tree_of (OfKind v k) ≡ tree_then (form.OfKind v k) no_trees no_trees
-view-OfKind v k = search (rules, the_lemmas)
-
--- a test of equal terms has none
-pub view-Equal : (t u : Term) → tree_of (Equal t u) ≡ tree_then (form.Equal t u) no_trees no_trees
-view-Equal t u = search (rules, the_lemmas)
-
--- a test of order has none
-pub view-Less : (t u : Term) → tree_of (Less t u) ≡ tree_then (form.Less t u) no_trees no_trees
-view-Less t u = search (rules, the_lemmas)
 
 -- a formula is one form with parts, put in front of others
 abbrev pub IsInFront : (Trees → Trees) → Form → Trees → Type 0
@@ -138,21 +82,4 @@ pub view-Both : (a b : Box Formula Global) → tree_of (Implies a b) ≡ tree_th
 view-Both a b = view-Implies a b ∙ ap (λ row. tree_then form.Implies row no_trees) (front a.value (tree_of b.value))
 
 -- the trees of formulas of each form
-pub ruleset views = (
-  view-True,
-  view-And,
-  view-Or,
-  view-Not,
-  view-Both,
-  view-ForEvery,
-  view-ForSome,
-  view-EveryBefore,
-  view-SomeBefore,
-  view-Same,
-  view-Before,
-  view-Next,
-  view-Is,
-  view-OfKind,
-  view-Equal,
-  view-Less,
-)
+pub ruleset views = (view-Both, the_lemmas)
