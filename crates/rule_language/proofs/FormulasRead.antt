@@ -5,6 +5,7 @@ use Rattle.std.specs.Prelude.{◌&&◌, ◌==◌, not, nat_le, nat_lt, if◌then
 use Rattle.std.specs.Str.{bytes_eq}
 use Rattle.std.proofs.lemmas.Bool.{and_parts, eqb-true, leb-true, ltb-true, lt-ltb, le-leb, leb-false, le-ltb, ne_eqb}
 use Rattle.std.proofs.lemmas.Bool.{not-true}
+use Rattle.std.proofs.lemmas.Bool.Decides.{nat_tests}
 use Rattle.rule_language.specs.declared.kind.Sort.{Sort}
 use Rattle.rule_language.specs.declared.form.Head.{Head}
 use Rattle.rule_language.specs.declared.form.Head.TheVariants as head
@@ -44,15 +45,13 @@ pub may_stand : (levels : ℕ) (scope : Scope) (form : Form) (parts rest : Trees
     are_formulas levels scope (tree_then form parts rest) ≡ true →
     (is_shallow levels form ≡ true) × (is_closed scope form ≡ true) × (has_arity form (count_of parts) ≡ true)
     × (are_formulas (inner levels) (scope_in form scope) parts ≡ true) × (are_formulas levels scope rest ≡ true)
-may_stand levels scope form parts rest good =
-    let (fits, others) = and_parts (is_shallow levels form && (is_closed scope form && has_arity form (count_of parts)))
-    (are_formulas (inner levels) (scope_in form scope) parts && are_formulas levels scope rest) good in
-    let (shallow, more) = and_parts (is_shallow levels form) (is_closed scope form && has_arity form (count_of parts))
-    fits in
-    let (closes, arity) = and_parts (is_closed scope form) (has_arity form (count_of parts)) more in
-    let (within, after) = and_parts (are_formulas (inner levels) (scope_in form scope) parts)
-    (are_formulas levels scope rest) others in
-    (shallow, closes, arity, within, after)
+may_stand levels scope form parts rest good = (
+  grind (arith, nat_tests),
+  grind (arith, nat_tests),
+  grind (arith, nat_tests),
+  grind (arith, nat_tests),
+  grind (arith, nat_tests),
+)
 
 -- the tokens of one row and another
 joined_tokens : (a b : Trees) (following : List Token) →
@@ -253,7 +252,7 @@ bound_spelt every (v, (k, (u, t))) following = refl
 bound_lawful : (levels : ℕ) (scope : Scope) (every : Bool) → nat_le 4 (length scope) ≡ false → (q : Bound) →
     BindsWell levels scope q → IsOne (suc levels) scope (quantified_tree every q)
 bound_lawful levels scope every few (v, (k, (u, t))) ((letter, fresh), (_, (fits, (lawful, one)))) =
-    by every u fits (rw (letter, fresh, lt-ltb (length scope) 4 (leb-false 4 (length scope) few)) refl)
+    by every u fits (grind (arith, nat_tests))
   where
     by : (every : Bool) (u : Option ℕ) → RangeFits scope u → can_bind scope v ≡ true →
         IsOne (suc levels) scope (quantified_tree every (v, (k, (u, t))))
@@ -290,14 +289,11 @@ way_of levels scope h {A = A} {read = read} {s = s} {L = L} make exact spells fi
 }
 
 -- 1 to 64
-several_fit : (n : ℕ) → 0 < n → n - 1 ≤ 63 → (nat_lt 0 n && nat_le n 64) ≡ true
-several_fit n some few = rw (lt-ltb 0 n some) (le-leb n 64 (omega (arith, some, few)))
+several_fit : (n : ℕ) → (0 < n) × (n - 1 ≤ 63) → (nat_lt 0 n && nat_le n 64) ≡ true
+several_fit n (some, most) = grind (arith, nat_tests)
 
 fit_several : (n : ℕ) → (nat_lt 0 n && nat_le n 64) ≡ true → (0 < n) × (n - 1 ≤ 63)
-fit_several n fits =
-    let (some, few) = and_parts (nat_lt 0 n) (nat_le n 64) fits in
-    let less : n ≤ 64 = leb-true n 64 few in
-    (ltb-true 0 n some, omega arith)
+fit_several n fits = (grind (arith, nat_tests), grind (arith, nat_tests))
 
 -- each head's
 abbrev way : (levels : ℕ) (read : Scope → Read Trees) → ReadsOne levels read → (scope : Scope) (h : Head) →
@@ -308,10 +304,10 @@ way levels read reads scope head.ForSome few = way_of levels scope head.ForSome 
     (quantified_exact levels read reads scope) (bound_spelt false) (bound_lawful levels scope false few)
 way levels read reads scope head.And few = way_of levels scope head.And (tree form.And)
     (several_exact levels scope (reads scope)) (λ ts ws. refl)
-    (λ ts (lawful, (some, most)). (rw (several_fit (count_of ts) some most, lawful) refl, refl))
+    (λ ts (lawful, most). (rw (several_fit (count_of ts) most, lawful) refl, refl))
 way levels read reads scope head.Or few = way_of levels scope head.Or (tree form.Or)
     (several_exact levels scope (reads scope)) (λ ts ws. refl)
-    (λ ts (lawful, (some, most)). (rw (several_fit (count_of ts) some most, lawful) refl, refl))
+    (λ ts (lawful, most). (rw (several_fit (count_of ts) most, lawful) refl, refl))
 way levels read reads scope head.Not few = way_of levels scope head.Not (tree form.Not) (closed_exact (reads scope))
     (λ ts ws. refl) (λ ts (lawful, one). (rw (one, lawful) refl, refl))
 way levels read reads scope head.Implies few = way_of levels scope head.Implies (tree form.Implies)
@@ -363,8 +359,7 @@ true_back (suc levels) scope row following is =
 -- there are none in an atom
 pub no_parts : (parts : Trees) → (count_of parts == 0) ≡ true → no_trees ≡ parts
 no_parts no_trees none = refl
-no_parts (tree_then f i more) none =
-    let no : count_of more + 1 ≡ 0 = eqb-true (count_of more + 1) 0 none in absurd (omega arith)
+no_parts (tree_then f i more) none = absurd (omega (arith, eqb-true (count_of more + 1) 0 none))
 
 -- the sorts of terms of one sort
 pub sorts_of : (a b : Option Sort) → are_of_one_sort a b ≡ true →
@@ -406,12 +401,8 @@ module _ (levels : ℕ) (reads : ReadsOne levels (formula levels)) (scope : Scop
       (count_of q.1.1.1 == 1) ≡ true → are_formulas levels ((q.0, q.1.0) ∷ scope) q.1.1.1 ≡ true →
       FormRead (suc levels) scope (quantifier every q.0 q.1.0 q.1.1.0) q.1.1.1
   quantifier_back every q can fits one within =
-      let (letter, more) = and_parts (is_letter q.0) (not (is_some (kind_in scope q.0)) && nat_lt (length scope) 4)
-      can in
-      let (fresh, few) = and_parts (not (is_some (kind_in scope q.0))) (nat_lt (length scope) 4) more in
-      let less : length scope < 4 = ltb-true (length scope) 4 few in
-      by every (le-ltb 3 (length scope) (omega arith)) (
-        (letter, not-true (is_some (kind_in scope q.0)) fresh),
+      by every (grind (arith, nat_tests)) (
+        (grind (arith, nat_tests), grind (arith, nat_tests)),
         (tt, (fits, (within, eqb-true (count_of q.1.1.1) 1 one))),
       )
     where

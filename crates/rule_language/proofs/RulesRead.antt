@@ -3,6 +3,7 @@ use Rattle.std.proofs.Common.{◌≡◌, ◌∙◌, sym, ap, refl, arith, ℕ, z
 use Rattle.std.proofs.Common.{true, false, List, [], ◌∷◌, ◌++◌, length}
 use Rattle.std.specs.Prelude.{◌&&◌, ◌==◌, not, nat_le, nat_lt, codes, Result, Ok, Err}
 use Rattle.std.proofs.lemmas.Bool.{and_parts, eqb-true, leb-true, lt-ltb, le-leb, not-true}
+use Rattle.std.proofs.lemmas.Bool.Decides.{nat_tests}
 use Rattle.rule_language.specs.declared.faults.RuleFault.{RuleFault}
 use Rattle.rule_language.specs.Trees.{Trees, RuleTree, count_of}
 use Rattle.rule_language.specs.Lawful.{are_formulas, is_name, is_among, is_rule, follow as lawful_from}
@@ -34,11 +35,7 @@ rule_exact names = after_exact left (after_exact (codes "rule") (made_exact (λ 
 -- a lawful rule
 pub rule_fits : (names : List Token) (r : RuleTree) → is_rule names r ≡ true → RuleFits names r
 rule_fits names r is =
-    let (named, bodied) = and_parts (is_name r.name && not (is_among r.name names))
-    ((count_of r.body == 1) && are_formulas 31 [] r.body) is in
-    let (good, free) = and_parts (is_name r.name) (not (is_among r.name names)) named in
-    let (one, lawful) = and_parts (count_of r.body == 1) (are_formulas 31 [] r.body) bodied in
-    ((good, not-true (is_among r.name names) free), (lawful, eqb-true (count_of r.body) 1 one))
+    ((grind (arith, nat_tests), grind (arith, nat_tests)), (grind (arith, nat_tests), grind (arith, nat_tests)))
 
 -- the rules up to the end, of which there are so many
 record AreAll (names : List Token) (least most : ℕ) (row : Row) (rs : List RuleTree) : Type 0 where
@@ -145,13 +142,11 @@ pub text_back : (text : List ℕ) (rs : List RuleTree) → IsTextOf text rs → 
 unfolding rules_of rules
 text_back text [] is = let no : false ≡ true = is.lawful in cc no
 text_back text (r ∷ others) is =
-    let n : ℕ = length (r ∷ others) in
-    let (count, good) = and_parts (nat_lt 0 n && nat_le n 256) (lawful_from [] (r ∷ others)) is.lawful in
-    let few = leb-true n 256 (and_parts (nat_lt 0 n) (nat_le n 256) count).1 in
+    let few : length (r ∷ others) ≤ 256 = grind (arith, nat_tests, is.lawful) in
     let (rest, x) = one_back 255 (more_back 255) [] (text_row text) r others (record {
       spelt = is.tokens;
       whole = is.whole;
-      lawful = good;
+      lawful = (and_parts (nat_lt 0 (length (r ∷ others)) && nat_le (length (r ∷ others)) 256) _ is.lawful).1;
       some = omega arith;
       few = few;
     }) in
