@@ -1,15 +1,14 @@
 -- The row of a text, from one place to the next.
 use Rattle.std.proofs.Common.{◌≡◌, ◌∙◌, ◌⊎◌, inl, inr, sym, ap, subst, refl, arith, ℕ, zero, suc, ◌+◌, ◌-◌, ◌<◌, ◌≤◌}
-use Rattle.std.proofs.Common.{Bool, true, false, List, [], ◌∷◌, length, get_or, take, drop}
-use Rattle.std.specs.Prelude.{◌&&◌, ◌==◌, not, nat_le}
+use Rattle.std.proofs.Common.{true, false, List, [], ◌∷◌, length, get_or, take, drop}
 use Rattle.std.proofs.Math.ListN.{drop_of_length-le}
 use Rattle.std.proofs.lemmas.List.{get_or-drop, drop_more, drop-drop, length-drop}
-use Rattle.std.proofs.lemmas.Bool.{ne_eqb, eq-eqb, le-leb, lt-ltb, le-ltb, leb-true, eqb-false, not-true, and_parts}
+use Rattle.std.proofs.lemmas.Bool.{ne_eqb, eq-eqb, lt-ltb, le-ltb}
 use Rattle.std.proofs.lemmas.Bool.{cases_lt}
 use Rattle.std.proofs.lemmas.Bool.Decides.{nat_tests}
 use Rattle.hall_text.specs.Spans.{IsWordByte, IsParenthesis, IsToken, piece}
 use Rattle.hall_text.specs.Places.{CutsNoWord, BeginsToken}
-use Rattle.hall_text.proofs.TokenLemmas.{some_bytes, between_after}
+use Rattle.hall_text.proofs.TokenLemmas.{some_bytes, between_after, between_none}
 unfoldable use Rattle.rule_language.specs.inside.Unread.{unread}
 use Rattle.rule_language.specs.inside.Unread.{IsNext}
 use Rattle.rule_language.specs.Tokens.{token_then, bad_byte, text_end, row_from, goes_on, is_separator}
@@ -32,6 +31,9 @@ separator_more text at within separates = rw (drop_more text at 0 within) (rw se
 -- a separator begins no token
 pub separator_begins : (b : ℕ) → is_separator b ≡ true → ¬ (IsWordByte b ⊎ IsParenthesis b)
 separator_begins b separates = grind (arith, nat_tests)
+
+-- what is known of a separator
+pub ruleset separators = (separator_more, separator_begins, between_none)
 
 -- after the last byte the text ends
 pub end_row : (text : List ℕ) (at : ℕ) → length text ≤ at → row_from at (drop at text) ≡ text_end at

@@ -1,12 +1,12 @@
 -- Texts of rules are read exactly.
 use Rattle.std.proofs.Common.{◌≡◌, ◌∙◌, sym, ap, refl, arith, ℕ, zero, suc, ◌≤◌}
 use Rattle.std.proofs.Common.{true, false, List, [], ◌∷◌, ◌++◌, length}
-use Rattle.std.specs.Prelude.{◌&&◌, ◌==◌, not, nat_le, nat_lt, codes, Result, Ok, Err}
-use Rattle.std.proofs.lemmas.Bool.{and_parts, eqb-true, leb-true, lt-ltb, le-leb, not-true}
+use Rattle.std.specs.Prelude.{◌&&◌, nat_le, nat_lt, codes, Result, Ok, Err}
+use Rattle.std.proofs.lemmas.Bool.{and_parts, lt-ltb, le-leb}
 use Rattle.std.proofs.lemmas.Bool.Decides.{nat_tests}
 use Rattle.rule_language.specs.declared.faults.RuleFault.{RuleFault}
-use Rattle.rule_language.specs.Trees.{Trees, RuleTree, count_of}
-use Rattle.rule_language.specs.Lawful.{are_formulas, is_name, is_among, is_rule, follow as lawful_from}
+use Rattle.rule_language.specs.Trees.{Trees, RuleTree}
+use Rattle.rule_language.specs.Lawful.{is_rule, follow as lawful_from}
 use Rattle.rule_language.specs.Spelling.{rule_then, rules_tokens, IsTextOf}
 use Rattle.rule_language.specs.Tokens.{Token, Row, token_then, bad_byte, text_end, left, words, has_good_bytes}
 use Rattle.rule_language.specs.Tokens.{text_row}

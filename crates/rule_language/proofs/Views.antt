@@ -1,8 +1,5 @@
 -- The trees of formulas, level by level.
-use Rattle.std.proofs.Common.{◌≡◌, ◌∙◌, ap, refl, ℕ, rules, Vec, Global, Box}
-use Rattle.roster.specs.declared.post.Role.{Role}
-use Rattle.rule_language.specs.declared.kind.Kind.{Kind}
-use Rattle.rule_language.specs.declared.term.Term.{Term}
+use Rattle.std.proofs.Common.{◌≡◌, ◌∙◌, ap, refl, rules, Vec, Global, Box}
 use Rattle.rule_language.specs.declared.formula.Formula.{Formula, True, And, Or, Not, Implies, ForSome, EveryBefore}
 use Rattle.rule_language.specs.declared.formula.Formula.{SomeBefore, Same, Before, Next, Is, OfKind, Equal, Less}
 use Rattle.rule_language.specs.declared.formula.Formula.{the_lemmas, fold_out-Formula, out-Formula, map-Formula}
@@ -10,7 +7,7 @@ use Rattle.rule_language.specs.declared.formula.Formula.TheOpen.{Formula-F}
 use Rattle.rule_language.specs.declared.form.Form.{Form}
 use Rattle.rule_language.specs.Trees.{Trees, no_trees, tree_then}
 use Rattle.rule_language.specs.inside.Parts.{parts_of}
-use Rattle.rule_language.specs.Forms.{tree_of, trees_of, in_front, all_in_front, tree_step}
+use Rattle.rule_language.specs.Forms.{tree_of, trees_of, in_front, tree_step}
 use Rattle.rule_language.specs.declared.formula.Formula.{ForEvery}
 use Rattle.rule_language.specs.Trees.{joined_trees}
 use Rattle.std.proofs.Common.{sym, List, [], ◌∷◌, ◌++◌}

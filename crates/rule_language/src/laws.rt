@@ -20,6 +20,7 @@ pub fn one_reading_is_right()
 {}
 
 /// What is written of lawful rules is a text of them, and so it is read back as the same rules.
+#[tactic(auto, using(crate::proofs::WrittenTexts::written_is_text, crate::proofs::RulesRead::text_back))]
 pub fn written_rules_are_read_back()
     ensures text { (rules : List RuleTree) → IsTrue (are_rules rules)
         → IsTextOf (rules_text rules) rules }

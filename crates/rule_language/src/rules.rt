@@ -24,6 +24,7 @@ const MAX_RULES: usize = 256;
 const MAX_LEVELS: usize = 31;
 
 /// The name that the word is.
+#[tactic(auto, using(crate::proofs::WrittenTexts::name_is_text))]
 fn name_from(alloc: Global, word: &[u8]) -> Result<String, AllocError>
     requires { is_name word.now ≡ true }
     ensures { IfOk result (λ name. string_bytes name ≡ word.now) }

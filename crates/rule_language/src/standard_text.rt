@@ -54,6 +54,7 @@ pub fn standard(alloc: Global) -> Result<Vec<Rule>, Memory>
 
 /// A law of the definitions: the standard rules are rules, and what is written of them is their
 /// text, byte for byte.
+#[tactic(auto, using(crate::proofs::StandardText::standard_written))]
 pub fn the_standard_text_is_written()
     ensures rules { IsTrue (are_rules standard_rules) }
     ensures text { rules_text standard_rules ≡ STANDARD.now }

@@ -18,6 +18,7 @@ fn is_separator(byte: u8) -> bool
 }
 
 /// Where the separators from the place on end.
+#[tactic(auto, using(crate::proofs::Rows::separators))]
 fn skip_separators(text: &[u8], from: usize) -> usize
     requires inside { from ≤ length text.now }
     requires between { CutsNoWord text.now from }
