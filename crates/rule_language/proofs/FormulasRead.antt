@@ -101,7 +101,7 @@ row_exact levels scope {formula = formula} {others = others} C exact more_exact 
         let (r, x, left) = exact.back row (tree_then form parts no_trees) (ended_by more following) is
         (rw (shallow, closes, arity, within) refl, refl) in
         let (rest, y, end) = more_exact.back r more following left (after, subst C less few) in
-        (rest, rw x (rw y refl), end)
+        (rest, rw x (rw y (refl {a = Ok (tree_then form parts more, rest)})), end)
 
 -- a form doesn't begin with what ends one, or with what names the entries before it
 first_word : (form : Form) (following : List Token) → (w : Token) × (more : List Token)

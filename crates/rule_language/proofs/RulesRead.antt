@@ -150,4 +150,4 @@ text_back text (r ∷ others) is =
       some = omega arith;
       few = few;
     }) in
-    rw x refl
+    rw x (refl {a = Ok (r ∷ others)})

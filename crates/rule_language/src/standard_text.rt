@@ -42,6 +42,7 @@ pub const STANDARD: &str = "\
 /// # Errors
 ///
 /// Out of memory.
+#[tactic(auto, using(crate::proofs::StandardText::standard_read))]
 pub fn standard(alloc: Global) -> Result<Vec<Rule>, Memory>
     ensures { IfOk result (λ rules. map rule_tree rules.items ≡ standard_rules) }
 {
