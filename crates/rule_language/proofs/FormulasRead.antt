@@ -22,8 +22,8 @@ unfoldable use Rattle.rule_language.specs.Steps.{in_turn, closed, made_into}
 use Rattle.rule_language.specs.Steps.{Read, next, give, take, after, if_next}
 use Rattle.rule_language.specs.Reader.{a_variable, range, atom, tree, quantified_tree, quantifier, Bound, several}
 unfoldable use Rattle.rule_language.specs.Reader.{quantified, after_head, inside, formula, row as in_row, parts}
-use Rattle.rule_language.proofs.Exact.{Gives, then_gives, weaker, if_cases, Took, Lands, IsExact, only_exact, both_exact}
-use Rattle.rule_language.proofs.Exact.{closed_exact, after_exact, next_is}
+use Rattle.rule_language.proofs.Exact.{Gives, then_gives, weaker, if_cases, Took, Lands, IsExact, only_exact}
+use Rattle.rule_language.proofs.Exact.{both_exact, closed_exact, after_exact, next_is}
 use Rattle.rule_language.proofs.Leaves.{variable_exact, IsNew, new_exact, kind_exact, role_exact, Fits, head_exact}
 use Rattle.rule_language.proofs.Leaves.{term_exact, start_word, MayOpen, start_exact}
 
@@ -195,8 +195,8 @@ ranged_exact levels scope within {body = body} exact = record { said = said; bac
     ends : IsExact (closed body) ended_by (IsOne levels within)
     ends = closed_exact exact
 
-    before : IsExact (after (codes "before") (a_variable scope)) (λ u following. codes "before" ∷ variable u ∷ following)
-        (λ u. is_bound scope u ≡ true)
+    before : IsExact (after (codes "before") (a_variable scope))
+        (λ u following. codes "before" ∷ variable u ∷ following) (λ u. is_bound scope u ≡ true)
     before = after_exact (codes "before") (variable_exact scope)
 
     said : (row : Row) → Gives (Took (λ p following. range_then p.0 (ended_by p.1 following))
@@ -382,10 +382,12 @@ module _ (levels : ℕ) (reads : ReadsOne levels (formula levels)) (scope : Scop
       let w = way levels (formula levels) reads scope h few in
       let stands : words row ≡ left ∷ head_word h ∷ w.spell a following = is
       ∙ ap (λ t. tokens_then t following) (sym same) ∙ w.spells a following in
-      let (q, x, begun) = (start_exact (suc levels)).back row true _ stands (ne_eqb (suc levels) 0 (λ e. omega arith)) in
+      let some : (suc levels == 0) ≡ false = ne_eqb (suc levels) 0 (λ e. omega arith) in
+      let (q, x, begun) = (start_exact (suc levels)).back row true _ stands some in
       let (r, y, goes) = (head_exact scope).back q h _ begun few in
       let (rest, z, end) = w.exact.back r a following goes lawful in
-      (rest, rw x (rw y (rw (goes_way levels (formula levels) reads scope h few r) (rw z (ap (λ t. Ok (t, rest)) same)))), end)
+      let way_is = goes_way levels (formula levels) reads scope h few r in
+      (rest, rw x (rw y (rw way_is (rw z (ap (λ t. Ok (t, rest)) same)))), end)
 
   -- one without parts
   atom_back : (h : Head) (few : Fits scope h) (a : (way levels (formula levels) reads scope h few).Thing) →
@@ -493,8 +495,8 @@ formula_exact (suc levels) scope = record {
   back = stands (suc levels) scope (λ form parts shallow. form_back levels (formula_exact levels) scope form parts);
 }
   where
-    goes : (row : Row) → ReadsOne levels (formula levels) → (opened : Bool) (r : Row) → Took (λ opened following. start_word opened ∷ following)
-        (MayOpen (suc levels)) row opened r → Gives (Took tokens_then (IsOne (suc levels) scope) row)
+    goes : (row : Row) → ReadsOne levels (formula levels) → (opened : Bool) (r : Row) →
+        Took (λ opened following. start_word opened ∷ following) (MayOpen (suc levels)) row opened r → Gives (Took tokens_then (IsOne (suc levels) scope) row)
         ((if opened then inside (formula levels) scope else give (atom form.True)) r)
     goes row reads false r (x, _, whole) = (x, (refl, refl), whole)
     goes row reads true r (x, _, whole) =

@@ -58,7 +58,8 @@ variable_exact scope = take_exact (λ word. bound_in scope (letter_in word)) var
     (λ w. letter_cases w (λ o. Fine (λ v. (w ≡ variable v) × (is_bound scope v ≡ true)) (bound_in scope o)) tt
     (λ v spelt letter. if_cases (Fine (λ v. (w ≡ variable v) × (is_bound scope v ≡ true)))
     (is_some (kind_in scope v)) (Ok v) (Err Unbound) (λ some. (spelt, rw letter some)) (λ other. tt)))
-    (λ v bound. let (letter, some) = and_parts (is_letter v) (is_some (kind_in scope v)) bound in rw (letter, some) refl)
+    (λ v bound. let (letter, some) = and_parts (is_letter v) (is_some (kind_in scope v)) bound in
+    rw (letter, some) refl)
 
 -- the variable is new
 abbrev pub IsNew : Scope → ℕ → Type 0

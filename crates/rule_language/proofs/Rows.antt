@@ -1,9 +1,8 @@
 -- The row of a text, from one place to the next.
 use Rattle.std.proofs.Common.{◌≡◌, ◌∙◌, ◌⊎◌, inl, inr, sym, ap, subst, refl, arith, ℕ, zero, suc, ◌+◌, ◌-◌, ◌<◌, ◌≤◌}
 use Rattle.std.proofs.Common.{true, false, List, [], ◌∷◌, length, get_or, take, drop}
-use Rattle.std.proofs.Math.ListN.{drop_of_length-le}
 use Rattle.std.proofs.lemmas.List.{get_or-drop, drop_more, drop-drop, length-drop}
-use Rattle.std.proofs.lemmas.Bool.{ne_eqb, eq-eqb, lt-ltb, le-ltb}
+use Rattle.std.proofs.lemmas.Bool.{ne_eqb, lt-ltb, le-ltb}
 use Rattle.std.proofs.lemmas.Bool.{cases_lt}
 use Rattle.std.proofs.lemmas.Bool.Decides.{nat_tests}
 use Rattle.hall_text.specs.Spans.{IsWordByte, IsParenthesis, IsToken, piece}
@@ -11,7 +10,7 @@ use Rattle.hall_text.specs.Places.{CutsNoWord, BeginsToken}
 use Rattle.hall_text.proofs.TokenLemmas.{some_bytes, between_after, between_none}
 unfoldable use Rattle.rule_language.specs.inside.Unread.{unread}
 use Rattle.rule_language.specs.inside.Unread.{IsNext}
-use Rattle.rule_language.specs.Tokens.{token_then, bad_byte, text_end, row_from, goes_on, is_separator}
+use Rattle.rule_language.specs.Tokens.{token_then, bad_byte, row_from, goes_on, is_separator}
 use Rattle.hall_text.specs.Tokens.{is_parenthesis, is_word_byte}
 
 -- a byte of a word passes the test, and no other test
@@ -34,10 +33,6 @@ separator_begins b separates = grind (arith, nat_tests)
 
 -- what is known of a separator
 pub ruleset separators = (separator_more, separator_begins, between_none)
-
--- after the last byte the text ends
-pub end_row : (text : List ℕ) (at : ℕ) → length text ≤ at → row_from at (drop at text) ≡ text_end at
-end_row text at past = rw (drop_of_length-le text past) refl
 
 -- whether a word goes on at a place
 goes : (bytes : List ℕ) → 0 < length bytes → IsWordByte (get_or bytes 0 0) → goes_on bytes ≡ true
@@ -124,13 +119,3 @@ next_token text at end within separates between token none = elim (cases_lt at e
             refl;
       }
 ]
-
--- the text's end
-pub next_end : (text : List ℕ) (at : ℕ) → at ≡ length text → IsNext text (record { start = at; end = at })
-unfolding unread
-next_end text at is = record {
-  order = omega arith;
-  inside = omega arith;
-  between = λ positive within. absurd (omega arith);
-  row = end_row text at (omega arith) ∙ rw (le-ltb at at (omega arith), eq-eqb at (length text) is) refl;
-}

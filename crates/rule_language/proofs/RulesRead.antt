@@ -52,7 +52,8 @@ one_and most names row =
 
 -- what is known of rules that were read
 abbrev Reading : ℕ → Type 0
-Reading most = (names : List Token) (row : Row) → Gives (λ rs rest. AreAll names 0 most row rs) (more_rules most names row)
+Reading most = (names : List Token) (row : Row) →
+    Gives (λ rs rest. AreAll names 0 most row rs) (more_rules most names row)
 
 -- a rule, and the others
 one_said : (most : ℕ) → Reading most → (names : List Token) (row : Row) →

@@ -77,7 +77,8 @@ parts_at front (suc n) formula row b is =
 
     by : (b : Bool) → follow (if b then closed (give no_trees) row else in_row formula (parts n formula) row)
         (λ more rest. Ok (joined_trees front more, rest))
-        ≡ (if b then follow (take (only right) row) (λ it rest. Ok (front, rest)) else follow (formula row) (λ one rest. parts_after (joined_trees front one) n formula rest))
+        ≡ (if b then follow (take (only right) row) (λ it rest. Ok (front, rest))
+        else follow (formula row) (λ one rest. parts_after (joined_trees front one) n formula rest))
     by true = parts_end front (take (only right) row)
     by false = goes (formula row)
 
@@ -137,5 +138,6 @@ unfolding rules_after rules rules_of text_row
 rules_first text row is = rw is refl
 
 -- the names with one rule more
-pub names_more : (read : List Rule) (r : Rule) → rule_names (read ++ r ∷ []) ≡ rule_names read ++ string_bytes r.name ∷ []
+pub names_more : (read : List Rule) (r : Rule) →
+    rule_names (read ++ r ∷ []) ≡ rule_names read ++ string_bytes r.name ∷ []
 names_more read r = map-append (λ (r : Rule). string_bytes r.name) read (r ∷ [])

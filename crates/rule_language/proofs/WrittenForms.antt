@@ -1,15 +1,12 @@
 -- What is written of a formula.
-use Rattle.std.proofs.Common.{◌≡◌, ◌≢◌, ◌∙◌, ℕ, List, ◌∷◌, ◌++◌, refl, ap, sym, append-nil}
-use Rattle.rule_language.specs.declared.formula.Formula.{Formula}
+use Rattle.std.proofs.Common.{◌≡◌, ◌≢◌, ◌∙◌, ℕ, List, ◌∷◌, ◌++◌, refl, ap, append-nil}
 use Rattle.rule_language.specs.declared.form.Form.{Form}
 use Rattle.rule_language.specs.Trees.{Trees, no_trees, tree_then}
-use Rattle.rule_language.specs.Forms.{in_front, tree_of}
 use Rattle.rule_language.specs.Spelling.{form_words}
 use Rattle.rule_language.specs.Written.{with_spaces, form_text, row_text}
 use Rattle.rule_language.specs.inside.Parts.{parts_of}
 use Rattle.std.proofs.Common.{[]}
 use Rattle.rule_language.specs.declared.form.Form.TheVariants as form
-use Rattle.rule_language.proofs.Views.{shape}
 
 -- all forms but `true` are in parentheses
 pub enclosed_text : (f : Form) (inside : List ℕ) → f ≢ form.True
@@ -21,12 +18,5 @@ enclosed_text f inside other = refl
 pub row_of_form : (tree : Trees) (f : Form) → tree ≡ tree_then f (parts_of tree) no_trees → f ≢ form.True →
     row_text tree ≡ 32 ∷ 40 ∷ (with_spaces (form_words f) ++ (row_text (parts_of tree) ++ 41 ∷ []))
 row_of_form tree f is other = ap row_text is
-    ∙ ap (λ xs. 32 ∷ xs) (append-nil (form_text f (row_text (parts_of tree))) ∙ enclosed_text f (row_text (parts_of tree)) other)
-
--- a row is written formula by formula
-pub row_front : (p : Formula) (rest : Trees) → row_text (in_front p rest) ≡ row_text (tree_of p) ++ row_text rest
-row_front p rest =
-    let (outer, parts, view) = shape p in
-    ap row_text (view rest)
-    ∙ ap (λ xs. 32 ∷ (xs ++ row_text rest)) (sym (append-nil (form_text outer (row_text parts))))
-    ∙ sym (ap (λ t. row_text t ++ row_text rest) (view no_trees))
+    ∙ ap (λ xs. 32 ∷ xs) (append-nil (form_text f (row_text (parts_of tree)))
+    ∙ enclosed_text f (row_text (parts_of tree)) other)

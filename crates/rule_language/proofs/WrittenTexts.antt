@@ -23,8 +23,8 @@ use Rattle.rule_language.specs.declared.form.Form.TheVariants as form
 use Rattle.rule_language.specs.Kinds.{kind_word, field_word}
 use Rattle.rule_language.specs.Scopes.{Scope, kind_in, is_letter}
 use Rattle.rule_language.specs.Trees.{Trees, no_trees, tree_then, RuleTree}
-use Rattle.rule_language.specs.Lawful.{is_bound, can_bind, sort_of, field_sort, are_of_one_sort, has_order, is_closed, are_formulas}
-use Rattle.rule_language.specs.Lawful.{scope_in, inner, is_alphanumeric, are_alphanumeric, is_name, is_rule}
+use Rattle.rule_language.specs.Lawful.{is_bound, can_bind, sort_of, field_sort, are_of_one_sort, has_order, is_closed}
+use Rattle.rule_language.specs.Lawful.{are_formulas, scope_in, inner, is_alphanumeric, are_alphanumeric, is_name, is_rule}
 use Rattle.rule_language.specs.Lawful.{follow, are_rules}
 use Rattle.rule_language.specs.Spelling.{variable, term_word, form_words, spelt, form_end, tokens_then, rule_then}
 use Rattle.rule_language.specs.Spelling.{rules_tokens, IsTextOf}
@@ -263,7 +263,8 @@ rule_spells names r bytes ts good all =
     let tokens : List Token = tokens_then r.body (right ∷ ts) in
     let body = row_spells r.body 31 [] (41 ∷ 10 ∷ bytes) (right ∷ ts) lawful refl (spells_right (10 ∷ bytes) ts (λ at.
     all (at + 1))) in
-    let name = spells_word r.name line tokens (name_spelt r.name named) (row_stops r.body (41 ∷ 10 ∷ bytes) refl) body in
+    let name = spells_word r.name line tokens (name_spelt r.name named) (row_stops r.body (41 ∷ 10 ∷ bytes) refl)
+    body in
     let all : Spells (codes "(rule " ++ (r.name ++ line)) (rule_then r ts) = spells_left (codes "rule " ++ (r.name
     ++ line)) (codes "rule" ∷ r.name ∷ tokens) (spells_word (codes "rule") (32 ∷ (r.name ++ line)) (r.name ∷ tokens)
     refl refl (λ at. name (at + 1))) in

@@ -11,13 +11,15 @@ use Rattle.rule_language.proofs.formulas.+formulas.Goals as goal
 pub read_parts-returns-in_err-part-2-clause-value : goal.read_parts-returns-in_err-part-2-clause-value
 read_parts-returns-in_err-part-2-clause-value t c =
     let at = parts_at (trees_of c.parts.parts.items) (64 - vec_len c.parts.parts)
-    (formula c.args.levels (bindings c.args.scope.now)) (unread c.args.text.now c.parts.token) false (grind (arith, nat_tests)) in
+    (formula c.args.levels (bindings c.args.scope.now)) (unread c.args.text.now c.parts.token) false
+    (grind (arith, nat_tests)) in
     grind (arith, common_steps)
 
 pub read_parts-parts-preserved : goal.read_parts-parts-preserved
 read_parts-parts-preserved t c =
     let at = parts_at (trees_of c.parts.parts.items) (64 - vec_len c.parts.parts)
-    (formula c.args.levels (bindings c.args.scope.now)) (unread c.args.text.now c.parts.token) false (grind (arith, nat_tests)) in
+    (formula c.args.levels (bindings c.args.scope.now)) (unread c.args.text.now c.parts.token) false
+    (grind (arith, nat_tests)) in
     let less : 64 - vec_len c.push-in-parts.new.self ≡ 64 - vec_len c.parts.parts - 1 =
     omega (arith, c.len.ensures, c.in_ok-push-2.ensures.len) in
     record {
@@ -29,11 +31,13 @@ read_parts-parts-preserved t c =
 pub read_parts-returns-in_err-read_only-clause-value : goal.read_parts-returns-in_err-read_only-clause-value
 read_parts-returns-in_err-read_only-clause-value t c =
     let at = parts_at (trees_of c.parts.parts.items) (64 - vec_len c.parts.parts)
-    (formula c.args.levels (bindings c.args.scope.now)) (unread c.args.text.now c.parts.token) true (grind (arith, nat_tests)) in
+    (formula c.args.levels (bindings c.args.scope.now)) (unread c.args.text.now c.parts.token) true
+    (grind (arith, nat_tests)) in
     grind (arith, common_steps)
 
 pub read_parts-returns-clause-value : goal.read_parts-returns-clause-value
 read_parts-returns-clause-value t c =
     let at = parts_at (trees_of c.parts.parts.items) (64 - vec_len c.parts.parts)
-    (formula c.args.levels (bindings c.args.scope.now)) (unread c.args.text.now c.parts.token) true (grind (arith, nat_tests)) in
+    (formula c.args.levels (bindings c.args.scope.now)) (unread c.args.text.now c.parts.token) true
+    (grind (arith, nat_tests)) in
     grind (arith, common_steps)

@@ -32,7 +32,13 @@ rules-preserved c =
     let less : 256 - vec_len c.push-in-rules.new.self ≡ 256 - vec_len c.rules.rules - 1 =
     omega (arith, c.len.ensures, c.in_ok-push-2.ensures.len) in
     record {
-      all = rw (less, c.in_ok-push-2.ensures.items, map-append rule_tree c.rules.rules.items (c.in_ok-rule-2.rule ∷ []), names_more c.rules.rules.items c.in_ok-rule-2.rule) (grind (arith, common_steps));
+      all = rw (
+        less,
+        c.in_ok-push-2.ensures.items,
+        map-append rule_tree c.rules.rules.items (c.in_ok-rule-2.rule
+            ∷ []),
+        names_more c.rules.rules.items c.in_ok-rule-2.rule,
+      ) (grind (arith, common_steps));
       next = search rules;
       few = omega (arith, c.len.ensures, c.in_ok-push-2.ensures.len);
     }
