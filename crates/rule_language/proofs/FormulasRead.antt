@@ -468,17 +468,21 @@ stands levels scope each row (tree_then f parts no_trees) following is (lawful, 
     let (shallow, closes, arity, within, _) = may_stand levels scope f parts no_trees lawful in
     each f parts shallow closes arity within row following is
 
+-- a formula begins so
+abbrev Begins : ℕ → Row → Bool → Row → Type 0
+Begins levels = Took (λ opened following. start_word opened ∷ following) (MayOpen levels)
+
 -- a formula is read exactly
 pub formula_exact : (levels : ℕ) → ReadsOne levels (formula levels)
 unfolding formula inside made_into
 formula_exact zero scope = record {
-  said = λ row. then_gives (Took (λ opened following. start_word opened ∷ following) (MayOpen zero) row)
-      (Took tokens_then (IsOne zero scope) row) (take (opening zero) row) _ ((start_exact zero).said row) (shut row);
+  said = λ row. then_gives (Begins zero row) (Took tokens_then (IsOne zero scope) row) (take (opening zero) row) _
+      ((start_exact zero).said row) (shut row);
   back = stands zero scope flat;
 }
   where
-    shut : (row : Row) (opened : Bool) (r : Row) → Took (λ opened following. start_word opened ∷ following)
-        (MayOpen zero) row opened r → Took tokens_then (IsOne zero scope) row (atom form.True) r
+    shut : (row : Row) (opened : Bool) (r : Row) → Begins zero row opened r →
+        Took tokens_then (IsOne zero scope) row (atom form.True) r
     shut row true r (x, may, whole) = cc may
     shut row false r (x, may, whole) = (x, (refl, refl), whole)
 
@@ -489,14 +493,14 @@ formula_exact zero scope = record {
         rw (← no_parts parts arity) (true_back zero scope row following)
     flat form parts shallow closes arity within = cc shallow
 formula_exact (suc levels) scope = record {
-  said = λ row. then_gives (Took (λ opened following. start_word opened ∷ following) (MayOpen (suc levels)) row)
+  said = λ row. then_gives (Begins (suc levels) row)
       (Took tokens_then (IsOne (suc levels) scope) row) (take (opening (suc levels)) row) _
       ((start_exact (suc levels)).said row) (goes row (formula_exact levels));
   back = stands (suc levels) scope (λ form parts shallow. form_back levels (formula_exact levels) scope form parts);
 }
   where
     goes : (row : Row) → ReadsOne levels (formula levels) → (opened : Bool) (r : Row) →
-        Took (λ opened following. start_word opened ∷ following) (MayOpen (suc levels)) row opened r → Gives (Took tokens_then (IsOne (suc levels) scope) row)
+        Begins (suc levels) row opened r → Gives (Took tokens_then (IsOne (suc levels) scope) row)
         ((if opened then inside (formula levels) scope else give (atom form.True)) r)
     goes row reads false r (x, _, whole) = (x, (refl, refl), whole)
     goes row reads true r (x, _, whole) =

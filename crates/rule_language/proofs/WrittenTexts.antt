@@ -24,8 +24,8 @@ use Rattle.rule_language.specs.Kinds.{kind_word, field_word}
 use Rattle.rule_language.specs.Scopes.{Scope, kind_in, is_letter}
 use Rattle.rule_language.specs.Trees.{Trees, no_trees, tree_then, RuleTree}
 use Rattle.rule_language.specs.Lawful.{is_bound, can_bind, sort_of, field_sort, are_of_one_sort, has_order, is_closed}
-use Rattle.rule_language.specs.Lawful.{are_formulas, scope_in, inner, is_alphanumeric, are_alphanumeric, is_name, is_rule}
-use Rattle.rule_language.specs.Lawful.{follow, are_rules}
+use Rattle.rule_language.specs.Lawful.{are_formulas, scope_in, inner, is_alphanumeric, are_alphanumeric, is_name}
+use Rattle.rule_language.specs.Lawful.{is_rule, follow, are_rules}
 use Rattle.rule_language.specs.Spelling.{variable, term_word, form_words, spelt, form_end, tokens_then, rule_then}
 use Rattle.rule_language.specs.Spelling.{rules_tokens, IsTextOf}
 use Rattle.rule_language.specs.Tokens.{Token, Row, token_then, bad_byte, text_end, left, right, words, has_good_bytes}
