@@ -47,7 +47,7 @@ impl<'a> Model for Judge<'a> {
 }
 
 impl<'a> Judge<'a> {
-    /// Makes these rows ready. It takes memory for three indexes of the rows.
+    /// Makes these rows ready: counts them, and takes memory for three indexes of them.
     pub fn over(alloc: Global, rows: &'a [Row], order: &'a Rows) -> Result<Judge<'a>, AllocError>
         requires { length rows.now ≡ known_count order.now }
         ensures { IfOk result (λ judge. judge ≡ record { rows = rows.now; known = order.now }) }
