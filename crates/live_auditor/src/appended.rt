@@ -6,6 +6,7 @@ ghost use Rattle.std.specs.Str.{bytes_eq};
 ghost use Rattle.survivor_rows.specs.Rows.{row_of};
 ghost use Rattle.live_auditor.specs.inside.Found.{FindsNames, IsApartBy, IsAppendedBy};
 
+use crate::digests::same_digest;
 use crate::survivors::Survivors;
 use entry_format::Sealed;
 use entry_order::Knot;
@@ -28,7 +29,7 @@ fn is_latest(added: &[Sealed], entry: &Sealed) -> bool
 fn is_among(digests: &[[u8; 32]], digest: &[u8; 32]) -> bool
     ensures { result ≡ list_any (λ d. bytes_eq d digest.now) digests.now }
 {
-    digests.iter().any(|d| d == digest)
+    digests.iter().any(|d| same_digest(d, digest))
 }
 
 /// Whether one of the rows has this maker and number.
@@ -45,7 +46,7 @@ fn place_of(digests: &[[u8; 32]], digest: &[u8; 32]) -> Option<usize>
     ensures none { IfNone result (Contains digests.now digest.now → ⊥) }
 {
     for place in (0..digests.len()).rev() {
-        if digests[place] == *digest {
+        if same_digest(&digests[place], digest) {
             return Some(place);
         }
     }

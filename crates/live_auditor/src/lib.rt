@@ -5,6 +5,7 @@
 mod appended;
 mod base;
 mod borrowed;
+mod digests;
 mod fresh;
 mod growth;
 mod late;
@@ -15,6 +16,7 @@ mod summary;
 mod survivors;
 mod widths;
 
+pub use digests::same_digest;
 pub use fresh::{Fresh, LiveFault};
 pub use laws::orders_give_one_summary;
 pub use live::{Live, Memory};

@@ -1,6 +1,7 @@
 //! Whether an entry was seen before.
 ghost use Rattle.live_auditor.specs.inside.Seen.{IsSeen};
 
+use crate::digests::same_digest;
 use entry_format::Sealed;
 
 /// How an entry relates to those that were added.
@@ -19,7 +20,7 @@ pub(crate) fn seen_among(entries: &[Sealed], entry: &Sealed) -> Seen
     ensures { IsSeen entries.now entry.now result }
 {
     for other in entries {
-        if other.digest() == entry.digest() {
+        if same_digest(other.digest(), entry.digest()) {
             return if other.text() == entry.text() {
                 Seen::Known
             } else {

@@ -51,7 +51,7 @@ use evidence::{
     AuditFault, RosterRead, entries_give_one_graph, graph_of, read_logs_by, read_roster,
 };
 use hall_outside::Store;
-use live_auditor::{Live, LiveFault};
+use live_auditor::{Live, LiveFault, same_digest};
 use log_files::{EntryWork, Kept, LogRead};
 use roster::Roster;
 use rule_engine::Verdict;
@@ -169,7 +169,9 @@ const MOST_WATCHED: usize = 1_024;
 fn some_has(entries: &[&Sealed], digest: &[u8; 32]) -> bool
     ensures { result ≡ list_any (λ e. bytes_eq e.now.digest digest.now) entries.now }
 {
-    entries.iter().any(|entry| entry.digest() == digest)
+    entries
+        .iter()
+        .any(|entry| same_digest(entry.digest(), digest))
 }
 
 /// Whether at most 1,024 of the entries are different.

@@ -1,12 +1,12 @@
 -- The value of a rule where rows come after those that it was judged by.
-use Rattle.rule_engine.proofs.Imports.{fun_ext, ◌≡◌, ◌∙◌, ap, refl, sym, subst, ℕ, ◌+◌, ◌-◌, ◌<◌, ◌≤◌, Bool, true}
+use Rattle.rule_engine.proofs.Imports.{fun_ext, ◌≡◌, ◌∙◌, ap, refl, sym, subst, ℕ, ◌-◌, ◌<◌, ◌≤◌, Bool, true}
 use Rattle.rule_engine.proofs.Imports.{false, cond, Option, Some, None, List, [], ◌∷◌, ◌++◌, map, length, arith, inl}
 use Rattle.rule_engine.proofs.Imports.{inr, take, drop, Box, Global, length-append, map-append, take-append-drop}
 use Rattle.rule_engine.proofs.Imports.{length-take-le, length-drop, take_all, slice_get, ◌==◌, Ok, Contains, filter}
 use Rattle.rule_engine.proofs.Imports.{list_any, range_with_len, and-true, cases_lt, eq-eqb, eqb-true, true≢false}
 use Rattle.rule_engine.proofs.Imports.{filter-append, Three, False, Unknown, True, Contains-head, Contains-later}
 use Rattle.rule_engine.proofs.Imports.{Contains-cons_cases, Contains-none, Contains-filter, Contains-filter_cases}
-use Rattle.rule_engine.proofs.Imports.{list_any_of, length-range_with_len, get_or-range_with_len, Row, Formula}
+use Rattle.rule_engine.proofs.Imports.{list_any_of, Row, Formula}
 use Rattle.rule_engine.proofs.Imports.{ForEvery, Trees, tree_of, both, is_true, least, has_kind, bind, unbound}
 use Rattle.rule_engine.proofs.Imports.{first_value, three, over_from, over_rows, value_of, both_assoc, value-ForEvery}
 use Rattle.rule_engine.proofs.Imports.{ComesBeforeNone, IsJudgeAnswer, Verdict, Kept, Broken, Unsettled, value_said}

@@ -20,7 +20,8 @@ pub use Rattle.rule_engine.specs.declared.verdict.JudgeFault.TheVariants.{Memory
 pub use Rattle.rule_engine.specs.declared.verdict.Verdict.{Verdict}
 pub use Rattle.rule_engine.specs.declared.verdict.Verdict.TheVariants.{Broken, Kept, Unsettled}
 pub use Rattle.rule_engine.specs.inside.Growth.{value_said}
-pub use Rattle.rule_engine.specs.inside.Index.{ArePlacesOf, AreStarts, IsIndexBy, IsStart, breadth, entry_group}
+pub use Rattle.rule_engine.specs.inside.Index.{AreKindsOf, ArePlacesOf, ArePlacesOfKind, IsEachEmpty, IsIndexBy, IsStart, breadth}
+pub use Rattle.rule_engine.specs.inside.Index.{entry_group}
 pub use Rattle.rule_engine.specs.inside.Index.{found_at, group_in, least_of, number_in, rank}
 pub use Rattle.rule_engine.specs.inside.Reach.{is_of, kind_of_all, reaches_row}
 pub use Rattle.rule_meaning.specs.Visited.{IsVisitedFor}
@@ -59,6 +60,10 @@ pub use Rattle.std.proofs.lemmas.List.FromFn.{get_or-range_with_len, length-rang
 pub use Rattle.std.proofs.lemmas.List.Sorted.{Contains-permutation, IsNonDecreasingBy-from_sort_by_key}
 pub use Rattle.std.proofs.lemmas.List.Sorted.{IsPartitionPoint-from_clause, IsPartitionedBy-ltb, IsPermutation-sym}
 pub use Rattle.std.proofs.lemmas.Option.{get_or_from_slice_get, slice_get-get_or, slice_get_within}
+pub use Rattle.std.proofs.Common.{get_or-set_other, set}
+pub use Rattle.std.proofs.lemmas.List.{get_or-map, length-map, map-set}
+pub use Rattle.std.proofs.Math.ListN.{length-set}
+pub use Rattle.std.proofs.lemmas.Grind.{get_or-set_at}
 pub use Rattle.std.proofs.lemmas.Slice.Zip.{all_zipped_more}
 pub use Rattle.std.specs.List.{Contains, filter, list_any, range_with_len}
 pub use Rattle.std.specs.List.Sorted.{IsPermutation}

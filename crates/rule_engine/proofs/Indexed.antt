@@ -4,17 +4,18 @@ use Rattle.rule_engine.proofs.Imports.{◌++◌, ◌∷◌, [], false, not, cond
 use Rattle.rule_engine.proofs.Imports.{drop, arith, inl, inr, slice_get, ◌==◌, Contains, slice_get_within}
 use Rattle.rule_engine.proofs.Imports.{slice_get-get_or, IsPermutation, IsPermutation-sym, Contains-permutation}
 use Rattle.rule_engine.proofs.Imports.{Contains-push, Contains-push_cases, Contains-append_left, cases_eq, cases_lt}
-use Rattle.rule_engine.proofs.Imports.{false≢true, get_or_default, get_or-drop, get_or-take, length-drop, length-take-le}
+use Rattle.rule_engine.proofs.Imports.{false≢true, get_or-drop, get_or-take, length-drop, length-take-le}
 use Rattle.rule_engine.proofs.Imports.{Three, True, Row, Formula, Key, Found, Index, Kinds, Quantifier, as_three, is_kind}
 use Rattle.rule_engine.proofs.Imports.{has_kind, bind, value_of, IsVisitedFor, rank, least_of, breadth, number_in}
-use Rattle.rule_engine.proofs.Imports.{group_in, found_at, IsStart, AreStarts, ArePlacesOf, IsIndexBy}
+use Rattle.rule_engine.proofs.Imports.{group_in, found_at, IsStart, ArePlacesOf, ArePlacesOfKind}
+use Rattle.rule_engine.proofs.Imports.{AreKindsOf, IsEachEmpty, IsIndexBy}
+use Rattle.rule_engine.proofs.Imports.{Vec, Global, set, length-set, get_or-set_at, get_or-set_other}
 use Rattle.entry_order.proofs.Lists.{Contains-map, Contains-map_cases}
 use Rattle.std.proofs.lemmas.List.{get_or-map, length-map, take-map, drop-map}
 use Rattle.std.specs.List.Sorted.{IsNonDecreasing, IsNonDecreasingBy}
 use Rattle.rule_meaning.proofs.Visits.{at, settled_at, other_at}
 use Rattle.rule_language.specs.declared.kind.Kind.{Kind}
 use Rattle.rule_language.specs.declared.kind.Kind.TheVariants as kinds
-use Rattle.rule_engine.specs.declared.index.Key.TheVariants as by_kind
 
 -- a rank is below 11
 rank_below : (k : Kind) → rank k < 11
@@ -135,22 +136,6 @@ starts_rise numbers l h low high rise first second = elim (cases_lt high low) [
       ))
   | inr more ↦ omega (arith, more)
 ]
-
--- where the rows of a kind start, and where they end
-pub kind_starts : (held : Kinds) (k : Kind) (r low high : ℕ) → AreStarts held → r ≡ rank k →
-    low ≡ get_or held.starts.items r low → high ≡ get_or held.starts.items (r + 1) high →
-    IsStart held.index.numbers.items (rank k) low × IsStart held.index.numbers.items (rank k + 1) high
-kind_starts held k r low high starts is low_is high_is =
-    let below : r + 1 < 12 = omega (arith, is, rank_below k) in
-    let first : get_or held.starts.items r 0 ≡ low =
-    get_or_default held.starts.items r 0 low (omega (arith, below, starts.many)) ∙ sym low_is in
-    let second : get_or held.starts.items (r + 1) 0 ≡ high =
-    get_or_default held.starts.items (r + 1) 0 high (omega (arith, below, starts.many)) ∙ sym high_is in (
-      subst (λ (n : ℕ). IsStart held.index.numbers.items n low) is
-          (subst (λ (n : ℕ). IsStart held.index.numbers.items r n) first (starts.each r (omega (arith, below)))),
-      subst (λ (n : ℕ). IsStart held.index.numbers.items (n + 1) high) is
-          (subst (λ (n : ℕ). IsStart held.index.numbers.items (r + 1) n) second (starts.each (r + 1) below)),
-    )
 
 -- what is between two starts are the rows with the numbers between
 pub between_starts : (rows : List Row) (by : Key) (index : Index) (l h low high : ℕ) → IsIndexBy rows by index →
@@ -377,16 +362,108 @@ module _ (rows : List Row) (order : ℕ → ℕ → Three) (wholes : ℕ → Boo
         ];
   }
 
+-- the places of those of the first rows that have a rank
+pub record ArePlacesSoFar (rows : List Row) (n rank_is : ℕ) (places : List ℕ) : Type 0 where
+  pub each : (j : ℕ) (row : Row) → j < n → slice_get rows j ≡ Some row → rank row.kind ≡ rank_is → Contains places j
+  pub only : (j : ℕ) → Contains places j → (row : Row) × (slice_get rows j ≡ Some row) × (rank row.kind ≡ rank_is)
+
+-- for each rank they are listed
+pub record AreListedByKind (rows : List Row) (n : ℕ) (lists : List (List ℕ)) : Type 0 where
+  pub many : length lists ≡ 11
+  pub each : (m : ℕ) → ArePlacesSoFar rows n m (get_or lists m [])
+
+-- none is listed at first
+pub by_kind_none : (rows : List Row) (lists : List (List ℕ)) → IsEachEmpty 11 lists → AreListedByKind rows 0 lists
+by_kind_none rows lists empty = record {
+  many = empty.many;
+  each = λ m. subst (ArePlacesSoFar rows 0 m) (sym (empty.none m)) (record {
+    each = λ j row below at is. absurd (omega (arith, below));
+    only = λ j (k, within, is). absurd (omega (arith, within));
+  });
+}
+
+-- one row more
+pub by_kind_more : (rows : List Row) (n r : ℕ) (lists more : List (List ℕ)) (d : Row) → n < length rows →
+    r ≡ rank (get_or rows n d).kind → more ≡ set lists r (get_or lists r [] ++ n ∷ []) →
+    AreListedByKind rows n lists → AreListedByKind rows (n + 1) more
+by_kind_more rows n r lists more d within ranked is listed = subst (AreListedByKind rows (n + 1)) (sym is) (record {
+  many = length-set lists r _ ∙ listed.many;
+  each = λ m. elim (cases_eq m r) [
+    | inl same ↦ subst (ArePlacesSoFar rows (n + 1) m)
+        (sym (get_or-set_at lists r m (get_or lists r [] ++ n ∷ []) [] same
+        (omega (arith, listed.many, ranked, rank_below (get_or rows n d).kind)))) (own m same)
+    | inr apart ↦ subst (ArePlacesSoFar rows (n + 1) m)
+        (sym (get_or-set_other lists r m (get_or lists r [] ++ n ∷ []) [] apart)) (other m apart)
+  ];
+})
+  where
+    -- the row is at its place
+    here : slice_get rows n ≡ Some (get_or rows n d)
+    here = slice_get-get_or rows n d within
+
+    -- so what is there has its rank
+    rank_there : (j : ℕ) (row : Row) → j ≡ n → slice_get rows j ≡ Some row → rank row.kind ≡ r
+    rank_there j row last at =
+        let same : row ≡ get_or rows n d = (let a = ap (slice_get rows) last in let h = here in cc) in
+        ap (λ (q : Row). rank q.kind) same ∙ sym ranked
+
+    -- those of its own kind
+    own : (m : ℕ) → m ≡ r → ArePlacesSoFar rows (n + 1) m (get_or lists r [] ++ n ∷ [])
+    own m same =
+        let before = subst (λ (k : ℕ). ArePlacesSoFar rows n m (get_or lists k [])) same (listed.each m) in
+        record {
+          each = λ j row below at kind. elim (cases_eq j n) [
+            | inl last ↦ subst (Contains (get_or lists r [] ++ n ∷ [])) (sym last)
+                (Contains-push (get_or lists r []) n)
+            | inr earlier ↦ Contains-append_left (get_or lists r []) (n ∷ []) j
+                (before.each j row (omega (arith, below, earlier)) at kind)
+          ];
+          only = λ j there. elim (Contains-push_cases (get_or lists r []) n j there) [
+            | inl old ↦ before.only j old
+            | inr new ↦ subst (λ (k : ℕ). (row : Row) × (slice_get rows k ≡ Some row) × (rank row.kind ≡ m)) new
+                (get_or rows n d, here, sym ranked ∙ sym same)
+          ];
+        }
+
+    -- those of other kinds are as before
+    other : (m : ℕ) → m ≢ r → ArePlacesSoFar rows (n + 1) m (get_or lists m [])
+    other m apart = record {
+      each = λ j row below at kind. elim (cases_eq j n) [
+        | inl last ↦ absurd (apart (sym kind ∙ rank_there j row last at))
+        | inr earlier ↦ (listed.each m).each j row (omega (arith, below, earlier)) at kind
+      ];
+      only = (listed.each m).only;
+    }
+
+-- all rows are listed
+pub by_kind_all : (rows : List Row) (n : ℕ) (kinds : Kinds) → length rows ≤ n →
+    AreListedByKind rows n (map (λ (v : Vec ℕ Global). v.items) kinds.places.items) → AreKindsOf rows kinds
+by_kind_all rows n kinds all listed = record {
+  many = sym (length-map kinds.places.items (λ (v : Vec ℕ Global). v.items)) ∙ listed.many;
+  each = λ k. record {
+    each = λ j row at is. (listed.each (rank k)).each j row
+        (omega (arith, all, slice_get_within rows j row at)) at (ap rank is);
+    only = λ j there.
+        let (row, at, is) = (listed.each (rank k)).only j there in
+        (row, at, sym (kind_back row.kind) ∙ ap kind_at is ∙ kind_back k);
+  };
+}
+
 -- rows of the quantifier's kind are those to go over, if it isn't any
 pub visited_by_kind : (rows : List Row) (order : ℕ → ℕ → Three) (wholes : ℕ → Bool) (q : Quantifier) (body : Formula)
-    (env : ℕ → Option ℕ) (places : List ℕ) → q.kind ≢ kinds.Any →
-    ArePlacesOf rows by_kind.Kind (rank q.kind) (rank q.kind + 1) places → IsVisitedFor rows order wholes q body env places
-visited_by_kind rows order wholes q body env places some are = elim (breadth_cases q.kind) [
-  | inl any ↦ absurd (some any)
-  | inr (apart, one) ↦
-      let least : rank q.kind ≡ least_of 0 q.kind = omega arith in
-      visited_from rows order wholes q body env by_kind.Kind 0 places
-      (subst (λ (n : ℕ). ArePlacesOf rows by_kind.Kind (least_of 0 q.kind) (least_of 0 q.kind + n) places) (sym one)
-      (subst (λ (n : ℕ). ArePlacesOf rows by_kind.Kind n (n + 1) places) least are))
-      (λ j row there other. absurd (other refl))
-]
+    (env : ℕ → Option ℕ) (places : List ℕ) → q.kind ≢ kinds.Any → ArePlacesOfKind rows q.kind places →
+    IsVisitedFor rows order wholes q body env places
+visited_by_kind rows order wholes q body env places some are = record {
+  kind = λ j there.
+      let (row, at, is) = are.only j there in
+      ap (has_kind q.kind) at ∙ ap (is_kind q.kind) is ∙ own_kind q.kind;
+  others = λ j row there. by j row there (is_kind q.kind row.kind) refl;
+}
+  where
+    -- a row is of the kind, or passed over
+    by : (j : ℕ) (row : Row) → slice_get rows j ≡ Some row → (b : Bool) → is_kind q.kind row.kind ≡ b →
+        Contains places j ⊎ (at rows order wholes q.some body q.v q.kind q.within env j ≡ True)
+    by j row there true is =
+        let same : rank row.kind ≡ rank q.kind = same_rank q.kind row.kind some is in
+        inl (are.each j row there (sym (kind_back row.kind) ∙ ap kind_at same ∙ kind_back q.kind))
+    by j row there false is = inr (other_at rows order wholes q.some body q.v q.kind q.within env j row there is)

@@ -5,16 +5,16 @@ ghost use Rattle.rule_language.specs.Forms.{tree_of, trees_of};
 ghost use Rattle.rule_engine.specs.inside.Reach.{reaches_row};
 
 use rule_language::{Formula, Row};
-use rule_meaning::atoms::has_kind;
+use rule_meaning::atoms::is_kind;
 
 /// Whether some quantifier over all survivors goes over the row.
 #[cycle(reaching)]
-pub(crate) fn reaches(formula: &Formula, row: Row) -> bool
-    ensures { result ≡ reaches_row row (tree_of formula.now) }
+pub(crate) fn reaches(formula: &Formula, row: &Row) -> bool
+    ensures { result ≡ reaches_row row.now (tree_of formula.now) }
 {
     match formula {
-        Formula::ForEvery { kind, body, .. } => has_kind(*kind, Some(row)) || reaches(body, row),
-        Formula::ForSome { kind, body, .. } => has_kind(*kind, Some(row)) || reaches(body, row),
+        Formula::ForEvery { kind, body, .. } => is_kind(*kind, row.kind) || reaches(body, row),
+        Formula::ForSome { kind, body, .. } => is_kind(*kind, row.kind) || reaches(body, row),
         Formula::EveryBefore { body, .. } => reaches(body, row),
         Formula::SomeBefore { body, .. } => reaches(body, row),
         Formula::And(parts) => some_reach(parts.as_slice(), row),
@@ -31,8 +31,8 @@ pub(crate) fn reaches(formula: &Formula, row: Row) -> bool
 
 /// Whether a quantifier over all survivors in some of the formulas goes over the row.
 #[cycle(reaching)]
-fn some_reach(parts: &[Formula], row: Row) -> bool
-    ensures { result ≡ reaches_row row (trees_of parts.now) }
+fn some_reach(parts: &[Formula], row: &Row) -> bool
+    ensures { result ≡ reaches_row row.now (trees_of parts.now) }
 {
     for part in parts {
         if reaches(part, row) {
@@ -46,5 +46,5 @@ fn some_reach(parts: &[Formula], row: Row) -> bool
 pub(crate) fn reaches_some(formula: &Formula, rows: &[Row]) -> bool
     ensures { result ≡ list_any (λ row. reaches_row row (tree_of formula.now)) rows.now }
 {
-    rows.iter().any(|row| reaches(formula, *row))
+    rows.iter().any(|row| reaches(formula, row))
 }

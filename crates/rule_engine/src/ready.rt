@@ -16,7 +16,7 @@ use entry_order::Three;
 use precedence::Rows;
 use rule_language::{Formula, Row, Rule};
 use rule_meaning::scene::Scene;
-use rule_meaning::width::is_too_wide;
+use rule_meaning::width::{Counted, is_too_wide_over};
 use std::alloc::{AllocError, Global};
 use std::marker::Model;
 
@@ -24,6 +24,7 @@ use std::marker::Model;
 #[derive(Drop)]
 pub struct Judge<'a> {
     survivors: Survivors<'a>,
+    counted: Counted<'a>,
 }
 
 impl<'a> Model for Judge<'a> {
@@ -41,11 +42,12 @@ impl<'a> Model for Judge<'a> {
 
     ghost invariant = { λ judge.
         (length judge.survivors.rows.now ≡ known_count judge.survivors.known.order.now)
-        × AreIndexesOf judge.survivors.rows.now judge.survivors.known.indexes };
+        × AreIndexesOf judge.survivors.rows.now judge.survivors.known.indexes
+        × (judge.counted ≡ judge.survivors.rows.now) };
 }
 
 impl<'a> Judge<'a> {
-    /// Makes these rows ready. It takes memory for three indexes of the rows.
+    /// Makes these rows ready: counts them, and takes memory for three indexes of them.
     pub fn over(alloc: Global, rows: &'a [Row], order: &'a Rows) -> Result<Judge<'a>, AllocError>
         requires { length rows.now ≡ known_count order.now }
         ensures { IfOk result (λ judge. judge ≡ record { rows = rows.now; known = order.now }) }
@@ -56,6 +58,7 @@ impl<'a> Judge<'a> {
                 rows,
                 known: Tables { order, indexes },
             },
+            counted: Counted::of(rows),
         })
     }
 
@@ -64,7 +67,7 @@ impl<'a> Judge<'a> {
         ensures { (graph : Graph) → IsKnownOf graph self.now.known →
             IsJudged self.now.rows graph (tree_of rule.now.body) result }
     {
-        answer_over(alloc, &rule.body, &self.survivors)
+        answer_over(alloc, &rule.body, &self.survivors, &self.counted)
     }
 
     /// Judges a rule by its verdict over the first rows. Where no later row can change it, or only
@@ -83,7 +86,14 @@ impl<'a> Judge<'a> {
         ensures { (graph : Graph) → IsKnownOf graph self.now.known →
             IsJudged self.now.rows graph (tree_of rule.now.body) result }
     {
-        answer_grown(alloc, &rule.body, count, before, &self.survivors)
+        answer_grown(
+            alloc,
+            &rule.body,
+            count,
+            before,
+            &self.survivors,
+            &self.counted,
+        )
     }
 }
 
@@ -94,9 +104,11 @@ fn answer_grown(
     count: usize,
     before: &Verdict,
     survivors: &Survivors<'_>,
+    counted: &Counted<'_>,
 ) -> Result<Verdict, JudgeFault>
     requires same { length survivors.now.rows.now ≡ known_count survivors.now.known.order.now }
     requires indexed { AreIndexesOf survivors.now.rows.now survivors.now.known.indexes }
+    requires counted { counted.now ≡ survivors.now.rows.now }
     requires first { count ≤ length survivors.now.rows.now }
     requires later { ComesBeforeNone count (known_before survivors.now.known.order.now) }
     requires before { IsJudgeAnswer (take count survivors.now.rows.now)
@@ -106,7 +118,7 @@ fn answer_grown(
     ensures { IsJudgeAnswer survivors.now.rows.now (known_before survivors.now.known.order.now)
         (known_whole survivors.now.known.order.now) (tree_of body.now) result }
 {
-    if is_too_wide(body, 1, survivors.rows) {
+    if is_too_wide_over(body, 1, counted) {
         return Err(JudgeFault::TooWide);
     }
     match grown_value(body, count, value_said(before), survivors) {

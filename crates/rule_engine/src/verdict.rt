@@ -20,7 +20,7 @@ use rule_meaning::judging::value;
 use rule_meaning::kleene::is_false;
 use rule_meaning::scene::Scene;
 use rule_meaning::scope::Scope;
-use rule_meaning::width::is_too_wide;
+use rule_meaning::width::{Counted, is_too_wide_over};
 use std::alloc::{AllocError, Global};
 use thiserror::Error;
 
@@ -77,21 +77,23 @@ fn answer(alloc: Global, body: &Formula, rows: &[Row], order: &Rows) -> Result<V
         rows,
         known: Tables { order, indexes },
     };
-    answer_over(alloc, body, &survivors)
+    answer_over(alloc, body, &survivors, &Counted::of(rows))
 }
 
-/// The answer on a rule over these survivors.
+/// The answer on a rule over these survivors, whose rows are counted.
 pub(crate) fn answer_over(
     alloc: Global,
     body: &Formula,
     survivors: &Survivors<'_>,
+    counted: &Counted<'_>,
 ) -> Result<Verdict, JudgeFault>
     requires same { length survivors.now.rows.now ≡ known_count survivors.now.known.order.now }
     requires indexed { AreIndexesOf survivors.now.rows.now survivors.now.known.indexes }
+    requires counted { counted.now ≡ survivors.now.rows.now }
     ensures { IsJudgeAnswer survivors.now.rows.now (known_before survivors.now.known.order.now)
         (known_whole survivors.now.known.order.now) (tree_of body.now) result }
 {
-    if is_too_wide(body, 1, survivors.rows) {
+    if is_too_wide_over(body, 1, counted) {
         return Err(JudgeFault::TooWide);
     }
     verdict_of(alloc, body, survivors)

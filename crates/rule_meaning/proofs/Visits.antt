@@ -6,7 +6,7 @@ use Rattle.rule_meaning.proofs.Imports.{filter, range_with_len, get_or-range_wit
 use Rattle.rule_meaning.proofs.Imports.{Contains-filter, Contains-filter_cases, slice_get_within}
 use Rattle.rule_meaning.proofs.Imports.{both, opposite, as_three, has_kind, bind, signed, is_in, over_from, over_rows}
 use Rattle.std.proofs.Common.{not, ◌⊎◌}
-use Rattle.std.proofs.lemmas.Bool.{cases_eq, cases_lt}
+use Rattle.std.proofs.lemmas.Bool.{cases_eq}
 use Rattle.std.proofs.lemmas.List.{get_or_default}
 use Rattle.std.proofs.lemmas.List.Elements.{Contains-get_or}
 use Rattle.std.proofs.lemmas.Option.{slice_get_cases}

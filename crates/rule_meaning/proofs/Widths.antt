@@ -3,8 +3,11 @@ use Rattle.rule_meaning.proofs.Imports.{◌≡◌, ◌∙◌, ap, sym, ℕ, ◌+
 use Rattle.rule_meaning.proofs.Imports.{length, drop, get_or, Box, Global, rules, or-false, drop_more, drop_all, Row}
 use Rattle.rule_meaning.proofs.Imports.{Kind, Formula, ForEvery, ForSome, EveryBefore, SomeBefore, Implies}
 use Rattle.rule_meaning.proofs.Imports.{the_lemmas, Trees, no_trees, tree_then, in_front, tree_of, trees_of, shape}
-use Rattle.rule_meaning.proofs.Imports.{is_too_wide, widens, widens_by, quantified_kind}
+use Rattle.rule_meaning.proofs.Imports.{is_too_wide, widens, widens_by, quantified_kind, count_of_rows, has_kind}
+use Rattle.rule_meaning.proofs.Imports.{Some, refl, arith}
+use Rattle.std.proofs.lemmas.List.Recursion.{is_count_by}
 use Rattle.rule_language.specs.declared.form.Form.TheVariants as form
+use Rattle.rule_language.specs.declared.kind.Kind.TheVariants.{Any}
 
 module _ (rows : List Row) (width : ℕ) where
   -- whether some quantifier of the formulas is too wide at this width
@@ -86,3 +89,8 @@ or_first a false y is t = cc
 pub or_second : (a b x y : Bool) → a ≡ x → b ≡ y → a ≡ false → b ≡ (x || y)
 or_second a b true y is is' t = cc
 or_second a b false y is is' t = is'
+
+-- each row is of any kind
+pub count_of_any : (rows : List Row) → length rows ≡ count_of_rows rows Any
+count_of_any = is_count_by length (λ row. has_kind Any (Some row)) refl
+    (λ row rows. omega arith)

@@ -3,19 +3,19 @@ use Rattle.live_auditor.proofs.Imports.{bytes_eq-Decides}
 use Rattle.live_auditor.proofs.Finds.{looked_at, stands_nowhere}
 use Rattle.live_auditor.proofs.appended.place_of.Goals as goal
 
-pub returns-then-eq-clause-some : goal.returns-then-eq-clause-some
-returns-then-eq-clause-some c =
+pub returns-then-same_digest-clause-some : goal.returns-then-same_digest-clause-some
+returns-then-same_digest-clause-some c =
     let low : c.loop-place.place - 1 < length c.args.digests.now =
     omega (arith, c.loop-place-test.true, c.loop-place.auto.place) in
     slice_get-get_or c.args.digests.now (c.loop-place.place - 1) _ low
-    ∙ ap (λ (d : List ℕ). Some d) ((bytes_eq-Decides _ _).0 (sym c.eq.ensures ∙ c.if-eq.true))
+    ∙ ap (λ (d : List ℕ). Some d) ((bytes_eq-Decides _ _).0 (sym c.same_digest.ensures ∙ c.if-same_digest.true))
 
 pub loop-place-preserved : goal.loop-place-preserved
 loop-place-preserved c =
     let low : c.loop-place.place - 1 < length c.args.digests.now =
     omega (arith, c.loop-place-test.true, c.loop-place.auto.place) in
     looked_at c.args.digests.now c.args.digest.now c.loop-place.place _
-    (slice_get-get_or c.args.digests.now (c.loop-place.place - 1) _ low) (sym c.eq.ensures ∙ c.if-eq.false)
+    (slice_get-get_or c.args.digests.now (c.loop-place.place - 1) _ low) (sym c.same_digest.ensures ∙ c.if-same_digest.false)
     c.loop-place.invariant
 
 pub returns-clause-none : goal.returns-clause-none

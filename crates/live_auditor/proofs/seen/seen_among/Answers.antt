@@ -9,7 +9,7 @@ loop-other-preserved c =
     none_more c.args.entries.now c.args.entry.now.digest c.loop-other.other-index c.other-item.result
     c.loop-other-test.true c.other-item.is c.loop-other.invariant (λ same. true≢false
     (sym ((bytes_eq-Decides digest other).1 (c.digest.ensures.value ∙ same ∙ sym c.digest-in-loop-other.ensures.value))
-    ∙ sym c.eq.ensures ∙ c.if-eq.false))
+    ∙ sym c.same_digest.ensures ∙ c.if-same_digest.false))
 
 pub returns : goal.returns
 returns c = λ g has.

@@ -6,7 +6,7 @@ use Rattle.rule_engine.proofs.reach.+reaching.Goals as goal
 
 pub reaches-returns-then-first : goal.reaches-returns-then-first
 reaches-returns-then-first t c =
-    let row = c.args.row in
+    let row = c.args.row.now in
     let a = c.in-Implies in
     or_first c.reaches-first.result (reaches_row row (tree_of a.first.value)) (reaches_row row (tree_of a.second.value))
     (c.reaches-first.ensures ∙ ap (λ f. reaches_row row (tree_of f)) c.deref-in-Implies.ensures)
@@ -15,7 +15,7 @@ reaches-returns-then-first t c =
 
 pub reaches-returns-else-first : goal.reaches-returns-else-first
 reaches-returns-else-first t c =
-    let row = c.args.row in
+    let row = c.args.row.now in
     let a = c.in-Implies in
     or_second c.reaches-first.result c.reaches-second.result (reaches_row row (tree_of a.first.value))
     (reaches_row row (tree_of a.second.value))
@@ -26,7 +26,7 @@ reaches-returns-else-first t c =
 
 pub some_reach-returns-then-reaches : goal.some_reach-returns-then-reaches
 some_reach-returns-then-reaches t c =
-    let row = c.args.row in
+    let row = c.args.row.now in
     let parts = c.args.parts.now in
     let i = c.loop-part.part-index in
     sym (c.loop-part.invariant ∙ reach_more row parts i c.part-item.result c.loop-part-test.true c.part-item.is
@@ -35,7 +35,7 @@ some_reach-returns-then-reaches t c =
 
 pub some_reach-loop-part-preserved : goal.some_reach-loop-part-preserved
 some_reach-loop-part-preserved t c =
-    let row = c.args.row in
+    let row = c.args.row.now in
     let parts = c.args.parts.now in
     let i = c.loop-part.part-index in
     c.loop-part.invariant ∙ reach_more row parts i c.part-item.result c.loop-part-test.true c.part-item.is

@@ -1,8 +1,7 @@
-use Rattle.rule_engine.proofs.Imports.{◌≡◌, ◌<◌, ℕ, length, slice_index_or, IsStart}
+use Rattle.rule_engine.proofs.Imports.{map}
+use Rattle.rule_engine.proofs.Indexed.{AreListedByKind}
 use Rattle.rule_engine.proofs.index.Kinds.make.Given as goal
 
--- the first kinds' starts are known
-abbrev pub invariant-loop-number : goal.invariant-loop-number
-invariant-loop-number l =
-    (length l.starts.items ≡ l.number)
-    × ((n : ℕ) → n < l.number → IsStart l.index.numbers.items n (slice_index_or l.starts.items n 0))
+-- the rows so far are listed
+abbrev pub invariant-loop-place : goal.invariant-loop-place
+invariant-loop-place l = AreListedByKind l.rows l.place (map (λ it. it.items) l.places.items)

@@ -1,0 +1,6 @@
+use Rattle.rule_engine.proofs.Imports.{map, IsEachEmpty}
+use Rattle.rule_engine.proofs.index.no_places.Given as goal
+
+-- the lists so far are empty
+abbrev pub invariant-loop-kind : goal.invariant-loop-kind
+invariant-loop-kind l = IsEachEmpty l._kind (map (λ it. it.items) l.places.items)
