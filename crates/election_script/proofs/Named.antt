@@ -4,6 +4,8 @@ use Rattle.election_script.proofs.Imports.{inl, inr, Option, Some, None, map, by
 use Rattle.election_script.proofs.Imports.{IfSome, IfNone, ok_or, UnknownWord, in_table}
 use Rattle.election_script.proofs.Imports.{OtsKind, W1, W2, W4, W8, ots_word, IsHeight, height_word, Role, Supervisor}
 use Rattle.election_script.proofs.Imports.{Booth, role_word, named, role_names, how_names, key_kinds, key_heights}
+use Rattle.election_script.proofs.Imports.{Kind, line_kinds, line_word}
+use Rattle.election_script.proofs.Gives.{either_some}
 use Rattle.entry_format.specs.declared.deed.How.TheVariants as how
 
 -- what is found is what is read
@@ -72,3 +74,26 @@ pub height_is : (word : List ℕ) (found : Option ℕ) → IfSome found IsHeight
     → IfNone found ((height : ℕ) → IsHeight height → word ≢ height_word height) → found ≡ named key_heights word
 height_is word (Some height) good is unknown = sym (ap (named key_heights) is ∙ some_height height good)
 height_is word None good is unknown = sym (no_height word unknown)
+
+-- ---- the other way
+
+-- each row's thing is so by its word
+abbrev pub AreRows : {A : Type 0} → (List ℕ → A → Type 0) → List (List ℕ × A) → Type 0
+AreRows P [] = Unit {0}
+AreRows P (row ∷ rows) = P row.0 row.1 × AreRows P rows
+
+pub row_is : {A : Type 0} (P : List ℕ → A → Type 0) (rows : List (List ℕ × A)) (word : List ℕ) → AreRows P rows → (a : A) →
+    named rows word ≡ Some a → P word a
+row_is P [] word are a is = cc
+row_is P ((own, thing) ∷ rows) word (first, more) a is =
+    elim (either_some (bytes_eq word own) thing a (named rows word) is) [
+      | inl (equal, same) ↦ subst (P word) same
+          (subst (λ w. P w thing) (sym ((bytes_eq-Decides word own).0 equal)) first)
+      | inr later ↦ row_is P rows word more a later
+    ]
+
+-- a word that names a kind of line is the kind's
+pub kind_word : (word : List ℕ) (k : Kind) → named line_kinds word ≡ Some k → word ≡ line_word k
+kind_word word =
+    row_is (λ w k. w ≡ line_word k) line_kinds word
+    (refl, (refl, (refl, (refl, (refl, (refl, (refl, (refl, (refl, (refl, tt))))))))))
