@@ -15,7 +15,9 @@ use Rattle.election_script.specs.Left.{Left, End, Next, LinesRead, Head, at_line
 use Rattle.election_script.specs.inside.Resume.{part_of, resume, with_room, after_words, after_line, after}
 use Rattle.election_script.specs.inside.Resume.{ended}
 use Rattle.election_script.specs.Reading.{script_from}
-use Rattle.election_script.specs.inside.Sheets.{blank, script_in, is_supervised, IsSupervised}
+use Rattle.election_script.specs.inside.Sheets.{blank, script_in, is_supervised}
+use Rattle.election_script.specs.inside.Lines.{reached_by}
+use Rattle.election_script.proofs.Imports.{◌<◌}
 use Rattle.election_script.proofs.Imports.{arith}
 use Rattle.election_script.specs.inside.Resume.{to_version, to_seed, to_key, to_log, to_link}
 use Rattle.election_script.specs.inside.Resume.{to_machine, to_machines, to_deeds, to_loses, to_stops, to_steps}
@@ -232,6 +234,10 @@ from_step : (s : Sheet) → is_supervised s.machines ≡ true → (k : Kind) →
 from_step s one kind.Step n words left =
     supervised_later (is_supervised s.machines) one n _ _ _ (step_next (ended_by s (Some kind.Step)) n words left)
 from_step s one k n words left = refl
+
+-- a line of a later kind than the machines comes after one supervisor
+abbrev IsSupervised : Sheet → Type 0
+IsSupervised sheet = 6 < reached_by sheet.last → is_supervised sheet.machines ≡ true
 
 -- after any kind
 from_any : (s : Sheet) (last : Option Kind) → IsSupervised (ended_by s last) → (k : Kind) → IsResumed (ended_by s last) k

@@ -40,10 +40,9 @@ pub use Rattle.election_script.specs.declared.script.Lose.{Lose}
 pub use Rattle.election_script.specs.declared.script.Script.{Script}
 pub use Rattle.election_script.specs.declared.script.StopAt.{StopAt}
 pub use Rattle.election_script.specs.declared.sheet.Sheet.{Sheet}
-pub use Rattle.election_script.specs.inside.Draft.{HasRoleAt, IsDone}
-pub use Rattle.election_script.specs.inside.Lines.{IsInOrder, kind_of, line_words, reached_by}
-pub use Rattle.election_script.specs.inside.Sheets.{AreFew, IsFit, IsSheet, IsSheetFull, IsWithin, blank}
-pub use Rattle.election_script.specs.inside.Sheets.{is_read, kept, listed, told_by, put, script_in, version_in, with_deeds}
+pub use Rattle.election_script.proofs.KnownPlaces.{HasRoleAt, IsDone}
+pub use Rattle.election_script.specs.inside.Lines.{kind_of, reached_by}
+pub use Rattle.election_script.specs.inside.Sheets.{IsSheet, blank, put, script_in, version_in, with_deeds}
 pub use Rattle.election_script.specs.inside.Words.{roles_of, stopped_of, texts_of, told}
 pub use Rattle.entry_format.proofs.Taken.{version_small}
 pub use Rattle.entry_format.specs.Deeds.{IsDeedOf}

@@ -33,7 +33,7 @@ use Rattle.election_script.specs.Kinds.{deed_names, step_names}
 use Rattle.election_script.specs.Machines.{is_of_role}
 use Rattle.election_script.specs.Deeds.{plain_deed, session_deed, authorise_deed, named_deed}
 use Rattle.election_script.specs.Lines.{new_name, own_step, hear_read, named_step}
-use Rattle.election_script.specs.inside.Draft.{IsNamedAt}
+use Rattle.election_script.proofs.KnownPlaces.{IsNamedAt}
 use Rattle.election_script.proofs.Names.{between_test, name_test}
 use Rattle.election_script.proofs.Places.{from, cast_at, place_unknown, stop_among}
 use Rattle.election_script.proofs.Gives.{Gives, value_gives, then_gives, if_gives, unless_gives, some_gives, either_some}

@@ -19,7 +19,7 @@ use Rattle.election_script.proofs.ClearWords.{number_back, seed_back, key_back, 
 use Rattle.election_script.proofs.ClearWords.{stop_back, step_back}
 use Rattle.election_script.proofs.Parts.{middle, all_in_front, fresh}
 use Rattle.election_script.proofs.DeedCount.{deed_count, deeds_done}
-use Rattle.election_script.proofs.SheetScript.{names_busy, supervisors_busy, get_busy, size_busy, lines_busy}
+use Rattle.election_script.proofs.Busy.{same_roles, same_stops, supervisors_busy, get_busy, size_busy, lines_busy}
 use Rattle.election_script.proofs.WholeRead.{head_is, Tells, IsPast, past_map, one_back, many_back, AreRead, all_read}
 use Rattle.election_script.proofs.WholeRead.{room, some_map}
 
@@ -51,20 +51,6 @@ none_back (Next n head left) tells = absurd tells
 -- machines without what they are to do
 abbrev idle : List Cast0 → List Cast0
 idle machines = with_deeds 0 [] machines
-
--- they have the same names and roles
-same_roles : (from : ℕ) (machines : List Cast0) → roles_of (with_deeds from [] machines) ≡ roles_of machines
-same_roles from [] = refl
-same_roles from (cast ∷ machines) =
-    ap (λ (more : Machines). (cast.name, cast.role) ∷ more) (same_roles (from + 1) machines)
-
--- and the same stops
-same_stops : (machines : List Cast0) (stops : List StopAt) → stopped_of (idle machines) stops ≡ stopped_of machines stops
-same_stops machines [] = refl
-same_stops machines (stop ∷ stops) =
-    let name = names_busy 0 [] machines stop.machine in
-    let rest = same_stops machines stops in
-    cc
 
 -- with what they are to do they are the machines
 busy_back : (from : ℕ) (deeds : List (ℕ × Deed)) (machines : List Cast0) →
@@ -100,7 +86,7 @@ module _ (script : Script) (lawful : IsLawful script) (deeds : List (ℕ × Deed
 
   -- their names and roles are those of the machines that were read
   roles : roles_of (idle all) ≡ roles_of all
-  roles = same_roles 0 all
+  roles = same_roles 0 [] all
 
   -- the words of a machine, after the first
   abbrev machine_args : Cast0 → List (List ℕ)
@@ -162,7 +148,7 @@ module _ (script : Script) (lawful : IsLawful script) (deeds : List (ℕ × Deed
       (middle (IsStopAt all) script.stops before after stop is lawful.stops)
       (fresh (λ (stop : StopAt). stop.machine) before after stop
       (subst (AllPairs (λ (stop other : StopAt). stop.machine ≢ other.machine)) is lawful.one_stop_each)) in
-      rw (roles, same_stops all before, back) refl)
+      rw (roles, same_stops [] all before, back) refl)
 
   -- steps are
   steps_read : AreRead kind.Step step_reader (step_words all) [] script.steps
@@ -177,10 +163,10 @@ module _ (script : Script) (lawful : IsLawful script) (deeds : List (ℕ × Deed
   machines_read = all_read kind.Machine cast_read machine_args [] (idle all) (λ before cast after is.
       let size = size_busy 0 [] all in
       let names : All (λ (cast : Cast0). IsName cast.name) (idle all) = λ i x within.
-      subst IsName (sym (get_busy 0 [] all i x).0) (lawful.machines.named i x (omega (arith, within, size))) in
+      subst IsName (sym (get_busy 0 [] all i x)) (lawful.machines.named i x (omega (arith, within, size))) in
       let distinct : AllPairs (λ (cast other : Cast0). cast.name ≢ other.name) (idle all) = λ i j x below within same.
       lawful.machines.distinct i j x below (omega (arith, within, size))
-      (sym (get_busy 0 [] all i x).0 ∙ same ∙ (get_busy 0 [] all j x).0) in
+      (sym (get_busy 0 [] all i x) ∙ same ∙ (get_busy 0 [] all j x)) in
       let said = machine_back before cast.name cast.role
       (middle (λ (cast : Cast0). IsName cast.name) (idle all) before after cast is names)
       (fresh (λ (cast : Cast0). cast.name) before after cast

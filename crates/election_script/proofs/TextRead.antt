@@ -14,7 +14,7 @@ use Rattle.election_script.proofs.ScriptLines.{script_lines}
 use Rattle.election_script.proofs.WholeRead.{Tells, head_is}
 use Rattle.election_script.proofs.ScriptRead.{script_back}
 use Rattle.election_script.proofs.SaidScript.{script_said}
-use Rattle.election_script.proofs.SheetScript.{line_is}
+use Rattle.election_script.proofs.Imports.{◌++◌, join_with_byte, join_with_byte-slice_split}
 use Rattle.election_script.proofs.Named.{kind_word}
 use Rattle.election_script.proofs.Gives.{value_gives, then_gives, if_gives, some_gives}
 use Rattle.election_script.proofs.Imports.{Kind, words_of, line_word, line_kinds, named, in_table}
@@ -69,6 +69,16 @@ text_read text script is =
     (script_lines is.told script is.deeds is.lawful is.in_order))
 
 -- ---- the other way
+
+-- words with a space between each two are joined by it
+spaced : (words : List (List ℕ)) → line_of words ≡ join_with_byte 32 words
+spaced [] = refl
+spaced (word ∷ []) = refl
+spaced (word ∷ next ∷ words) = ap (λ (rest : List ℕ). word ++ 32 ∷ rest) (spaced (next ∷ words))
+
+-- a line is its words with a space between each two
+line_is : (line : List ℕ) → line_of (words_of line) ≡ line
+line_is line = spaced (words_of line) ∙ join_with_byte-slice_split 32 line
 
 -- a head that is read is that of the line's words
 words_are : (line : List ℕ) (k : Kind) (args : List (List ℕ)) → head_of line ≡ Ok (k, args) →

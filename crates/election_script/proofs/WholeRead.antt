@@ -3,18 +3,23 @@ use Rattle.std.specs.Prelude.{nat_le}
 use Rattle.std.proofs.Common.{append_assoc, length-append}
 use Rattle.election_script.proofs.Imports.{◌≡◌, ◌∙◌, ap, sym, refl, arith, ℕ, ◌<◌, ◌≤◌}
 use Rattle.election_script.proofs.Imports.{true, false, List, [], ◌∷◌, ◌++◌, length, map, Some, Ok}
-use Rattle.election_script.proofs.Imports.{append-nil, Kind, rank, line_word, Lines, LineRead}
+use Rattle.election_script.proofs.Imports.{append-nil, Kind, rank, line_word, line_kinds, named, Lines, LineRead}
+use Rattle.election_script.specs.declared.kinds.Kind.TheVariants as kind
 use Rattle.election_script.proofs.Imports.{false_from_ne_true, leb-true, Decides-eqb}
 use Rattle.election_script.specs.Words.{◌>>=◌}
 use Rattle.election_script.specs.Left.{Left, End, Next, kind_and_words, is_same_kind, one, many}
 use Rattle.election_script.specs.Left.{some, unless_full, most_lines}
-use Rattle.election_script.proofs.KindByKind.{word_names}
 
 -- what is left to read are lines of these words
 abbrev pub Tells : Left → Lines → Type 0
 Tells (End n) [] = Unit {0}
 Tells (Next n head left) (words ∷ lines) = (head ≡ kind_and_words words) × Tells left lines
 Tells left lines = ⊥
+
+-- the first word of a line names its kind
+word_names : (k : Kind) → named line_kinds (line_word k) ≡ Some k
+word_names kind.Version = refl
+word_names k = refl
 
 -- the kind of a line and the words after its first
 pub head_is : (k : Kind) (args : List (List ℕ)) → kind_and_words (line_word k ∷ args) ≡ Ok (k, args)
