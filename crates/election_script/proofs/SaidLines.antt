@@ -1,7 +1,7 @@
 -- What is read of lines is what they say, kind by kind: the other way from WholeRead.
 use Rattle.std.proofs.Common.{append_assoc}
-use Rattle.election_script.proofs.Imports.{◌≡◌, ◌∙◌, ap, sym, subst, refl, arith, ℕ, ◌≤◌, Bool, true, false, List, [], ◌∷◌, ◌++◌}
-use Rattle.election_script.proofs.Imports.{length, map, Option, Some, Ok, Err, All, All-nil, All-push, length_push, append-nil}
+use Rattle.election_script.proofs.Imports.{◌≡◌, ◌∙◌, ap, sym, subst, refl, arith, ℕ, ◌≤◌, true, false, List, [], ◌∷◌, ◌++◌}
+use Rattle.election_script.proofs.Imports.{length, map, Some, Ok, Err, All, All-nil, All-push, length_push, append-nil}
 use Rattle.election_script.proofs.Imports.{Kind, rank, kinds, line_word, Lines, LineRead, slice_get, Decides-eqb}
 use Rattle.std.proofs.lemmas.Bool.{leb-false}
 use Rattle.election_script.specs.declared.kinds.Kind.TheVariants as kind
@@ -66,9 +66,14 @@ module _ {A : Type 0} (k : Kind) (args : A → List (List ℕ)) where
       value_gives _ a (each values words holds room a reads))) a
       (at_line_is n (read values words >>= unless_full k values) a is))
       (λ a (kept, are) (all, rest) is.
-      let (whole, (xs, split, front)) = many_from read Q each (values ++ a ∷ []) kept left (all, rest) is in
-      (whole, (a ∷ xs, split ∙ append_assoc values (a ∷ []) xs,
-      λ lines tells. (said k found words (args a) same are, front lines tells)))))
+      let (whole, (xs, split, front)) = many_from read Q each (values ++ a ∷ []) kept left (all, rest) is in (
+        whole,
+        (
+          a ∷ xs,
+          split ∙ append_assoc values (a ∷ []) xs,
+          λ lines tells. (said k found words (args a) same are, front lines tells),
+        ),
+      )))
       (λ other. value_gives _ (values, Next n (Ok (found, words)) left)
       (holds, ([], sym (append-nil values), λ lines tells. tells)))
 

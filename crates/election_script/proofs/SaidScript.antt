@@ -1,21 +1,20 @@
 -- What is read as a script is lines of it: the other way from ScriptRead.
-use Rattle.election_script.proofs.Imports.{◌≡◌, ◌≢◌, ◌∙◌, ap, sym, subst, refl, arith, ℕ, ◌+◌, ◌<◌, ◌≤◌, true, false}
-use Rattle.election_script.proofs.Imports.{List, [], ◌∷◌, ◌++◌, length, map, get_or, get_or_default, inl, inr, Some, Ok, Err}
+use Rattle.election_script.proofs.Imports.{◌≡◌, ◌≢◌, ◌∙◌, ap, sym, subst, refl, arith, ℕ, ◌<◌, ◌≤◌, true, false}
+use Rattle.election_script.proofs.Imports.{List, [], ◌∷◌, ◌++◌, length, map, get_or, get_or_default, inl, inr, Some, Ok}
 use Rattle.election_script.proofs.Imports.{All, All-nil, All-push, All-same, All-weaker, AllPairs, all_pairs_push, cond, Bool}
 use Rattle.election_script.proofs.Imports.{length_push, slice_get, slice_get_within, slice_get-get_or, count_by, cases_eq}
 use Rattle.election_script.proofs.Imports.{codes, decimal, encode_lower, role_word, ots_word, height_word, OtsKind}
-use Rattle.election_script.proofs.Imports.{Deed, Cast0, Lose, StopAt, Step, Script, IsVersion, IsName, is_supervisor}
+use Rattle.election_script.proofs.Imports.{Deed, Cast0, Lose, StopAt, Script, IsVersion, IsName, is_supervisor}
 use Rattle.election_script.proofs.Imports.{IsHeight, IsBytes, IsBetween, IsDone, IsDeedOf, IsDeedIn, IsDeedAmong, IsCast}
-use Rattle.election_script.proofs.Imports.{AreCast, IsLose, IsStopAt, IsStep, IsLawful, AreDeedsOf, Lines, LineRead, Machines}
-use Rattle.election_script.proofs.Imports.{name_at, deed_words, step_words, lines_of, version_line, machine_line, do_line, lose_line}
-use Rattle.election_script.proofs.Imports.{stop_line, step_line, line_word, with_deeds}
+use Rattle.election_script.proofs.Imports.{AreCast, IsLose, IsStopAt, IsStep, IsLawful, AreDeedsOf, Lines, Machines}
+use Rattle.election_script.proofs.Imports.{name_at, deed_words, step_words, lines_of, version_line, do_line, lose_line}
+use Rattle.election_script.proofs.Imports.{stop_line, step_line, with_deeds}
 use Rattle.election_script.proofs.Imports.{actions_at, roles_of, stopped_of, max_machines, max_actions, max_link, max_events}
 use Rattle.election_script.proofs.Imports.{max_loses, max_steps, seed_read, key_read, one_number, do_read, lose_read}
-use Rattle.election_script.proofs.Imports.{stop_read, step_read, Decides-eqb, sum_by-cons}
+use Rattle.election_script.proofs.Imports.{stop_read, step_read, Decides-eqb}
 use Rattle.std.proofs.lemmas.Bool.{leb-false}
 use Rattle.election_script.specs.declared.kinds.Kind.TheVariants as kind
-use Rattle.election_script.specs.Words.{◌>>=◌}
-use Rattle.election_script.specs.Left.{Left, End, Next, many, is_most, most_lines}
+use Rattle.election_script.specs.Left.{Left, End, Next, many, is_most}
 use Rattle.election_script.specs.Reading.{version_read, cast_read, one_supervisor, none_left, script_after, script_from}
 use Rattle.election_script.proofs.Busy.{lines_busy, same_roles, same_stops, each_busy, get_busy, size_busy}
 use Rattle.election_script.proofs.Busy.{supervisors_busy, own_deeds}
@@ -42,12 +41,15 @@ cast_gives before words (few, named, distinct) room =
     then_gives _ _ _ _ (machine_gives before words) (λ said (good, new, is).
     let cast : Cast0 = record { name = said.0; role = said.1; actions = [] } in
     let free = leb-false max_machines (length before) room in
-    value_gives _ cast ((
-      omega (arith, free, length_push before cast),
-      All-push (λ (cast : Cast0). IsName cast.name) before cast named good,
-      all_pairs_push (λ (cast other : Cast0). cast.name ≢ other.name) before cast distinct
-          (λ k x below same. new (k, get_or before k x, below, get_or_default before k _ _ below, same)),
-    ), is))
+    value_gives _ cast (
+      (
+        omega (arith, free, length_push before cast),
+        All-push (λ (cast : Cast0). IsName cast.name) before cast named good,
+        all_pairs_push (λ (cast other : Cast0). cast.name ≢ other.name) before cast distinct
+            (λ k x below same. new (k, get_or before k x, below, get_or_default before k _ _ below, same)),
+      ),
+      is,
+    ))
 
 module _ (part : Script) (deeds : List (ℕ × Deed)) where
   -- the machines with what they are to do
@@ -125,13 +127,20 @@ version_is : (left : Left) → Gives (version_read 1 left) (λ (version, rest). 
 version_is (Next n (Ok (kind.Version, words)) left) =
     then_gives _ _ (λ number. IsBetween 1 2 number × (words ≡ decimal number ∷ [])) _
     (λ number is. one_gives 1 2 words number (at_line_is n (one_number 1 2 words) number is)) (λ number (between, are).
-    value_gives _ (number, left) (elim (cases_eq number 1) [
-      | inl is ↦ inl is
-      | inr other ↦ inr (omega (arith, between, other))
-    ], (true, (λ untold. cc), λ lines tells. (
-      ap (λ args. Ok (kind.Version, args)) are ∙ sym (head_is kind.Version (decimal number ∷ [])),
-      tells,
-    ))))
+    value_gives _ (number, left) (
+      elim (cases_eq number 1) [
+        | inl is ↦ inl is
+        | inr other ↦ inr (omega (arith, between, other))
+      ],
+      (
+        true,
+        (λ untold. cc),
+        λ lines tells. (
+          ap (λ args. Ok (kind.Version, args)) are ∙ sym (head_is kind.Version (decimal number ∷ [])),
+          tells,
+        ),
+      ),
+    ))
 version_is left = value_gives _ (1, left) (inl refl, (false, (λ untold. refl), λ lines tells. tells))
 
 -- the script that is read is lawful, and its lines are these
@@ -193,10 +202,14 @@ after_said version good l0 =
     (λ before words (good, own) room stop is.
     let ((lawful, new), are) = stop_gives all before words stop
     (ap (λ (m : Machines). stop_read m (stopped_of all before) words) roles
-    ∙ ap (λ stopped. stop_read (roles_of machines) stopped words) (same_stops deeds machines before) ∙ is) in
-    ((All-push (IsStopAt all) before stop good lawful,
-    all_pairs_push (λ (stop other : StopAt). stop.machine ≢ other.machine) before stop own
-    (λ k x below same. new (k, get_or before k x, below, get_or_default before k _ _ below, same))), are))
+    ∙ ap (λ stopped. stop_read (roles_of machines) stopped words) (same_stops deeds machines before) ∙ is) in (
+      (
+        All-push (IsStopAt all) before stop good lawful,
+        all_pairs_push (λ (stop other : StopAt). stop.machine ≢ other.machine) before stop own
+            (λ k x below same. new (k, get_or before k x, below, get_or_default before k _ _ below, same)),
+      ),
+      are,
+    ))
     (All-nil _, λ i j d below within. absurd (omega arith)) l7 (stops, l8) stops_are in
     let ((step, few_steps), steps_front) = each_said kind.Step (step_words all) (step_read (roles_of all)) (IsStep all)
     max_steps refl (step_gives all) l8 (steps, l9)
@@ -204,23 +217,33 @@ after_said version good l0 =
     let later : Lines = map (do_line version all) deeds ++ (map (lose_line all) loses ++ (map (stop_line all) stops
     ++ (map (step_line all) steps ++ []))) in
     let tells = steps_front [] (none_is l9 ended ended_is) in
-    value_gives _ (whole part deeds) (refl, (record {
-      version = good;
-      seed = seed_good.0;
-      octets = seed_good.1;
-      height = key_good;
-      log = log_good;
-      link = link_good;
-      machines = are_cast part deeds done new (supervisor_is machines l5 one one_is) few_deeds;
-      loses = lose;
-      few_loses = few_loses;
-      stops = stop;
-      one_stop_each = distinct;
-      steps = step;
-      few_steps = few_steps;
-    }, (deeds, in_order part deeds done, seed_front _ (key_front _ (log_front _ (link_front _
-    (subst (λ (first : Lines). Tells l4 (first ++ later)) (sym (lines_busy 0 deeds machines))
-    (machines_front later (deeds_front _ (loses_front _ (stops_front _ tells))))))))))))))))))))))
+    value_gives _ (whole part deeds) (
+      refl,
+      (
+        record {
+          version = good;
+          seed = seed_good.0;
+          octets = seed_good.1;
+          height = key_good;
+          log = log_good;
+          link = link_good;
+          machines = are_cast part deeds done new (supervisor_is machines l5 one one_is) few_deeds;
+          loses = lose;
+          few_loses = few_loses;
+          stops = stop;
+          one_stop_each = distinct;
+          steps = step;
+          few_steps = few_steps;
+        },
+        (
+          deeds,
+          in_order part deeds done,
+          seed_front _ (key_front _ (log_front _ (link_front _
+              (subst (λ (first : Lines). Tells l4 (first ++ later)) (sym (lines_busy 0 deeds machines))
+              (machines_front later (deeds_front _ (loses_front _ (stops_front _ tells)))))))),
+        ),
+      ),
+    ))))))))))))
 
 -- the version's line stands in front
 stated : (left : Left) (script : Script) (deeds : List (ℕ × Deed)) (told : Bool) →
@@ -234,7 +257,17 @@ pub script_said : (left : Left) → Gives (script_from left) (λ script. (told :
     × IsSaid left told script)
 script_said left = then_gives _ _ _ _ (version_is left) (λ (version, rest) (good, (told, untold, front)) script is.
     let (same, (lawful, (deeds, in_order, tells))) = after_said version good rest script is in
-    let lines : Lines = lines_of false script deeds in
-    (told, (λ unsaid. same ∙ untold unsaid), (lawful, (deeds, in_order, stated left script deeds told
-    (subst (λ v. Tells left (cond told ((codes "version" ∷ decimal v ∷ []) ∷ lines) lines)) (sym same)
-    (front lines tells))))))
+    let lines : Lines = lines_of false script deeds in (
+      told,
+      (λ unsaid. same ∙ untold unsaid),
+      (
+        lawful,
+        (
+          deeds,
+          in_order,
+          stated left script deeds told
+              (subst (λ v. Tells left (cond told ((codes "version" ∷ decimal v ∷ []) ∷ lines) lines)) (sym same)
+              (front lines tells)),
+        ),
+      ),
+    ))

@@ -1,19 +1,19 @@
 -- What is read of the words of a line is what they say: the other way from ClearWords.
 use Rattle.std.proofs.Common.{true≢false}
-use Rattle.election_script.proofs.Imports.{◌≡◌, ◌≢◌, ◌∙◌, ap, sym, subst, refl, arith, ℕ, zero, suc, ◌+◌, ◌<◌, ◌≤◌, ◌^◌}
+use Rattle.election_script.proofs.Imports.{◌≡◌, ◌≢◌, ◌∙◌, ap, sym, subst, refl, arith, ℕ, suc, ◌+◌, ◌<◌, ◌≤◌, ◌^◌}
 use Rattle.election_script.proofs.Imports.{true, false, List, [], ◌∷◌, length, inl, inr, Option, Some, None, Result, Ok, Err}
 use Rattle.election_script.proofs.Imports.{Any, slice_get, decimal, and_parts, nat_lt, ◌&&◌, encode_lower, IsBytes}
 use Rattle.election_script.proofs.Imports.{decode_of-ok, IsDigest, IsVersion, how_word, Deed, Opened, Authorise, Override}
 use Rattle.election_script.proofs.Imports.{Closed, Activate, Commit, Cast, Cancel, Challenge, Act, Hear, Stop, IsHeight}
 use Rattle.election_script.proofs.Imports.{height_word, Role, Supervisor, Booth, IsName, role_word, Cast0, StopAt}
 use Rattle.election_script.proofs.Imports.{IsBetween, IsSession, IsLose, IsStopAt, IsStep, max_events, ots_word, name_at}
-use Rattle.election_script.proofs.Imports.{deed_words, step_words, HasRoleAt, IsDone, bytes_eq, bytes_eq-Decides, cond}
+use Rattle.election_script.proofs.Imports.{deed_words, step_words, HasRoleAt, IsDone, bytes_eq, bytes_eq-Decides}
 use Rattle.election_script.proofs.Imports.{is_between, is_name_word, is_listed, roles_of, stopped_of, number_within}
-use Rattle.election_script.proofs.Imports.{session_read, ballot_read, machine_named, machine_of_role, seed_read, is_same_role}
+use Rattle.election_script.proofs.Imports.{ballot_read, machine_named, machine_of_role, seed_read, is_same_role}
 use Rattle.election_script.proofs.Imports.{key_read, machine_said, machine_and_session, place_of, in_table, named}
-use Rattle.election_script.proofs.Imports.{override_deed, ballot_deed, do_read, role_names, how_names, key_kinds}
+use Rattle.election_script.proofs.Imports.{ballot_deed, do_read, role_names, how_names, key_kinds}
 use Rattle.election_script.proofs.Imports.{key_heights, entry_read, receiver_read, lose_read, stopper_read, stop_read}
-use Rattle.election_script.proofs.Imports.{step_read, one_number, cases_Bool}
+use Rattle.election_script.proofs.Imports.{step_read, one_number}
 use Rattle.hall_text.specs.Words.{number_in, value_from, digest_in, in_lower_case}
 use Rattle.hex.specs.Hex.{decode_of, decode_sized}
 use Rattle.hex.specs.declared.error.FromHexError.{FromHexError}
@@ -28,11 +28,11 @@ use Rattle.entry_format.specs.declared.deed.How.{How}
 use Rattle.entry_format.specs.declared.deed.How.TheVariants as how
 use Rattle.entry_format.specs.EntryText.{IsDeedIn}
 use Rattle.std.specs.Prelude.{codes}
-use Rattle.election_script.specs.Words.{octets_in, ◌>>=◌}
+use Rattle.election_script.specs.Words.{octets_in}
 use Rattle.election_script.specs.Kinds.{deed_names, step_names}
 use Rattle.election_script.specs.Machines.{is_of_role}
-use Rattle.election_script.specs.Deeds.{plain_deed, session_deed, authorise_deed, named_deed}
-use Rattle.election_script.specs.Lines.{new_name, own_step, hear_read, named_step}
+use Rattle.election_script.specs.Deeds.{plain_deed, session_deed, named_deed}
+use Rattle.election_script.specs.Lines.{own_step, named_step}
 use Rattle.election_script.proofs.KnownPlaces.{IsNamedAt}
 use Rattle.election_script.proofs.Names.{between_test, name_test}
 use Rattle.election_script.proofs.Places.{from, cast_at, place_unknown, stop_among}
@@ -197,9 +197,11 @@ module _ (machines : List Cast0) where
   stopper_gives stops name =
       unless_gives (not (is_name_word name)) _ _ _ (λ good. unless_gives (is_listed (stopped_of machines stops) name) _ _ _ (λ new.
       some_gives _ _ _ (λ place is.
-      let at = place_is name place is in
-      (at, λ any. true≢false (sym (stop_among machines stops place any)
-      ∙ ap (is_listed (stopped_of machines stops)) at.1 ∙ new)))))
+      let at = place_is name place is in (
+        at,
+        λ any. true≢false (sym (stop_among machines stops place any)
+            ∙ ap (is_listed (stopped_of machines stops)) at.1 ∙ new),
+      ))))
 
   pub stop_gives : (stops : List StopAt) (words : List (List ℕ)) →
       Gives (stop_read (roles_of machines) (stopped_of machines stops) words)
@@ -234,8 +236,10 @@ module _ (machines : List Cast0) where
       (λ step. IsStep machines step × (words ≡ step_words machines step))
   step_gives (word ∷ words) = then_gives _ _ _ _ (row_gives IsStepSaid step_names word (
     λ ws. then_gives _ _ _ _ (own_gives ws) (λ place (within, is). value_gives _ (Act place) (within, cc)),
-    (hear_gives,
-    (λ ws. then_gives _ _ _ _ (own_gives ws) (λ place (within, is). value_gives _ (Stop place) (within, cc)), tt)),
+    (
+      hear_gives,
+      (λ ws. then_gives _ _ _ _ (own_gives ws) (λ place (within, is). value_gives _ (Stop place) (within, cc)), tt),
+    ),
   )) (λ step said. said words)
   step_gives words = λ a is. cc
 
@@ -351,11 +355,49 @@ module _ (machines : List Cast0) where
   -- what a version has
   deeds_are : (version : ℕ) → IsVersion version → AreRows (IsDeedSaid version) (deed_names version)
   deeds_are version (inl one) = subst (λ v. AreRows (IsDeedSaid v) (deed_names v)) (sym one) (
-    open_is 1, (authorise_is 1, (close_is 1, (activate_is 1, (commit_is 1, (cast_is 1, (cancel_is 1,
-    (override_is, tt))))))))
+    open_is 1,
+    (
+      authorise_is 1,
+      (
+        close_is 1,
+        (
+          activate_is 1,
+          (
+            commit_is 1,
+            (
+              cast_is 1,
+              (
+                cancel_is 1,
+                (override_is, tt),
+              ),
+            ),
+          ),
+        ),
+      ),
+    ),
+  )
   deeds_are version (inr two) = subst (λ v. AreRows (IsDeedSaid v) (deed_names v)) (sym two) (
-    open_is 2, (authorise_is 2, (close_is 2, (activate_is 2, (commit_is 2, (cast_is 2, (cancel_is 2,
-    (override_how_is, (challenge_is, tt)))))))))
+    open_is 2,
+    (
+      authorise_is 2,
+      (
+        close_is 2,
+        (
+          activate_is 2,
+          (
+            commit_is 2,
+            (
+              cast_is 2,
+              (
+                cancel_is 2,
+                (override_how_is, (challenge_is, tt)),
+              ),
+            ),
+          ),
+        ),
+      ),
+    ),
+  )
 
   pub deed_gives : (version : ℕ) → IsVersion version → (words : List (List ℕ)) →
       Gives (do_read version (roles_of machines) words)

@@ -5,7 +5,6 @@ use Rattle.election_script.proofs.Imports.{◌≡◌, ◌∙◌, ap, sym, refl, 
 use Rattle.election_script.proofs.Imports.{inl, inr, list_all, list_all-from_AllPass, and_parts, cases_Bool, All-weaker}
 use Rattle.election_script.proofs.Imports.{Script, line_of, lines_of, is_passed_over, IsTextOf, Lines, Ok}
 use Rattle.election_script.proofs.Imports.{text_lines, is_between}
-use Rattle.election_script.specs.Words.{◌>>=◌}
 use Rattle.election_script.specs.Left.{Next, left_from, head_of, kind_and_words}
 use Rattle.election_script.specs.Reading.{script_of}
 use Rattle.election_script.proofs.LineWords.{IsPlain, is_line, is_own, own_line, plain_line, words_back}
