@@ -10,9 +10,9 @@ use Rattle.election_script.specs.Reading.{script_of}
 use Rattle.election_script.proofs.LineWords.{IsPlain, is_line, is_own, own_line, plain_line, words_back}
 use Rattle.election_script.proofs.Names.{between_test}
 use Rattle.election_script.proofs.ScriptLines.{script_lines}
-use Rattle.election_script.proofs.WholeRead.{Tells, head_is}
-use Rattle.election_script.proofs.ScriptRead.{script_back}
-use Rattle.election_script.proofs.SaidScript.{script_said}
+use Rattle.election_script.proofs.ReadLines.{Tells, head_is}
+use Rattle.election_script.proofs.ReadScript.{script_back}
+use Rattle.election_script.proofs.ReadScript.{script_said}
 use Rattle.election_script.proofs.Imports.{◌++◌, join_with_byte, join_with_byte-slice_split}
 use Rattle.election_script.proofs.Named.{kind_word}
 use Rattle.election_script.proofs.Gives.{value_gives, then_gives, if_gives, some_gives}

@@ -1,44 +1,231 @@
--- What is read of the words of a line is what they say: the other way from ClearWords.
+-- The words of a line are read as what they say, and no others are.
+use Rattle.election_script.proofs.Imports.{◌≡◌, ◌∙◌, ap, sym, subst, refl, arith, ℕ, ◌<◌, ◌≤◌, ◌^◌, true, false, List}
+use Rattle.election_script.proofs.Imports.{[], ◌∷◌, length, inl, inr, Some, Ok, All, Any, slice_get, decimal}
+use Rattle.election_script.proofs.Imports.{All-get_or, get_or_from_slice_get, slice_get_within, encode_lower}
+use Rattle.election_script.proofs.Imports.{decode_of-encode_lower, IsBytes, IsDeedOf, IsDigest, IsVersion, IsDeedIn}
+use Rattle.election_script.proofs.Imports.{how_word, How, Deed, Opened, Authorise, Override, Closed, Activate, Commit}
+use Rattle.election_script.proofs.Imports.{Cast, Cancel, Challenge, Step, Act, Hear, Stop, OtsKind, IsHeight}
+use Rattle.election_script.proofs.Imports.{height_word, Role, Supervisor, Booth, IsName, role_word, Cast0, Lose, StopAt}
+use Rattle.election_script.proofs.Imports.{IsBetween, IsSession, IsDeedAmong, IsLose, IsStopAt, IsStep, max_events}
+use Rattle.election_script.proofs.Imports.{ots_word, name_at, deed_words, step_words, HasRoleAt, bytes_eq}
+use Rattle.election_script.proofs.Imports.{bytes_eq-Decides, false_from_ne_true, is_name_word, roles_of, stopped_of}
+use Rattle.election_script.proofs.Imports.{number_within, session_read, ballot_read, machine_named, machine_of_role}
+use Rattle.election_script.proofs.Imports.{seed_read, key_read, machine_said, machine_and_session, override_deed}
+use Rattle.election_script.proofs.Imports.{ballot_deed, do_read, entry_read, receiver_read, lose_read, stopper_read}
+use Rattle.election_script.proofs.Imports.{stop_read, step_read, ◌≢◌, suc, ◌+◌, Option, None, Result, Err, and_parts}
+use Rattle.election_script.proofs.Imports.{nat_lt, ◌&&◌, decode_of-ok, IsDone, is_between, is_listed, is_same_role}
+use Rattle.election_script.proofs.Imports.{place_of, in_table, named, role_names, how_names, key_kinds, key_heights}
+use Rattle.election_script.proofs.Imports.{one_number}
+use Rattle.hall_text.proofs.DigestText.{digest_decodes}
+use Rattle.hall_text.proofs.Numbers.{number-found}
+use Rattle.std.proofs.lemmas.Option.{slice_get-map}
+use Rattle.std.specs.Prelude.{option_map, is_some, not, codes}
+use Rattle.election_script.proofs.Names.{between_test, name_test}
+use Rattle.election_script.proofs.Places.{AreDistinct, cast_at, name_read, place_back, place_none, own_role, same_place}
+use Rattle.election_script.proofs.Places.{stop_new, from, place_unknown, stop_among}
+use Rattle.election_script.proofs.Spaceless.{AreNamed}
+use Rattle.election_script.proofs.Named.{some_role, some_how, some_kind, some_height, AreRows, row_is}
 use Rattle.std.proofs.Common.{true≢false}
-use Rattle.election_script.proofs.Imports.{◌≡◌, ◌≢◌, ◌∙◌, ap, sym, subst, refl, arith, ℕ, suc, ◌+◌, ◌<◌, ◌≤◌, ◌^◌}
-use Rattle.election_script.proofs.Imports.{true, false, List, [], ◌∷◌, length, inl, inr, Option, Some, None, Result, Ok, Err}
-use Rattle.election_script.proofs.Imports.{Any, slice_get, decimal, and_parts, nat_lt, ◌&&◌, encode_lower, IsBytes}
-use Rattle.election_script.proofs.Imports.{decode_of-ok, IsDigest, IsVersion, how_word, Deed, Opened, Authorise, Override}
-use Rattle.election_script.proofs.Imports.{Closed, Activate, Commit, Cast, Cancel, Challenge, Act, Hear, Stop, IsHeight}
-use Rattle.election_script.proofs.Imports.{height_word, Role, Supervisor, Booth, IsName, role_word, Cast0, StopAt}
-use Rattle.election_script.proofs.Imports.{IsBetween, IsSession, IsLose, IsStopAt, IsStep, max_events, ots_word, name_at}
-use Rattle.election_script.proofs.Imports.{deed_words, step_words, HasRoleAt, IsDone, bytes_eq, bytes_eq-Decides}
-use Rattle.election_script.proofs.Imports.{is_between, is_name_word, is_listed, roles_of, stopped_of, number_within}
-use Rattle.election_script.proofs.Imports.{ballot_read, machine_named, machine_of_role, seed_read, is_same_role}
-use Rattle.election_script.proofs.Imports.{key_read, machine_said, machine_and_session, place_of, in_table, named}
-use Rattle.election_script.proofs.Imports.{ballot_deed, do_read, role_names, how_names, key_kinds}
-use Rattle.election_script.proofs.Imports.{key_heights, entry_read, receiver_read, lose_read, stopper_read, stop_read}
-use Rattle.election_script.proofs.Imports.{step_read, one_number}
 use Rattle.hall_text.specs.Words.{number_in, value_from, digest_in, in_lower_case}
 use Rattle.hex.specs.Hex.{decode_of, decode_sized}
 use Rattle.hex.specs.declared.error.FromHexError.{FromHexError}
 use Rattle.hex.proofs.HexLemmas.{decode_sized-ok, decode_sized-twice}
-use Rattle.std.proofs.lemmas.Option.{slice_get-map}
-use Rattle.std.specs.Prelude.{option_map, is_some, not}
 use Rattle.election_script.specs.declared.kinds.DeedName.{DeedName}
-use Rattle.election_script.specs.declared.kinds.DeedName.TheVariants as deed
 use Rattle.election_script.specs.declared.kinds.StepName.{StepName}
-use Rattle.election_script.specs.declared.kinds.StepName.TheVariants as step
 use Rattle.entry_format.specs.declared.deed.How.{How}
-use Rattle.entry_format.specs.declared.deed.How.TheVariants as how
 use Rattle.entry_format.specs.EntryText.{IsDeedIn}
-use Rattle.std.specs.Prelude.{codes}
 use Rattle.election_script.specs.Words.{octets_in}
 use Rattle.election_script.specs.Kinds.{deed_names, step_names}
 use Rattle.election_script.specs.Machines.{is_of_role}
 use Rattle.election_script.specs.Deeds.{plain_deed, session_deed, named_deed}
 use Rattle.election_script.specs.Lines.{own_step, named_step}
 use Rattle.election_script.proofs.KnownPlaces.{IsNamedAt}
-use Rattle.election_script.proofs.Names.{between_test, name_test}
-use Rattle.election_script.proofs.Places.{from, cast_at, place_unknown, stop_among}
-use Rattle.election_script.proofs.Gives.{Gives, value_gives, then_gives, if_gives, unless_gives, some_gives, either_some}
-use Rattle.election_script.proofs.Gives.{if_some, unnot}
-use Rattle.election_script.proofs.Named.{AreRows, row_is}
+use Rattle.election_script.proofs.Gives.{Gives, value_gives, then_gives, if_gives, unless_gives, some_gives}
+use Rattle.election_script.proofs.Gives.{either_some, if_some, unnot}
+use Rattle.entry_format.specs.declared.deed.How.TheVariants as how
+use Rattle.election_script.specs.declared.kinds.DeedName.TheVariants as deed
+use Rattle.election_script.specs.declared.kinds.StepName.TheVariants as step
+
+-- the digits of a number within its bounds are read as it
+pub number_back : (least greatest number : ℕ) → IsBetween least greatest number → greatest < 2 ^ 32 →
+    number_within least greatest (decimal number) ≡ Ok number
+number_back least greatest number is small =
+    let most : number ≤ greatest = is.1 in
+    rw (number-found (decimal number) number (omega arith) refl, (between_test least greatest number).1 is) refl
+
+-- those of a session
+session_back : (session : ℕ) → IsSession session → session_read (decimal session) ≡ Ok session
+session_back session is = number_back 1 4294967295 session is (omega arith)
+
+-- those of a ballot
+ballot_back : (ballot : List ℕ) → IsDigest ballot → IsBytes ballot → ballot_read (encode_lower ballot) ≡ Ok ballot
+ballot_back ballot size bytes =
+    rw (
+      digest_decodes (encode_lower ballot) ballot (record { size = size; bytes = bytes; digits = refl }),
+      (bytes_eq-Decides (encode_lower ballot) (encode_lower ballot)).1 refl,
+    ) refl
+
+-- those of a seed
+pub seed_back : (seed : List ℕ) → IsBetween 1 32 (length seed) → IsBytes seed →
+    seed_read (encode_lower seed ∷ []) ≡ Ok seed
+seed_back seed size bytes =
+    rw (
+      decode_of-encode_lower seed bytes,
+      (bytes_eq-Decides (encode_lower seed) (encode_lower seed)).1 refl,
+      (between_test 1 32 (length seed)).1 size,
+    ) refl
+
+-- the words of a key
+pub key_back : (kind : OtsKind) (height : ℕ) → IsHeight height →
+    key_read (ots_word kind ∷ height_word height ∷ []) ≡ Ok (kind, height)
+key_back kind height is = rw (some_kind kind, some_height height is) refl
+
+-- a machine's new name and its role
+pub machine_back : (machines : List Cast0) (name : List ℕ) (role : Role) → IsName name →
+    (Any (λ (cast : Cast0). cast.name ≡ name) machines → ⊥) →
+    machine_said (roles_of machines) (name ∷ role_word role ∷ []) ≡ Ok (name, role)
+machine_back machines name role is new =
+    rw ((name_test name).1 is, place_none machines name new, some_role role) refl
+
+module _ (machines : List Cast0) (names : AreNamed machines) (distinct : AreDistinct machines) where
+  -- each machine's name is a name
+  is_name : (place : ℕ) → place < length machines → is_name_word (name_at machines place) ≡ true
+  is_name place within =
+      let (found, is) = cast_at machines place within in
+      (name_test (name_at machines place)).1 (subst IsName (sym (name_read machines place found is))
+      (subst (λ (cast : Cast0). IsName cast.name) (get_or_from_slice_get machines place found found is)
+      (All-get_or (λ (cast : Cast0). IsName cast.name) machines place found within names)))
+
+  -- and is read as the machine's place
+  name_back : (place : ℕ) → place < length machines →
+      machine_named (roles_of machines) (name_at machines place) ≡ Ok place
+  name_back place within = rw (is_name place within, place_back machines place distinct within) refl
+
+  -- also where a machine of its role is asked for
+  role_back : (place : ℕ) (role : Role) → HasRoleAt machines role place →
+      machine_of_role (roles_of machines) role (name_at machines place) ≡ Ok place
+  role_back place role (cast, is, same) =
+      let there : slice_get (roles_of machines) place ≡ Some (cast.name, cast.role) =
+      slice_get-map (λ (cast : Cast0). (cast.name, cast.role)) machines place
+      ∙ ap (option_map (λ (cast : Cast0). (cast.name, cast.role))) is in
+      rw (name_back place (slice_get_within machines place cast is), there, own_role role cast.role same) refl
+
+  -- with a session
+  role_session_back : (place : ℕ) (role : Role) (session : ℕ) → HasRoleAt machines role place → IsSession session →
+      machine_and_session (roles_of machines) role (name_at machines place) (decimal session) ≡ Ok (place, session)
+  role_session_back place role session has is =
+      rw (role_back place role has, session_back session is) refl
+
+  -- with a session and a ballot
+  ballot_deed_back : (place session : ℕ) (ballot : List ℕ) → HasRoleAt machines Booth place →
+      IsSession session × IsDigest ballot × IsBytes ballot →
+      ballot_deed (roles_of machines) (name_at machines place) (decimal session ∷ encode_lower ballot ∷ [])
+      ≡ Ok (place, session, ballot)
+  ballot_deed_back place session ballot has (good, digest, octets) =
+      rw (role_session_back place Booth session has good, ballot_back ballot digest octets) refl
+
+  -- with a session and how it is overridden
+  override_back : (place session : ℕ) (how : How) → HasRoleAt machines Supervisor place → IsSession session →
+      override_deed (roles_of machines) (name_at machines place) (decimal session ∷ how_word how ∷ [])
+      ≡ Ok (place, session, how)
+  override_back place session how has is =
+      rw (role_session_back place Supervisor session has is, some_how how) refl
+
+  -- the maker and the number of an entry
+  entry_back : (maker number : ℕ) → maker < length machines → number ≤ 4095 →
+      entry_read (roles_of machines) (name_at machines maker) (decimal number) ≡ Ok (maker, number)
+  entry_back maker number within most =
+      rw (name_back maker within, number_back 0 4095 number (omega arith, most) (omega arith)) refl
+
+  -- the line of the machine's deed is read as it
+  abbrev IsReadBack : ℕ → ℕ → Deed → Type 0
+  IsReadBack place version deed =
+      do_read version (roles_of machines) (name_at machines place ∷ deed_words version machines deed) ≡ Ok (place, deed)
+
+  -- an override that the version has
+  override_in_version : (version : ℕ) → IsVersion version → (place session : ℕ) (how : How) →
+      HasRoleAt machines Supervisor place → IsSession session → IsDeedIn version (Override session how) →
+      IsReadBack place version (Override session how)
+  override_in_version version good place session how.Cast has is two =
+      subst (λ v. IsReadBack place v (Override session how.Cast)) (sym two)
+      (rw (override_back place session how.Cast has is) refl)
+  override_in_version version (inr two) place session how.Cancel has is among =
+      subst (λ v. IsReadBack place v (Override session how.Cancel)) (sym two)
+      (rw (override_back place session how.Cancel has is) refl)
+  override_in_version version (inl one) place session how.Cancel has is among =
+      subst (λ v. IsReadBack place v (Override session how.Cancel)) (sym one)
+      (rw (role_session_back place Supervisor session has is) refl)
+
+  -- each deed that a machine of the script may do
+  pub deed_back : (version : ℕ) → IsVersion version → (place : ℕ) (deed : Deed) (cast : Cast0) →
+      slice_get machines place ≡ Some cast → IsDeedOf cast.role deed → IsDeedIn version deed →
+      IsDeedAmong machines deed → IsReadBack place version deed
+  deed_back version good place Opened cast at own is among =
+      rw (role_back place Supervisor (cast, at, own)) refl
+  deed_back version good place (Authorise booth session) cast at own is among =
+      rw (
+        role_back place Supervisor
+            (cast, at, own),
+        role_session_back booth Booth session among.0 among.1,
+      ) refl
+  deed_back version good place (Override session how) cast at own is among =
+      override_in_version version good place session how
+      (cast, at, own) among is
+  deed_back version good place Closed cast at own is among =
+      rw (role_back place Supervisor (cast, at, own)) refl
+  deed_back version good place (Activate session) cast at own is among =
+      rw (role_session_back place Booth session
+      (cast, at, own) among) refl
+  deed_back version good place (Commit session ballot) cast at own is among =
+      rw (ballot_deed_back place session ballot
+      (cast, at, own) among) refl
+  deed_back version good place (Cast session ballot) cast at own is among =
+      rw (ballot_deed_back place session ballot
+      (cast, at, own) among) refl
+  deed_back version good place (Cancel session) cast at own is among =
+      rw (role_session_back place Booth session
+      (cast, at, own) among) refl
+  deed_back version good place (Challenge session ballot) cast at own is among =
+      subst (λ v. IsReadBack place v (Challenge session ballot)) (sym is)
+      (rw (ballot_deed_back place session ballot
+      (cast, at, own) among) refl)
+
+  -- an entry that is lost
+  pub lose_back : (lose : Lose) → IsLose machines lose →
+      lose_read (roles_of machines) (name_at machines lose.from ∷ decimal lose.number ∷ name_at machines lose.to ∷ [])
+      ≡ Ok lose
+  lose_back lose (from_in, to_in, differ, most) =
+      let maker : List ℕ = name_at machines lose.from in
+      let receiver : List ℕ = name_at machines lose.to in
+      let other : bytes_eq receiver maker ≡ false = false_from_ne_true (bytes_eq receiver maker)
+      (λ same. differ (same_place machines lose.from lose.to distinct from_in to_in
+      (sym ((bytes_eq-Decides receiver maker).0 same)))) in
+      let heard : receiver_read (roles_of machines) maker receiver ≡ Ok lose.to =
+      rw (is_name lose.to to_in, other, place_back machines lose.to distinct to_in) refl in
+      rw (entry_back lose.from lose.number from_in most, heard) refl
+
+  -- a stop of a machine that has no other
+  pub stop_back : (stops : List StopAt) (stop : StopAt) → All (IsStopAt machines) stops → IsStopAt machines stop →
+      (Any (λ (other : StopAt). other.machine ≡ stop.machine) stops → ⊥) →
+      stop_read (roles_of machines) (stopped_of machines stops)
+      (name_at machines stop.machine ∷ decimal stop.events ∷ []) ≡ Ok stop
+  stop_back stops stop good (inside, most) new =
+      let stopper : stopper_read (roles_of machines) (stopped_of machines stops) (name_at machines stop.machine)
+      ≡ Ok stop.machine =
+      rw (
+        is_name stop.machine inside,
+        stop_new machines stops stop.machine distinct good inside new,
+        place_back machines stop.machine distinct inside,
+      ) refl in
+      rw (stopper, number_back 0 max_events stop.events (omega arith, most) (omega arith)) refl
+
+  -- a step
+  pub step_back : (step : Step) → IsStep machines step →
+      step_read (roles_of machines) (step_words machines step) ≡ Ok step
+  step_back (Act machine) is = rw (name_back machine is) refl
+  step_back (Hear at from number) (at_in, from_in, most) =
+      rw (name_back at at_in, entry_back from number from_in most) refl
+  step_back (Stop machine) is = rw (name_back machine is) refl
 
 -- ---- words
 
