@@ -1,4 +1,6 @@
 -- Lines are read as what they say, kind by kind, and no others are.
+use Rattle.election_script.proofs.Imports.{ne_eqb, drop, ◌<◌}
+use Rattle.election_script.proofs.Parts.{middle}
 use Rattle.std.specs.Prelude.{nat_le}
 use Rattle.std.proofs.Common.{append_assoc, length-append}
 use Rattle.election_script.proofs.Imports.{◌≡◌, ◌∙◌, ap, sym, refl, arith, ℕ, ◌<◌, ◌≤◌, true, false, List, [], ◌∷◌}
@@ -31,96 +33,80 @@ head_is k args = rw (word_names k) refl
 self : (k : Kind) → is_same_kind k k ≡ true
 self k = (Decides-eqb (rank k) (rank k)).1 refl
 
--- the first line is of another kind, if there is one
+-- the first line is of a later kind, if there is one
 abbrev pub IsPast : Kind → Lines → Type 0
 IsPast k [] = Unit {0}
-IsPast k (words ∷ lines) =
-    (j : Kind) × (args : List (List ℕ)) × (words ≡ line_word j ∷ args) × (is_same_kind k j ≡ false)
-
--- so it is where others come first, or none of them does
-pub past_map : {A : Type 0} (k j : Kind) (args : A → List (List ℕ)) (xs : List A) (lines : Lines) → is_same_kind k j ≡ false →
-    IsPast k lines → IsPast k (map (λ x. line_word j ∷ args x) xs ++ lines)
-past_map k j args [] lines other past = past
-past_map k j args (x ∷ xs) lines other past = (j, args x, refl, other)
-
--- a line that is left
-pub one_back : {A : Type 0} (k : Kind) (read : List (List ℕ) → LineRead A) (args : List (List ℕ)) (value : A)
-    (left : Left) (lines : Lines) → Tells left ((line_word k ∷ args) ∷ lines) → read args ≡ Ok value →
-    (rest : Left) × Tells rest lines × (one k read left ≡ Ok (value, rest))
-one_back k read args value (End n) lines tells is = absurd tells
-one_back k read args value (Next n head rest) lines (same, more) is =
-    (rest, more, rw (same ∙ head_is k args, self k, is) refl)
+IsPast k (words ∷ lines) = (j : Kind) × (args : List (List ℕ)) × (words ≡ line_word j ∷ args) × (rank k < rank j)
 
 -- no line of the kind is left
-pub many_none : {A : Type 0} (k : Kind) (read : List A → List (List ℕ) → LineRead A) (values : List A) (left : Left)
+many_none : {A : Type 0} (k : Kind) (read : List A → List (List ℕ) → LineRead A) (values : List A) (left : Left)
     (lines : Lines) → Tells left lines → IsPast k lines → many k read values left ≡ Ok (values, left)
 many_none k read values (End n) [] tells past = refl
 many_none k read values (End n) (words ∷ lines) tells past = absurd tells
 many_none k read values (Next n head left) [] tells past = absurd tells
-many_none k read values (Next n head left) (words ∷ lines) (same, more) (j, args, is, other) =
+many_none k read values (Next n head left) (words ∷ lines) (same, more) (j, args, is, later) =
+    let other = ne_eqb (rank k) (rank j) (λ one. omega (arith, one, later)) in
     rw (same ∙ ap kind_and_words is ∙ head_is j args, other) refl
 
--- each of the values is read after those before it
-abbrev pub AreRead : {A : Type 0} → Kind → (List A → List (List ℕ) → LineRead A) → (A → List (List ℕ)) → List A →
-    List A → Type 0
-AreRead k read args values [] = Unit {0}
-AreRead k read args values (x ∷ xs) =
-    ((read values (args x) >>= unless_full k values) ≡ Ok x) × AreRead k read args (values ++ x ∷ []) xs
+module _ {A : Type 0} (k : Kind) (line : A → List (List ℕ)) where
+  -- lines that say the values stand in front of others
+  abbrev pub in_front : List A → Lines → Lines
+  in_front xs lines = map (λ x. line_word k ∷ drop 1 (line x)) xs ++ lines
 
--- all lines of the kind
-pub many_back : {A : Type 0} (k : Kind) (read : List A → List (List ℕ) → LineRead A) (args : A → List (List ℕ))
-    (values xs : List A) (left : Left) (lines : Lines) → AreRead k read args values xs → IsPast k lines →
-    Tells left (map (λ x. line_word k ∷ args x) xs ++ lines) →
-    (rest : Left) × Tells rest lines × (many k read values left ≡ Ok (values ++ xs, rest))
-many_back {A} k read args values [] left lines reads past tells = (
-  left,
-  tells,
-  many_none k read values left lines tells past
-      ∙ ap (λ (all : List A). Ok (all, left)) (sym (append-nil values)),
-)
-many_back k read args values (x ∷ xs) (End n) lines reads past tells = absurd tells
-many_back {A} k read args values (x ∷ xs) (Next n head left) lines (first, reads) past (same, more) =
-    let (rest, tells, is) = many_back k read args (values ++ x ∷ []) xs left lines reads past more in
-    let goes : many k read values (Next n head left) ≡ many k read (values ++ x ∷ []) left =
-    rw (same ∙ head_is k (args x), self k, first) refl in
-    (rest, tells, goes ∙ is ∙ ap (λ (all : List A). Ok (all, rest)) (append_assoc values (x ∷ []) xs))
+  -- so the first is of a kind after an earlier one, where the first of the others is
+  pub past : (j : Kind) (xs : List A) (lines : Lines) → rank j < rank k → IsPast j lines → IsPast j (in_front xs lines)
+  past j [] lines later others = others
+  past j (x ∷ xs) lines later others = (k, drop 1 (line x), refl, later)
 
--- at least one
-pub some_back : {A : Type 0} (k : Kind) (read : List A → List (List ℕ) → LineRead A) (values : List A) (left : Left)
-    (words : List (List ℕ)) (args : List (List ℕ)) (lines : Lines) → words ≡ line_word k ∷ args →
-    Tells left (words ∷ lines) → some k read values left ≡ many k read values left
-some_back k read values (End n) words args lines is tells = absurd tells
-some_back k read values (Next n head left) words args lines is (same, more) =
-    rw (same ∙ ap kind_and_words is ∙ head_is k args, self k) refl
+  -- one line
+  pub one_back : (read : List (List ℕ) → LineRead A) (value : A) (left : Left) (lines : Lines) →
+      Tells left (in_front (value ∷ []) lines) → read (drop 1 (line value)) ≡ Ok value →
+      (rest : Left) × Tells rest lines × (one k read left ≡ Ok (value, rest))
+  one_back read value (End n) lines tells is = absurd tells
+  one_back read value (Next n head rest) lines (same, more) is =
+      (rest, more, rw (same ∙ head_is k (drop 1 (line value)), self k, is) refl)
 
--- at least one of some
-pub some_map : {A : Type 0} (k : Kind) (read : List A → List (List ℕ) → LineRead A) (args : A → List (List ℕ))
-    (values xs : List A) (left : Left) (lines : Lines) → 0 < length xs →
-    Tells left (map (λ x. line_word k ∷ args x) xs ++ lines) → some k read values left ≡ many k read values left
-some_map k read args values [] left lines some tells = absurd (omega (arith, some))
-some_map k read args values (x ∷ xs) left lines some tells =
-    some_back k read values left (line_word k ∷ args x) (args x) (map (λ x. line_word k ∷ args x) xs ++ lines) refl tells
+  -- all lines, each after those in front of it
+  pub many_back : (read : List A → List (List ℕ) → LineRead A) (all : List A) →
+      ((before : List A) (x : A) (after : List A) → all ≡ before ++ x ∷ after →
+      (read before (drop 1 (line x)) >>= unless_full k before) ≡ Ok x) → (values xs : List A) → all ≡ values ++ xs →
+      (left : Left) (lines : Lines) → IsPast k lines → Tells left (in_front xs lines) →
+      (rest : Left) × Tells rest lines × (many k read values left ≡ Ok (all, rest))
+  many_back read all each values [] parts left lines past tells =
+      let same : all ≡ values = parts ∙ append-nil values in
+      (left, tells, many_none k read values left lines tells past ∙ ap (λ (l : List A). Ok (l, left)) (sym same))
+  many_back read all each values (x ∷ xs) parts (End n) lines past tells = absurd tells
+  many_back read all each values (x ∷ xs) parts (Next n head left) lines past (same, more) =
+      let next = parts ∙ sym (append_assoc values (x ∷ []) xs) in
+      let (rest, tells, is) = many_back read all each (values ++ x ∷ []) xs next left lines past more in
+      (rest, tells, rw (same ∙ head_is k (drop 1 (line x)), self k, each values x xs parts) is)
 
--- each value is read, if it is after those in front of it
-pub all_read : {A : Type 0} (k : Kind) (read : List A → List (List ℕ) → LineRead A) (args : A → List (List ℕ))
-    (front xs : List A) → ((before : List A) (x : A) (after : List A) → front ++ xs ≡ before ++ x ∷ after →
-    (read before (args x) >>= unless_full k before) ≡ Ok x) → AreRead k read args front xs
-all_read k read args front [] each = tt
-all_read {A} k read args front (x ∷ xs) each = (
-  each front x xs refl,
-  all_read k read args (front ++ x ∷ []) xs
-      (λ before y after is. each before y after (sym (append_assoc front (x ∷ []) xs) ∙ is)),
-)
+  -- at least one
+  pub some_back : (read : List A → List (List ℕ) → LineRead A) (xs : List A) (left : Left) (lines : Lines) →
+      0 < length xs → Tells left (in_front xs lines) → some k read [] left ≡ many k read [] left
+  some_back read [] left lines any tells = absurd (omega (arith, any))
+  some_back read (x ∷ xs) (End n) lines any tells = absurd tells
+  some_back read (x ∷ xs) (Next n head left) lines any (same, more) =
+      rw (same ∙ head_is k (drop 1 (line x)), self k) refl
 
--- there is room for a value among those that there may be
-pub room : {A : Type 0} (k : Kind) (most : ℕ) (all before after : List A) (x : A) (read : LineRead A) →
-    most_lines k ≡ Some most → length all ≤ most → all ≡ before ++ x ∷ after → read ≡ Ok x →
-    (read >>= unless_full k before) ≡ Ok x
-room k most all before after x read limit few parts is =
-    let size = ap length parts ∙ length-append before (x ∷ after) in
-    let free : nat_le most (length before) ≡ false = false_from_ne_true (nat_le most (length before))
-    (λ full. omega (arith, size, few, leb-true most (length before) full)) in
-    rw (is, limit, free) refl
+  -- there is room for a value among those that there may be
+  pub room : (most : ℕ) (all before after : List A) (x : A) (read : LineRead A) → most_lines k ≡ Some most →
+      length all ≤ most → all ≡ before ++ x ∷ after → read ≡ Ok x → (read >>= unless_full k before) ≡ Ok x
+  room most all before after x read limit few parts is =
+      let size = ap length parts ∙ length-append before (x ∷ after) in
+      let free : nat_le most (length before) ≡ false = false_from_ne_true (nat_le most (length before))
+      (λ full. omega (arith, size, few, leb-true most (length before) full)) in
+      rw (is, limit, free) refl
+
+  -- lines whose values are read by themselves, up to as many as there may be
+  pub each_back : (read : List (List ℕ) → LineRead A) (P : A → Type 0) (most : ℕ) → most_lines k ≡ Some most →
+      ((x : A) → P x → read (drop 1 (line x)) ≡ Ok x) → (all : List A) → All P all → length all ≤ most →
+      (left : Left) (lines : Lines) → IsPast k lines → Tells left (in_front all lines) →
+      (rest : Left) × Tells rest lines × (many k (λ values. read) [] left ≡ Ok (all, rest))
+  each_back read P most limit back all good few =
+      many_back (λ values. read) all (λ before x after is.
+      room most all before after x (read (drop 1 (line x))) limit few is (back x (middle P all before after x is good)))
+      [] all refl
 
 -- a kind has its place among the kinds
 at_rank : (k : Kind) → slice_get kinds (rank k) ≡ Some k
@@ -141,27 +127,26 @@ pub at_line_is : {A : Type 0} (n : ℕ) (read : LineRead A) → Gives (at_line n
 at_line_is n (Ok value) = λ a is. let same : value ≡ a = cc in ap Ok same
 at_line_is n (Err why) = λ a is. cc
 
-module _ {A : Type 0} (k : Kind) (args : A → List (List ℕ)) where
+module _ {A : Type 0} (k : Kind) (line : A → List (List ℕ)) where
   -- lines that say the values stand in front of the rest
   abbrev AreInFront : Left → List A → Left → Type 0
-  AreInFront left values rest =
-      (lines : Lines) → Tells rest lines → Tells left (map (λ x. line_word k ∷ args x) values ++ lines)
+  AreInFront left values rest = (lines : Lines) → Tells rest lines → Tells left (in_front k line values lines)
 
   -- one line
   pub one_said : (read : List (List ℕ) → LineRead A) (P : A → Type 0) →
-      ((words : List (List ℕ)) → Gives (read words) (λ a. P a × (words ≡ args a))) → (left : Left) →
+      ((words : List (List ℕ)) → Gives (read words) (λ a. P a × (words ≡ drop 1 (line a)))) → (left : Left) →
       Gives (one k read left) (λ (a, rest). P a × AreInFront left (a ∷ []) rest)
   one_said read P each (End n) = λ b is. cc
   one_said read P each (Next n (Err why) left) = λ b is. cc
   one_said read P each (Next n (Ok (found, words)) left) =
       if_gives (is_same_kind k found) _ _ _ (λ same.
-      then_gives _ _ (λ a. P a × (words ≡ args a)) _ (λ a is. each words a (at_line_is n (read words) a is))
-      (λ a (holds, are). value_gives _ (a, left) (holds, λ lines tells. (said k found words (args a) same are, tells))))
+      then_gives _ _ (λ a. P a × (words ≡ drop 1 (line a))) _ (λ a is. each words a (at_line_is n (read words) a is))
+      (λ a (holds, are). value_gives _ (a, left) (holds, λ lines tells. (said k found words (drop 1 (line a)) same are, tells))))
 
   -- lines, of which each keeps what holds of the values before
   many_from : (read : List A → List (List ℕ) → LineRead A) (Q : List A → Type 0) →
       ((values : List A) (words : List (List ℕ)) → Q values → is_most (most_lines k) (length values) ≡ false →
-      Gives (read values words) (λ a. Q (values ++ a ∷ []) × (words ≡ args a))) → (values : List A) → Q values →
+      Gives (read values words) (λ a. Q (values ++ a ∷ []) × (words ≡ drop 1 (line a)))) → (values : List A) → Q values →
       (left : Left) → Gives (many k read values left)
       (λ (all, rest). Q all × ((xs : List A) × (all ≡ values ++ xs) × AreInFront left xs rest))
   many_from read Q each values holds (End n) =
@@ -170,9 +155,9 @@ module _ {A : Type 0} (k : Kind) (args : A → List (List ℕ)) where
       value_gives _ (values, Next n (Err why) left) (holds, ([], sym (append-nil values), λ lines tells. tells))
   many_from read Q each values holds (Next n (Ok (found, words)) left) =
       either_gives (is_same_kind k found) _ _ _ (λ same.
-      then_gives _ _ (λ a. Q (values ++ a ∷ []) × (words ≡ args a)) _
+      then_gives _ _ (λ a. Q (values ++ a ∷ []) × (words ≡ drop 1 (line a))) _
       (λ a is. then_gives (read values words) (unless_full k values)
-      (λ a. (read values words ≡ Ok a)) (λ a. Q (values ++ a ∷ []) × (words ≡ args a)) (λ a is. is)
+      (λ a. (read values words ≡ Ok a)) (λ a. Q (values ++ a ∷ []) × (words ≡ drop 1 (line a))) (λ a is. is)
       (λ a reads. unless_gives (is_most (most_lines k) (length values)) _ _ _ (λ room.
       value_gives _ a (each values words holds room a reads))) a
       (at_line_is n (read values words >>= unless_full k values) a is))
@@ -182,7 +167,7 @@ module _ {A : Type 0} (k : Kind) (args : A → List (List ℕ)) where
         (
           a ∷ xs,
           split ∙ append_assoc values (a ∷ []) xs,
-          λ lines tells. (said k found words (args a) same are, front lines tells),
+          λ lines tells. (said k found words (drop 1 (line a)) same are, front lines tells),
         ),
       )))
       (λ other. value_gives _ (values, Next n (Ok (found, words)) left)
@@ -190,7 +175,7 @@ module _ {A : Type 0} (k : Kind) (args : A → List (List ℕ)) where
 
   pub many_said : (read : List A → List (List ℕ) → LineRead A) (Q : List A → Type 0) →
       ((values : List A) (words : List (List ℕ)) → Q values → is_most (most_lines k) (length values) ≡ false →
-      Gives (read values words) (λ a. Q (values ++ a ∷ []) × (words ≡ args a))) → Q [] → (left : Left) →
+      Gives (read values words) (λ a. Q (values ++ a ∷ []) × (words ≡ drop 1 (line a)))) → Q [] → (left : Left) →
       Gives (many k read [] left) (λ (all, rest). Q all × AreInFront left all rest)
   many_said read Q each holds left = λ (all, rest) is.
       let (whole, (xs, split, front)) = many_from read Q each [] holds left (all, rest) is in
@@ -205,7 +190,7 @@ module _ {A : Type 0} (k : Kind) (args : A → List (List ℕ)) where
 
   -- lines whose values are read by themselves, up to as many as there may be
   pub each_said : (read : List (List ℕ) → LineRead A) (P : A → Type 0) (most : ℕ) → most_lines k ≡ Some most →
-      ((words : List (List ℕ)) → Gives (read words) (λ a. P a × (words ≡ args a))) → (left : Left) →
+      ((words : List (List ℕ)) → Gives (read words) (λ a. P a × (words ≡ drop 1 (line a)))) → (left : Left) →
       Gives (many k (λ values. read) [] left)
       (λ (all, rest). (All P all × (length all ≤ most)) × AreInFront left all rest)
   each_said read P most limit each left =

@@ -16,7 +16,7 @@ use Rattle.election_script.proofs.Imports.{max_loses, max_steps, Decides-eqb}
 use Rattle.roster.specs.Machines.{max_machines}
 use Rattle.election_script.specs.Lawful.{max_loses, max_steps}
 use Rattle.election_script.specs.Words.{◌>>=◌}
-use Rattle.election_script.specs.Left.{Left, End, Next, LinesRead, many, is_most}
+use Rattle.election_script.specs.Left.{Left, End, Next, LinesRead, many, is_most, unless_full}
 use Rattle.election_script.specs.Reading.{version_read, cast_read, one_supervisor, none_left, script_after, script_from}
 use Rattle.election_script.proofs.ReadWords.{number_back, seed_back, key_back, machine_back, deed_back, lose_back}
 use Rattle.election_script.proofs.ReadWords.{stop_back, step_back}
@@ -24,8 +24,9 @@ use Rattle.election_script.proofs.Parts.{middle, all_in_front, fresh}
 use Rattle.election_script.proofs.DeedCount.{deed_count, deeds_done}
 use Rattle.election_script.proofs.Busy.{same_roles, same_stops, supervisors_busy, get_busy, size_busy, lines_busy}
 use Rattle.election_script.proofs.Busy.{each_busy, own_deeds}
-use Rattle.election_script.proofs.ReadLines.{head_is, Tells, IsPast, past_map, one_back, many_back, AreRead, all_read}
-use Rattle.election_script.proofs.ReadLines.{room, some_map}
+use Rattle.election_script.proofs.ReadLines.{head_is, Tells, IsPast, in_front, past, one_back, many_back, some_back}
+use Rattle.election_script.proofs.ReadLines.{room, each_back}
+use Rattle.election_script.proofs.Imports.{Kind, rank, drop}
 use Rattle.std.proofs.lemmas.Bool.{leb-false}
 use Rattle.election_script.proofs.Gives.{Gives, value_gives, then_gives, then_gave, if_gives}
 use Rattle.election_script.proofs.ReadWords.{seed_gives, key_gives, one_gives, machine_gives, deed_gives, lose_gives}
@@ -82,12 +83,34 @@ all_idle from (cast ∷ machines) =
     All-cons (λ (cast : Cast0). cast.actions ≡ []) (record { name = cast.name; role = cast.role; actions = [] })
     (with_deeds (from + 1) [] machines) refl (all_idle (from + 1) machines)
 
--- a machine that is said is read
-then_said : (before : Machines) (cast : Cast0) (words : List (List ℕ)) →
-    machine_said before words ≡ Ok (cast.name, cast.role) →
-    record { name = cast.name; role = cast.role; actions = [] } ≡ cast →
-    (machine_said before words >>= λ said. Ok (record { name = said.0; role = said.1; actions = [] })) ≡ Ok cast
-then_said before cast words said same = rw said (ap Ok same)
+-- machines are few, and each has a name of its own
+abbrev AreNew : List Cast0 → Type 0
+AreNew machines =
+    (length machines ≤ max_machines) × All (λ (cast : Cast0). IsName cast.name) machines
+    × AllPairs (λ (cast other : Cast0). cast.name ≢ other.name) machines
+
+-- whatever they are to do
+new_busy : (deeds : List (ℕ × Deed)) (machines : List Cast0) → AreNew machines → AreNew (with_deeds 0 deeds machines)
+new_busy deeds machines (few, named, distinct) =
+    let size = size_busy 0 deeds machines in (
+      omega (arith, few, size),
+      λ i x within. subst IsName (sym (get_busy 0 deeds machines i x)) (named i x (omega (arith, within, size))),
+      λ i j x below within same. distinct i j x below (omega (arith, within, size))
+          (sym (get_busy 0 deeds machines i x) ∙ same ∙ get_busy 0 deeds machines j x),
+    )
+
+-- a machine's line is read as it, before it has anything to do
+cast_back : (before after machines : List Cast0) (cast : Cast0) → machines ≡ before ++ cast ∷ after → AreNew machines →
+    All (λ (cast : Cast0). cast.actions ≡ []) machines →
+    (cast_read before (cast.name ∷ role_word cast.role ∷ []) >>= unless_full kind.Machine before) ≡ Ok cast
+cast_back before after machines cast is (few, named, distinct) free =
+    let said = machine_back before cast.name cast.role
+    (middle (λ (cast : Cast0). IsName cast.name) machines before after cast is named)
+    (fresh (λ (cast : Cast0). cast.name) before after cast
+    (subst (AllPairs (λ (cast other : Cast0). cast.name ≢ other.name)) is distinct)) in
+    let none = middle (λ (cast : Cast0). cast.actions ≡ []) machines before after cast is free in
+    let same : record { name = cast.name; role = cast.role; actions = [] } ≡ cast = grind (arith, none) in
+    room kind.Machine machine_line max_machines machines before after cast _ refl few is (rw said (ap Ok same))
 
 module _ (script : Script) (lawful : IsLawful script) (deeds : List (ℕ × Deed)) (are : AreDeedsOf script deeds) where
   -- the script's machines
@@ -98,159 +121,82 @@ module _ (script : Script) (lawful : IsLawful script) (deeds : List (ℕ × Deed
   roles : roles_of (idle all) ≡ roles_of all
   roles = same_roles 0 [] all
 
-  -- the words of a machine, after the first
-  abbrev machine_args : Cast0 → List (List ℕ)
-  machine_args cast = cast.name ∷ role_word cast.role ∷ []
-
-  -- those of a deed
-  abbrev do_args : ℕ × Deed → List (List ℕ)
-  do_args done = name_at all done.0 ∷ deed_words script.version all done.1
-
-  -- those of a lost entry
-  abbrev lose_args : Lose → List (List ℕ)
-  lose_args lose = name_at all lose.from ∷ decimal lose.number ∷ name_at all lose.to ∷ []
-
-  -- those of a stop
-  abbrev stop_args : StopAt → List (List ℕ)
-  stop_args stop = name_at all stop.machine ∷ decimal stop.events ∷ []
-
-  -- deeds are read
-  abbrev do_reader : List (ℕ × Deed) → List (List ℕ) → LineRead (ℕ × Deed)
-  do_reader before = do_read script.version (roles_of (idle all))
-
-  -- lost entries
-  abbrev lose_reader : List Lose → List (List ℕ) → LineRead Lose
-  lose_reader before = lose_read (roles_of (idle all))
-
-  -- stops
-  abbrev stop_reader : List StopAt → List (List ℕ) → LineRead StopAt
-  stop_reader before = stop_read (roles_of (idle all)) (stopped_of (idle all) before)
-
-  -- and steps so
-  abbrev step_reader : List Step → List (List ℕ) → LineRead Step
-  step_reader before = step_read (roles_of (idle all))
-
-  -- deeds are read
-  deeds_read : AreRead kind.Do do_reader do_args [] deeds
-  deeds_read = all_read kind.Do do_reader do_args [] deeds (λ before (place, deed) after is.
-      let (cast, there, own, in_version, among) =
-      middle (IsDone script.version all) deeds before after (place, deed) is (deeds_done script deeds lawful are) in
-      room kind.Do max_actions deeds before after (place, deed) _ refl
-      (omega (arith, deed_count script deeds are, lawful.machines.in_all)) is
-      (ap (λ (m : Machines). do_read script.version m (do_args (place, deed))) roles
-      ∙ deed_back all lawful.machines.named lawful.machines.distinct script.version lawful.version place deed cast there
-      own in_version among))
-
-  -- lost entries are
-  loses_read : AreRead kind.Lose lose_reader lose_args [] script.loses
-  loses_read = all_read kind.Lose lose_reader lose_args [] script.loses (λ before lose after is.
-      room kind.Lose max_loses script.loses before after lose _ refl lawful.few_loses is
-      (ap (λ (m : Machines). lose_read m (lose_args lose)) roles
-      ∙ lose_back all lawful.machines.named lawful.machines.distinct lose
-      (middle (IsLose all) script.loses before after lose is lawful.loses)))
-
-  -- stops are
-  stops_read : AreRead kind.Stop stop_reader stop_args [] script.stops
-  stops_read = all_read kind.Stop stop_reader stop_args [] script.stops (λ before stop after is.
+  -- a stop's line is read as it, after those in front of it
+  stop_is : (before after : List StopAt) (stop : StopAt) → script.stops ≡ before ++ stop ∷ after →
+      (stop_read (roles_of (idle all)) (stopped_of (idle all) before) (drop 1 (stop_line all stop))
+      >>= unless_full kind.Stop before) ≡ Ok stop
+  stop_is before after stop is =
       let good : All (IsStopAt all) (before ++ stop ∷ after) = subst (All (IsStopAt all)) is lawful.stops in
       let back = stop_back all lawful.machines.named lawful.machines.distinct before stop
       (all_in_front (IsStopAt all) before (stop ∷ after) good)
       (middle (IsStopAt all) script.stops before after stop is lawful.stops)
       (fresh (λ (stop : StopAt). stop.machine) before after stop
       (subst (AllPairs (λ (stop other : StopAt). stop.machine ≢ other.machine)) is lawful.one_stop_each)) in
-      rw (roles, same_stops [] all before, back) refl)
+      rw (roles, same_stops [] all before, back) refl
 
-  -- steps are
-  steps_read : AreRead kind.Step step_reader (step_words all) [] script.steps
-  steps_read = all_read kind.Step step_reader (step_words all) [] script.steps (λ before step after is.
-      room kind.Step max_steps script.steps before after step _ refl lawful.few_steps is
-      (ap (λ (m : Machines). step_read m (step_words all step)) roles
-      ∙ step_back all lawful.machines.named lawful.machines.distinct step
-      (middle (IsStep all) script.steps before after step is lawful.steps)))
-
-  -- machines are read before they have anything to do
-  machines_read : AreRead kind.Machine cast_read machine_args [] (idle all)
-  machines_read = all_read kind.Machine cast_read machine_args [] (idle all) (λ before cast after is.
-      let size = size_busy 0 [] all in
-      let names : All (λ (cast : Cast0). IsName cast.name) (idle all) = λ i x within.
-      subst IsName (sym (get_busy 0 [] all i x)) (lawful.machines.named i x (omega (arith, within, size))) in
-      let distinct : AllPairs (λ (cast other : Cast0). cast.name ≢ other.name) (idle all) = λ i j x below within same.
-      lawful.machines.distinct i j x below (omega (arith, within, size))
-      (sym (get_busy 0 [] all i x) ∙ same ∙ (get_busy 0 [] all j x)) in
-      let said = machine_back before cast.name cast.role
-      (middle (λ (cast : Cast0). IsName cast.name) (idle all) before after cast is names)
-      (fresh (λ (cast : Cast0). cast.name) before after cast
-      (subst (AllPairs (λ (cast other : Cast0). cast.name ≢ other.name)) is distinct)) in
-      let free : cast.actions ≡ [] = middle (λ (cast : Cast0). cast.actions ≡ []) (idle all) before after cast is
-      (all_idle 0 all) in
-      let same : record { name = cast.name; role = cast.role; actions = [] } ≡ cast = grind (arith, free) in
-      room kind.Machine max_machines (idle all) before after cast _ refl
-      (omega (arith, size, lawful.machines.few.1)) is
-      (then_said (roles_of before) cast (machine_args cast) said same))
-
-  -- the lines of the kinds from the steps on, and so on
+  -- the lines of the kinds from the steps on, which are none of an earlier kind
   abbrev step_lines : Lines
-  step_lines = map (λ step. line_word kind.Step ∷ step_words all step) script.steps ++ []
+  step_lines = in_front kind.Step (step_line all) script.steps []
+
+  past_steps : (k : Kind) → rank k < 9 → IsPast k step_lines
+  past_steps k early = past kind.Step (step_line all) k script.steps [] early tt
 
   -- from the stops on
   abbrev stop_lines : Lines
-  stop_lines = map (λ stop. line_word kind.Stop ∷ stop_args stop) script.stops ++ step_lines
+  stop_lines = in_front kind.Stop (stop_line all) script.stops step_lines
+
+  past_stops : (k : Kind) → rank k < 8 → IsPast k stop_lines
+  past_stops k early = past kind.Stop (stop_line all) k script.stops step_lines early (past_steps k (omega arith))
 
   -- from the lost entries on
   abbrev lose_lines : Lines
-  lose_lines = map (λ lose. line_word kind.Lose ∷ lose_args lose) script.loses ++ stop_lines
+  lose_lines = in_front kind.Lose (lose_line all) script.loses stop_lines
+
+  past_loses : (k : Kind) → rank k < 7 → IsPast k lose_lines
+  past_loses k early = past kind.Lose (lose_line all) k script.loses stop_lines early (past_stops k (omega arith))
 
   -- from the deeds on
   abbrev do_lines : Lines
-  do_lines = map (λ done. line_word kind.Do ∷ do_args done) deeds ++ lose_lines
-
-  -- of each of these no earlier kind is
-  past_stops : IsPast kind.Stop step_lines
-  past_stops = past_map kind.Stop kind.Step (step_words all) script.steps [] refl tt
-
-  past_loses : IsPast kind.Lose stop_lines
-  past_loses =
-      past_map kind.Lose kind.Stop stop_args script.stops step_lines refl
-      (past_map kind.Lose kind.Step (step_words all) script.steps [] refl tt)
-
-  past_deeds : IsPast kind.Do lose_lines
-  past_deeds =
-      past_map kind.Do kind.Lose lose_args script.loses stop_lines refl
-      (past_map kind.Do kind.Stop stop_args script.stops step_lines refl
-      (past_map kind.Do kind.Step (step_words all) script.steps [] refl tt))
-
-  past_machines : IsPast kind.Machine do_lines
-  past_machines =
-      past_map kind.Machine kind.Do do_args deeds lose_lines refl
-      (past_map kind.Machine kind.Lose lose_args script.loses stop_lines refl
-      (past_map kind.Machine kind.Stop stop_args script.stops step_lines refl
-      (past_map kind.Machine kind.Step (step_words all) script.steps [] refl tt)))
+  do_lines = in_front kind.Do (do_line script.version all) deeds lose_lines
 
   -- the lines after the version's are read as the script
   from_seed_back : (version : ℕ × Left) → version.0 ≡ script.version →
       Tells version.1 (lines_of false script deeds) → script_after version ≡ Ok script
   from_seed_back (version, l0) stated t0 =
-      let (l1, t1, seed) = one_back kind.Seed seed_read (encode_lower script.seed ∷ []) script.seed l0 _ t0
+      let (l1, t1, seed) = one_back kind.Seed (λ seed. codes "seed" ∷ encode_lower seed ∷ []) seed_read script.seed l0 _ t0
       (seed_back script.seed lawful.seed lawful.octets) in
-      let (l2, t2, key) = one_back kind.Key key_read (ots_word script.kind ∷ height_word script.height ∷ [])
-      (script.kind, script.height) l1 _ t1 (key_back script.kind script.height lawful.height) in
-      let (l3, t3, log) = one_back kind.Log (one_number 1 max_events) (decimal script.log ∷ []) script.log l2 _ t2
-      (number_back 1 max_events script.log lawful.log (omega arith)) in
-      let (l4, t4, link) = one_back kind.Link (one_number 1 max_link) (decimal script.link ∷ []) script.link l3 _ t3
-      (number_back 1 max_link script.link lawful.link (omega arith)) in
+      let (l2, t2, key) = one_back kind.Key (λ (key : OtsKind × ℕ). codes "key" ∷ ots_word key.0 ∷ height_word key.1 ∷ [])
+      key_read (script.kind, script.height) l1 _ t1 (key_back script.kind script.height lawful.height) in
+      let (l3, t3, log) = one_back kind.Log (λ log. codes "log" ∷ decimal log ∷ []) (one_number 1 max_events) script.log l2
+      _ t2 (number_back 1 max_events script.log lawful.log (omega arith)) in
+      let (l4, t4, link) = one_back kind.Link (λ link. codes "link" ∷ decimal link ∷ []) (one_number 1 max_link)
+      script.link l3 _ t3 (number_back 1 max_link script.link lawful.link (omega arith)) in
       let t4' : Tells l4 (map machine_line (idle all) ++ do_lines) =
       subst (λ (lines : Lines). Tells l4 (lines ++ do_lines)) (sym (lines_busy 0 [] all)) t4 in
-      let size = size_busy 0 [] all in
-      let first = some_map kind.Machine cast_read machine_args [] (idle all) l4 do_lines
-      (omega (arith, size, lawful.machines.few.0)) t4' in
-      let (l5, t5, machines) = many_back kind.Machine cast_read machine_args [] (idle all) l4 do_lines machines_read
-      past_machines t4' in
-      let (l6, t6, done) = many_back kind.Do do_reader do_args [] deeds l5 lose_lines deeds_read past_deeds t5 in
-      let (l7, t7, loses) = many_back kind.Lose lose_reader lose_args [] script.loses l6 stop_lines loses_read
-      past_loses t6 in
-      let (l8, t8, stops) = many_back kind.Stop stop_reader stop_args [] script.stops l7 step_lines stops_read
-      past_stops t7 in
-      let (l9, t9, steps) = many_back kind.Step step_reader (step_words all) [] script.steps l8 [] steps_read tt t8 in
+      let first = some_back kind.Machine machine_line cast_read (idle all) l4 do_lines
+      (omega (arith, size_busy 0 [] all, lawful.machines.few.0)) t4' in
+      let (l5, t5, machines) = many_back kind.Machine machine_line cast_read (idle all)
+      (λ before cast after is. cast_back before after (idle all) cast is
+      (new_busy [] all (lawful.machines.few.1, lawful.machines.named, lawful.machines.distinct)) (all_idle 0 all))
+      [] (idle all) refl l4 do_lines
+      (past kind.Do (do_line script.version all) kind.Machine deeds lose_lines (omega arith)
+      (past_loses kind.Machine (omega arith))) t4' in
+      let (l6, t6, done) = each_back kind.Do (do_line script.version all) (do_read script.version (roles_of all))
+      (IsDone script.version all) max_actions refl (λ done (cast, there, own, in_version, among).
+      deed_back all lawful.machines.named lawful.machines.distinct script.version lawful.version done.0 done.1 cast there
+      own in_version among) deeds (deeds_done script deeds lawful are)
+      (omega (arith, deed_count script deeds are, lawful.machines.in_all)) l5 lose_lines
+      (past_loses kind.Do (omega arith)) t5 in
+      let (l7, t7, loses) = each_back kind.Lose (lose_line all) (lose_read (roles_of all)) (IsLose all) max_loses refl
+      (lose_back all lawful.machines.named lawful.machines.distinct) script.loses lawful.loses lawful.few_loses l6
+      stop_lines (past_stops kind.Lose (omega arith)) t6 in
+      let (l8, t8, stops) = many_back kind.Stop (stop_line all)
+      (λ stops. stop_read (roles_of (idle all)) (stopped_of (idle all) stops)) script.stops
+      (λ before stop after is. stop_is before after stop is) [] script.stops refl l7 step_lines
+      (past_steps kind.Stop (omega arith)) t7 in
+      let (l9, t9, steps) = each_back kind.Step (step_line all) (step_read (roles_of all)) (IsStep all) max_steps refl
+      (step_back all lawful.machines.named lawful.machines.distinct) script.steps lawful.steps lawful.few_steps l8 []
+      tt t8 in
       let one : one_supervisor (idle all) l5 ≡ Ok tt =
       rw (supervisors_busy 0 [] all ∙ lawful.machines.supervisor) refl in
       subst (λ v. script_after (v, l0) ≡ Ok script) (sym stated)
@@ -260,10 +206,13 @@ module _ (script : Script) (lawful : IsLawful script) (deeds : List (ℕ × Deed
       (then_is _ (script.link, l4) _ script link
       (then_is _ (idle all, l5) _ script (first ∙ machines)
       (then_is _ tt _ script one
-      (then_is _ (deeds, l6) _ script done
-      (then_is _ (script.loses, l7) _ script loses
+      (then_is _ (deeds, l6) _ script
+      (ap (λ (m : Machines). many kind.Do (λ deeds. do_read script.version m) [] l5) roles ∙ done)
+      (then_is _ (script.loses, l7) _ script
+      (ap (λ (m : Machines). many kind.Lose (λ loses. lose_read m) [] l6) roles ∙ loses)
       (then_is _ (script.stops, l8) _ script stops
-      (then_is _ (script.steps, l9) _ script steps
+      (then_is _ (script.steps, l9) _ script
+      (ap (λ (m : Machines). many kind.Step (λ steps. step_read m) [] l8) roles ∙ steps)
       (then_is _ tt _ script (none_back l9 t9)
       (ap (λ (ms : List Cast0). Ok (record script { machines = ms })) (busy_back 0 deeds all
       (λ k cast at. are.each k cast at ∙ ap (λ p. actions_at p deeds) (omega arith)))))))))))))))
@@ -283,12 +232,6 @@ module _ (script : Script) (lawful : IsLawful script) (deeds : List (ℕ × Deed
       (from_seed_back (1, left) (sym (untold refl)) tells)
 
 -- ---- machines
-
--- machines are few, and each has a name of its own
-abbrev AreNew : List Cast0 → Type 0
-AreNew machines =
-    (length machines ≤ max_machines) × All (λ (cast : Cast0). IsName cast.name) machines
-    × AllPairs (λ (cast other : Cast0). cast.name ≢ other.name) machines
 
 -- one more
 cast_gives : (before : List Cast0) (words : List (List ℕ)) → AreNew before →
@@ -345,14 +288,12 @@ module _ (part : Script) (deeds : List (ℕ × Deed)) where
     -- the machines may be a script's
     pub are_cast : AreNew part.machines → count_by (λ (cast : Cast0). is_supervisor cast.role) part.machines ≡ 1 →
         length deeds ≤ max_actions → AreCast part.version busy
-    are_cast (few, named, distinct) one most =
-        let size = size_busy 0 deeds part.machines in
+    are_cast new one most =
+        let (few, named, distinct) = new_busy deeds part.machines new in
         record {
-          few = (some part.machines one size, omega (arith, few, size));
-          named = λ i x within. subst IsName (sym (get_busy 0 deeds part.machines i x))
-              (named i x (omega (arith, within, size)));
-          distinct = λ i j x below within same. distinct i j x below (omega (arith, within, size))
-              (sym (get_busy 0 deeds part.machines i x) ∙ same ∙ get_busy 0 deeds part.machines j x);
+          few = (some part.machines one (size_busy 0 deeds part.machines), few);
+          named = named;
+          distinct = distinct;
           supervisor = supervisors_busy 0 deeds part.machines ∙ one;
           actions = casts;
           in_all = omega (arith, deed_count whole deeds in_order, most);
@@ -433,27 +374,27 @@ after_said version good l0 =
     } in
     let all : List Cast0 = busy part deeds in
     let roles : roles_of all ≡ roles_of machines = same_roles 0 deeds machines in
-    let (seed_good, seed_front) = one_said kind.Seed (λ seed. encode_lower seed ∷ []) seed_read
+    let (seed_good, seed_front) = one_said kind.Seed (λ seed. codes "seed" ∷ encode_lower seed ∷ []) seed_read
     (λ seed. IsBetween 1 32 (length seed) × IsBytes seed) seed_gives l0 (seed, l1) seed_is in
-    let (key_good, key_front) = one_said kind.Key (λ (key : OtsKind × ℕ). ots_word key.0 ∷ height_word key.1 ∷ []) key_read
+    let (key_good, key_front) = one_said kind.Key (λ (key : OtsKind × ℕ). codes "key" ∷ ots_word key.0 ∷ height_word key.1 ∷ []) key_read
     (λ key. IsHeight key.1) key_gives l1 ((signature, height), l2) key_is in
-    let (log_good, log_front) = one_said kind.Log (λ number. decimal number ∷ []) (one_number 1 max_events)
+    let (log_good, log_front) = one_said kind.Log (λ log. codes "log" ∷ decimal log ∷ []) (one_number 1 max_events)
     (IsBetween 1 max_events) (one_gives 1 max_events) l2 (log, l3) log_is in
-    let (link_good, link_front) = one_said kind.Link (λ number. decimal number ∷ []) (one_number 1 max_link)
+    let (link_good, link_front) = one_said kind.Link (λ link. codes "link" ∷ decimal link ∷ []) (one_number 1 max_link)
     (IsBetween 1 max_link) (one_gives 1 max_link) l3 (link, l4) link_is in
-    let (new, machines_front) = some_said kind.Machine (λ (cast : Cast0). cast.name ∷ role_word cast.role ∷ []) cast_read
-    _ l4 (many_said kind.Machine (λ (cast : Cast0). cast.name ∷ role_word cast.role ∷ []) cast_read AreNew
+    let (new, machines_front) = some_said kind.Machine machine_line cast_read
+    _ l4 (many_said kind.Machine machine_line cast_read AreNew
     cast_gives (omega arith, All-nil _, λ i j d below within. absurd (omega arith)) l4) (machines, l5) machines_are in
     let ((done, few_deeds), deeds_front) = each_said kind.Do
-    (λ (done : ℕ × Deed). name_at all done.0 ∷ deed_words version all done.1) (do_read version (roles_of all))
+    (do_line version all) (do_read version (roles_of all))
     (IsDone version all) max_actions refl (deed_gives all version good) l5 (deeds, l6)
     (ap (λ (m : Machines). many kind.Do (λ deeds. do_read version m) [] l5) roles ∙ deeds_are) in
     let ((lose, few_loses), loses_front) = each_said kind.Lose
-    (λ (lose : Lose). name_at all lose.from ∷ decimal lose.number ∷ name_at all lose.to ∷ []) (lose_read (roles_of all))
+    (lose_line all) (lose_read (roles_of all))
     (IsLose all) max_loses refl (lose_gives all) l6 (loses, l7)
     (ap (λ (m : Machines). many kind.Lose (λ loses. lose_read m) [] l6) roles ∙ loses_are) in
     let ((stop, distinct), stops_front) = many_said kind.Stop
-    (λ (stop : StopAt). name_at all stop.machine ∷ decimal stop.events ∷ [])
+    (stop_line all)
     (λ stops. stop_read (roles_of machines) (stopped_of machines stops))
     (λ stops. All (IsStopAt all) stops × AllPairs (λ (stop other : StopAt). stop.machine ≢ other.machine) stops)
     (λ before words (good, own) room stop is.
@@ -468,7 +409,7 @@ after_said version good l0 =
       are,
     ))
     (All-nil _, λ i j d below within. absurd (omega arith)) l7 (stops, l8) stops_are in
-    let ((step, few_steps), steps_front) = each_said kind.Step (step_words all) (step_read (roles_of all)) (IsStep all)
+    let ((step, few_steps), steps_front) = each_said kind.Step (step_line all) (step_read (roles_of all)) (IsStep all)
     max_steps refl (step_gives all) l8 (steps, l9)
     (ap (λ (m : Machines). many kind.Step (λ steps. step_read m) [] l8) roles ∙ steps_are) in
     let later : Lines = map (do_line version all) deeds ++ (map (lose_line all) loses ++ (map (stop_line all) stops
