@@ -80,10 +80,14 @@ from_kind kind.Lose = to_loses
 from_kind kind.Stop = to_stops
 from_kind kind.Step = to_steps
 
+-- the script from a line of the kind on, whose place is right or not
+abbrev after_placed : Sheet → Kind → ℕ → List (List ℕ) → Left → LineRead (Unit {0}) → LinesRead Script
+after_placed s k n words left placed =
+    at_line n (placed >>= λ done. after_words s k words) >>= λ next. resume next left
+
 -- the words of a line of the kind are read next
 next_is : (s : Sheet) (k : Kind) (n : ℕ) (words : List (List ℕ)) (left : Left) →
-    from_kind k (part_of s) s.deeds (Next n (Ok (k, words)) left)
-    ≡ (at_line n (after_words s k words) >>= λ next. resume next left)
+    from_kind k (part_of s) s.deeds (Next n (Ok (k, words)) left) ≡ after_placed s k n words left (Ok tt)
 next_is s kind.Version n words left = once n (one_number 1 2 words) left _ line.Version (put s) _ (λ a. refl)
 next_is s kind.Seed n words left = once n (seed_read words) left _ line.Seed (put s) _ (λ a. refl)
 next_is s kind.Key n words left = once n (key_read words) left _ (λ key. line.Key key.0 key.1) (put s) _ (λ a. refl)
@@ -105,26 +109,16 @@ next_is s kind.Step n words left =
     (λ a. refl)
 
 -- the first line after the machines is read where there is one supervisor
-begun : (s : Sheet) (k : Kind) (n : ℕ) (words : List (List ℕ)) (left : Left) →
-    (checked (is_supervised s.machines) (At n NotOneSupervisor) >>= λ done. from_kind k (part_of s) s.deeds (Next n (Ok (
-      k,
-      words,
-    )) left)) ≡ (at_line n (supervised_if (is_supervised s.machines) >>= λ placed. after_words s k words) >>= λ next.
-    resume next left)
-begun s k n words left = by (is_supervised s.machines)
-  where
-    by : (one : Bool) → (checked one (At n NotOneSupervisor) >>= λ done. from_kind k (part_of s) s.deeds (Next n (Ok (
-      k,
-      words,
-    )) left)) ≡ (at_line n (supervised_if one >>= λ placed. after_words s k words) >>= λ next. resume next left)
-    by true = next_is s k n words left
-    by false = refl
+begun : (s : Sheet) (k : Kind) (one : Bool) (n : ℕ) (words : List (List ℕ)) (left : Left) →
+    (checked one (At n NotOneSupervisor) >>= λ done. from_kind k (part_of s) s.deeds (Next n (Ok (k, words)) left))
+    ≡ after_placed s k n words left (supervised_if one)
+begun s k true n words left = next_is s k n words left
+begun s k false n words left = refl
 
 -- later ones are, since there is
 held : (s : Sheet) (k : Kind) → is_supervised s.machines ≡ true → (n : ℕ) (words : List (List ℕ)) (left : Left) →
     from_kind k (part_of s) s.deeds (Next n (Ok (k, words)) left)
-    ≡ (at_line n (supervised_if (is_supervised s.machines) >>= λ placed. after_words s k words) >>= λ next.
-    resume next left)
+    ≡ after_placed s k n words left (supervised_if (is_supervised s.machines))
 held s k one n words left = rw one (next_is s k n words left)
 
 -- ---- by the last kind
@@ -159,10 +153,10 @@ from_any s (Some kind.Log) is k = λ n words left. refl
 from_any s (Some kind.Link) is kind.Machine = next_is (ended_by s (Some kind.Link)) kind.Machine
 from_any s (Some kind.Link) is k = λ n words left. refl
 from_any s (Some kind.Machine) is kind.Machine = next_is (ended_by s (Some kind.Machine)) kind.Machine
-from_any s (Some kind.Machine) is kind.Do = begun (ended_by s (Some kind.Machine)) kind.Do
-from_any s (Some kind.Machine) is kind.Lose = begun (ended_by s (Some kind.Machine)) kind.Lose
-from_any s (Some kind.Machine) is kind.Stop = begun (ended_by s (Some kind.Machine)) kind.Stop
-from_any s (Some kind.Machine) is kind.Step = begun (ended_by s (Some kind.Machine)) kind.Step
+from_any s (Some kind.Machine) is kind.Do = begun (ended_by s (Some kind.Machine)) kind.Do (is_supervised s.machines)
+from_any s (Some kind.Machine) is kind.Lose = begun (ended_by s (Some kind.Machine)) kind.Lose (is_supervised s.machines)
+from_any s (Some kind.Machine) is kind.Stop = begun (ended_by s (Some kind.Machine)) kind.Stop (is_supervised s.machines)
+from_any s (Some kind.Machine) is kind.Step = begun (ended_by s (Some kind.Machine)) kind.Step (is_supervised s.machines)
 from_any s (Some kind.Machine) is k = λ n words left. either (is_supervised s.machines) (At n OutOfOrder)
 from_any s (Some kind.Do) is kind.Do = held (ended_by s (Some kind.Do)) kind.Do (is (omega arith))
 from_any s (Some kind.Do) is kind.Lose = held (ended_by s (Some kind.Do)) kind.Lose (is (omega arith))
