@@ -20,7 +20,7 @@ use Rattle.election_script.specs.Left.{Left, End, Next, LinesRead, many, is_most
 use Rattle.election_script.specs.Reading.{version_read, cast_read, one_supervisor, none_left, script_after, script_from}
 use Rattle.election_script.proofs.ReadWords.{number_back, seed_back, key_back, machine_back, deed_back, lose_back}
 use Rattle.election_script.proofs.ReadWords.{stop_back, step_back}
-use Rattle.election_script.proofs.Parts.{middle, all_in_front, fresh}
+use Rattle.election_script.proofs.Parts.{middle, all_in_front, fresh, fresh_push}
 use Rattle.election_script.proofs.DeedCount.{deed_count, deeds_done}
 use Rattle.election_script.proofs.Busy.{same_roles, same_stops, supervisors_busy, get_busy, size_busy, lines_busy}
 use Rattle.election_script.proofs.Busy.{each_busy, own_deeds}
@@ -241,15 +241,9 @@ cast_gives before words (few, named, distinct) room =
     then_gives _ _ _ _ (machine_gives before words) (λ said (good, new, is).
     let cast : Cast0 = record { name = said.0; role = said.1; actions = [] } in
     let free = leb-false max_machines (length before) room in
-    value_gives _ cast (
-      (
-        omega (arith, free, length_push before cast),
-        All-push (λ (cast : Cast0). IsName cast.name) before cast named good,
-        all_pairs_push (λ (cast other : Cast0). cast.name ≢ other.name) before cast distinct
-            (λ k x below same. new (k, get_or before k x, below, get_or_default before k _ _ below, same)),
-      ),
-      is,
-    ))
+    let most : length (before ++ cast ∷ []) ≤ max_machines = omega (arith, free, length_push before cast) in
+    let names = All-push (λ (cast : Cast0). IsName cast.name) before cast named good in
+    value_gives _ cast ((most, names, fresh_push (λ (cast : Cast0). cast.name) before cast distinct new), is))
 
 module _ (part : Script) (deeds : List (ℕ × Deed)) where
   -- the machines with what they are to do
@@ -325,26 +319,18 @@ version_is : (left : Left) → Gives (version_read 1 left) (λ (version, rest). 
 version_is (Next n (Ok (kind.Version, words)) left) =
     then_gives _ _ (λ number. IsBetween 1 2 number × (words ≡ decimal number ∷ [])) _
     (λ number is. one_gives 1 2 words number (at_line_is n (one_number 1 2 words) number is)) (λ number (between, are).
-    value_gives _ (number, left) (
-      elim (cases_eq number 1) [
-        | inl is ↦ inl is
-        | inr other ↦ inr (omega (arith, between, other))
-      ],
-      (
-        true,
-        (λ untold. cc),
-        λ lines tells. (
-          ap (λ args. Ok (kind.Version, args)) are ∙ sym (head_is kind.Version (decimal number ∷ [])),
-          tells,
-        ),
-      ),
-    ))
+    let good : IsVersion number = elim (cases_eq number 1) [
+      | inl is ↦ inl is
+      | inr other ↦ inr (omega (arith, between, other))
+    ] in
+    let head = ap (λ args. Ok (kind.Version, args)) are ∙ sym (head_is kind.Version (decimal number ∷ [])) in
+    value_gives _ (number, left) (good, (true, (λ untold. cc), λ lines tells. (head, tells))))
 version_is left = value_gives _ (1, left) (inl refl, (false, (λ untold. refl), λ lines tells. tells))
 
 -- the script that is read is lawful, and its lines are these
 abbrev pub IsSaid : Left → Bool → Script → Type 0
 IsSaid left told script =
-    IsLawful script × ((deeds : List (ℕ × Deed)) × AreDeedsOf script deeds × Tells left (lines_of told script deeds))
+    IsLawful script × (deeds : List (ℕ × Deed)) × AreDeedsOf script deeds × Tells left (lines_of told script deeds)
 
 after_said : (version : ℕ) → IsVersion version → (left : Left) →
     Gives (script_after (version, left)) (λ script. (script.version ≡ version) × IsSaid left false script)
@@ -382,32 +368,23 @@ after_said version good l0 =
     (IsBetween 1 max_events) (one_gives 1 max_events) l2 (log, l3) log_is in
     let (link_good, link_front) = one_said kind.Link (λ link. codes "link" ∷ decimal link ∷ []) (one_number 1 max_link)
     (IsBetween 1 max_link) (one_gives 1 max_link) l3 (link, l4) link_is in
-    let (new, machines_front) = some_said kind.Machine machine_line cast_read
-    _ l4 (many_said kind.Machine machine_line cast_read AreNew
-    cast_gives (omega arith, All-nil _, λ i j d below within. absurd (omega arith)) l4) (machines, l5) machines_are in
-    let ((done, few_deeds), deeds_front) = each_said kind.Do
-    (do_line version all) (do_read version (roles_of all))
+    let (new, machines_front) = some_said kind.Machine machine_line cast_read _ l4 (many_said kind.Machine machine_line
+    cast_read AreNew cast_gives (omega arith, All-nil _, λ i j d below within. absurd (omega arith)) l4) (machines, l5) machines_are in
+    let ((done, few_deeds), deeds_front) = each_said kind.Do (do_line version all) (do_read version (roles_of all))
     (IsDone version all) max_actions refl (deed_gives all version good) l5 (deeds, l6)
     (ap (λ (m : Machines). many kind.Do (λ deeds. do_read version m) [] l5) roles ∙ deeds_are) in
-    let ((lose, few_loses), loses_front) = each_said kind.Lose
-    (lose_line all) (lose_read (roles_of all))
-    (IsLose all) max_loses refl (lose_gives all) l6 (loses, l7)
+    let ((lose, few_loses), loses_front) = each_said kind.Lose (lose_line all) (lose_read (roles_of all)) (IsLose all)
+    max_loses refl (lose_gives all) l6 (loses, l7)
     (ap (λ (m : Machines). many kind.Lose (λ loses. lose_read m) [] l6) roles ∙ loses_are) in
-    let ((stop, distinct), stops_front) = many_said kind.Stop
-    (stop_line all)
+    let ((stop, distinct), stops_front) = many_said kind.Stop (stop_line all)
     (λ stops. stop_read (roles_of machines) (stopped_of machines stops))
     (λ stops. All (IsStopAt all) stops × AllPairs (λ (stop other : StopAt). stop.machine ≢ other.machine) stops)
     (λ before words (good, own) room stop is.
     let ((lawful, new), are) = stop_gives all before words stop
     (ap (λ (m : Machines). stop_read m (stopped_of all before) words) roles
-    ∙ ap (λ stopped. stop_read (roles_of machines) stopped words) (same_stops deeds machines before) ∙ is) in (
-      (
-        All-push (IsStopAt all) before stop good lawful,
-        all_pairs_push (λ (stop other : StopAt). stop.machine ≢ other.machine) before stop own
-            (λ k x below same. new (k, get_or before k x, below, get_or_default before k _ _ below, same)),
-      ),
-      are,
-    ))
+    ∙ ap (λ stopped. stop_read (roles_of machines) stopped words) (same_stops deeds machines before) ∙ is) in
+    let places = fresh_push (λ (stop : StopAt). stop.machine) before stop own new in
+    ((All-push (IsStopAt all) before stop good lawful, places), are))
     (All-nil _, λ i j d below within. absurd (omega arith)) l7 (stops, l8) stops_are in
     let ((step, few_steps), steps_front) = each_said kind.Step (step_line all) (step_read (roles_of all)) (IsStep all)
     max_steps refl (step_gives all) l8 (steps, l9)
@@ -415,33 +392,25 @@ after_said version good l0 =
     let later : Lines = map (do_line version all) deeds ++ (map (lose_line all) loses ++ (map (stop_line all) stops
     ++ (map (step_line all) steps ++ []))) in
     let tells = steps_front [] (none_is l9 ended ended_is) in
-    value_gives _ (whole part deeds) (
-      refl,
-      (
-        record {
-          version = good;
-          seed = seed_good.0;
-          octets = seed_good.1;
-          height = key_good;
-          log = log_good;
-          link = link_good;
-          machines = are_cast part deeds done new (supervisor_is machines l5 one one_is) few_deeds;
-          loses = lose;
-          few_loses = few_loses;
-          stops = stop;
-          one_stop_each = distinct;
-          steps = step;
-          few_steps = few_steps;
-        },
-        (
-          deeds,
-          in_order part deeds done,
-          seed_front _ (key_front _ (log_front _ (link_front _
-              (subst (λ (first : Lines). Tells l4 (first ++ later)) (sym (lines_busy 0 deeds machines))
-              (machines_front later (deeds_front _ (loses_front _ (stops_front _ tells)))))))),
-        ),
-      ),
-    ))))))))))))
+    let lawful : IsLawful (whole part deeds) = record {
+      version = good;
+      seed = seed_good.0;
+      octets = seed_good.1;
+      height = key_good;
+      log = log_good;
+      link = link_good;
+      machines = are_cast part deeds done new (supervisor_is machines l5 one one_is) few_deeds;
+      loses = lose;
+      few_loses = few_loses;
+      stops = stop;
+      one_stop_each = distinct;
+      steps = step;
+      few_steps = few_steps;
+    } in
+    value_gives _ (whole part deeds) (refl, (lawful, deeds, in_order part deeds done,
+    seed_front _ (key_front _ (log_front _ (link_front _
+    (subst (λ (first : Lines). Tells l4 (first ++ later)) (sym (lines_busy 0 deeds machines))
+    (machines_front later (deeds_front _ (loses_front _ (stops_front _ tells)))))))))))))))))))))
 
 -- the version's line stands in front
 stated : (left : Left) (script : Script) (deeds : List (ℕ × Deed)) (told : Bool) →
@@ -454,18 +423,9 @@ stated left script deeds false tells = tells
 pub script_said : (left : Left) → Gives (script_from left) (λ script. (told : Bool) × (told ≡ false → script.version ≡ 1)
     × IsSaid left told script)
 script_said left = then_gives _ _ _ _ (version_is left) (λ (version, rest) (good, (told, untold, front)) script is.
-    let (same, (lawful, (deeds, in_order, tells))) = after_said version good rest script is in
-    let lines : Lines = lines_of false script deeds in (
-      told,
-      (λ unsaid. same ∙ untold unsaid),
-      (
-        lawful,
-        (
-          deeds,
-          in_order,
-          stated left script deeds told
-              (subst (λ v. Tells left (cond told ((codes "version" ∷ decimal v ∷ []) ∷ lines) lines)) (sym same)
-              (front lines tells)),
-        ),
-      ),
-    ))
+    let (same, (lawful, deeds, in_order, tells)) = after_said version good rest script is in
+    let lines : Lines = lines_of false script deeds in
+    let all = stated left script deeds told
+    (subst (λ v. Tells left (cond told ((codes "version" ∷ decimal v ∷ []) ∷ lines) lines)) (sym same) (front lines tells))
+    in
+    (told, (λ unsaid. same ∙ untold unsaid), (lawful, deeds, in_order, all)))

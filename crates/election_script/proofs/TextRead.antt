@@ -125,7 +125,7 @@ lines_told number (line ∷ lines) words good tells = elim (cases_Bool (is_passe
 -- what is read as a script is a text of it
 pub text_said : (text : List ℕ) (script : Script) → script_of text ≡ Ok script → IsTextOf text script
 text_said text script is =
-    let (told, untold, (lawful, (deeds, in_order, tells))) = script_said (left_from 1 (text_lines text)) script is in
+    let (told, untold, (lawful, deeds, in_order, tells)) = script_said (left_from 1 (text_lines text)) script is in
     record {
       lawful = lawful;
       deeds = deeds;
