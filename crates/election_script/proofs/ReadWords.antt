@@ -35,7 +35,7 @@ use Rattle.election_script.specs.declared.kinds.StepName.{StepName}
 use Rattle.entry_format.specs.declared.deed.How.{How}
 use Rattle.entry_format.specs.EntryText.{IsDeedIn}
 use Rattle.election_script.specs.Words.{octets_in}
-use Rattle.election_script.specs.Kinds.{deed_names, step_names}
+use Rattle.election_script.specs.Kinds.{deed_names, later_deeds, step_names}
 use Rattle.election_script.specs.Machines.{is_of_role}
 use Rattle.election_script.specs.Deeds.{plain_deed, session_deed, named_deed}
 use Rattle.election_script.specs.Lines.{own_step, named_step}
@@ -514,6 +514,10 @@ module _ (machines : List Cast0) where
         (λ read ((at, (cast, there, own)), (good, is)).
         value_gives _ (read.0, Cast read.1 read.2) ((cast, there, own, tt, good), cc))
 
+    -- the deeds of all versions, before those of one
+    common : AreRows IsDeedSaid (later_deeds version) → AreRows IsDeedSaid (deed_names version)
+    common later = (open_is, (authorise_is, (close_is, (activate_is, (commit_is, (cast_is, (cancel_is, later)))))))
+
   -- what only one version has
   override_is : IsDeedSaid 1 (codes "override") deed.Override
   override_is name words = then_gives _ _ _ _ (session_gives 1 Supervisor name words)
@@ -541,50 +545,10 @@ module _ (machines : List Cast0) where
 
   -- what a version has
   deeds_are : (version : ℕ) → IsVersion version → AreRows (IsDeedSaid version) (deed_names version)
-  deeds_are version (inl one) = subst (λ v. AreRows (IsDeedSaid v) (deed_names v)) (sym one) (
-    open_is 1,
-    (
-      authorise_is 1,
-      (
-        close_is 1,
-        (
-          activate_is 1,
-          (
-            commit_is 1,
-            (
-              cast_is 1,
-              (
-                cancel_is 1,
-                (override_is, tt),
-              ),
-            ),
-          ),
-        ),
-      ),
-    ),
-  )
-  deeds_are version (inr two) = subst (λ v. AreRows (IsDeedSaid v) (deed_names v)) (sym two) (
-    open_is 2,
-    (
-      authorise_is 2,
-      (
-        close_is 2,
-        (
-          activate_is 2,
-          (
-            commit_is 2,
-            (
-              cast_is 2,
-              (
-                cancel_is 2,
-                (override_how_is, (challenge_is, tt)),
-              ),
-            ),
-          ),
-        ),
-      ),
-    ),
-  )
+  deeds_are version (inl one) =
+      common version (subst (λ v. AreRows (IsDeedSaid v) (later_deeds v)) (sym one) (override_is, tt))
+  deeds_are version (inr two) =
+      common version (subst (λ v. AreRows (IsDeedSaid v) (later_deeds v)) (sym two) (override_how_is, (challenge_is, tt)))
 
   pub deed_gives : (version : ℕ) → IsVersion version → (words : List (List ℕ)) →
       Gives (do_read version (roles_of machines) words)
