@@ -24,6 +24,7 @@ use Rattle.election_script.proofs.Names.{between_test, name_test}
 use Rattle.election_script.proofs.Places.{AreDistinct, cast_at, name_read, place_back, place_none, own_role, same_place}
 use Rattle.election_script.proofs.Places.{stop_new, from, place_unknown, stop_among}
 use Rattle.election_script.proofs.Spaceless.{AreNamed}
+use Rattle.election_script.proofs.Named.{role_named, how_named, kind_named, height_named}
 use Rattle.election_script.proofs.Named.{some_role, some_how, some_kind, some_height, AreRows, row_is}
 use Rattle.std.proofs.Common.{true≢false}
 use Rattle.hall_text.specs.Words.{number_in, value_from, digest_in, in_lower_case}
@@ -279,10 +280,8 @@ row_gives P rows word are = some_gives (named rows word) _ (P word) (row_is P ro
 pub key_gives : (words : List (List ℕ)) → Gives (key_read words)
     (λ key. IsHeight key.1 × (words ≡ ots_word key.0 ∷ height_word key.1 ∷ []))
 key_gives (first ∷ second ∷ []) =
-    then_gives _ _ _ _ (row_gives (λ word kind. word ≡ ots_word kind) key_kinds first (refl, (refl, (refl, (refl, tt)))))
-    (λ kind is. then_gives _ _ _ _
-    (row_gives (λ word height. IsHeight height × (word ≡ height_word height)) key_heights second
-    ((inl refl, refl), ((inr refl, refl), tt))) (λ height (good, also).
+    then_gives _ _ _ _ (some_gives (named key_kinds first) _ _ (kind_named first)) (λ kind is.
+    then_gives _ _ _ _ (some_gives (named key_heights second) _ _ (height_named second)) (λ height (good, also).
     value_gives _ (kind, height) (good, cc)))
 key_gives words = λ a is. cc
 
@@ -346,7 +345,7 @@ module _ (machines : List Cast0) where
       (unless_gives _ _ _ _ (λ good. unless_gives _ _ _ _ (λ unknown.
       value_gives _ name ((name_test name).0 (unnot _ good), place_unknown machines name (none_is _ unknown), refl))))
       (λ own (good, new, same). then_gives _ _ _ _
-      (row_gives (λ word role. word ≡ role_word role) role_names word (refl, (refl, tt))) (λ role is.
+      (some_gives (named role_names word) _ _ (role_named word)) (λ role is.
       value_gives _ (own, role) (good, new, cc)))
   machine_gives words = λ a is. cc
 
@@ -532,7 +531,7 @@ module _ (machines : List Cast0) where
   override_how_is name (word ∷ said ∷ []) = then_gives _ _ (λ read. (IsNamedAt machines name read.0
       × HasRoleAt machines Supervisor read.0) × (IsSession read.1 × ((word ≡ decimal read.1) × (said ≡ how_word read.2)))) _
       (then_gives _ _ _ _ (role_session_gives Supervisor name word) (λ read (has, (good, is)).
-      then_gives _ _ _ _ (row_gives (λ w how. w ≡ how_word how) how_names said (refl, (refl, tt))) (λ how also.
+      then_gives _ _ _ _ (some_gives (named how_names said) _ _ (how_named said)) (λ how also.
       value_gives _ (read.0, read.1, how) (has, (good, (is, also))))))
       (λ read ((at, (cast, there, own)), (good, (is, also))).
       value_gives _ (read.0, Override read.1 read.2) ((cast, there, own, how_in_two read.1 read.2, good), cc))

@@ -1,4 +1,5 @@
 -- A text of a script is read as the script.
+use Rattle.std.proofs.Common.{◌↔◌}
 use Rattle.std.proofs.Common.{cond}
 use Rattle.std.specs.Prelude.{not, filter}
 use Rattle.election_script.proofs.Imports.{◌≡◌, ◌∙◌, ap, sym, refl, ℕ, ◌+◌, Bool, true, false, List, [], ◌∷◌, map}
@@ -37,38 +38,6 @@ first_kept : (line : List ℕ) (lines : List (List ℕ)) (over : Bool) → is_pa
     filter is_told (line ∷ lines) ≡ cond (not over) (line ∷ filter is_told lines) (filter is_told lines)
 first_kept line lines over is = ap (λ b. cond (not b) (line ∷ filter is_told lines) (filter is_told lines)) is
 
--- the lines that count are those of the words
-lines_tell : (number : ℕ) (lines : List (List ℕ)) (words : Lines) → filter is_told lines ≡ map line_of words →
-    list_all is_own words ≡ true → Tells (left_from number lines) words
-lines_tell number [] [] same good = tt
-lines_tell number [] (line ∷ words) same good = cc
-lines_tell number (line ∷ lines) words same good = elim (cases_Bool (is_passed_over line)) [
-  | inl over ↦
-      rw over (lines_tell (number + 1) lines words (sym (first_kept line lines true over) ∙ same) good)
-  | inr other ↦ next words (sym (first_kept line lines false other) ∙ same) good (lines_tell (number + 1) lines) other
-]
-  where
-    -- the line is the next of the words
-    next : (words : Lines) → line ∷ filter is_told lines ≡ map line_of words → list_all is_own words ≡ true →
-        ((more : Lines) → filter is_told lines ≡ map line_of more → list_all is_own more ≡ true →
-        Tells (left_from (number + 1) lines) more) → is_passed_over line ≡ false →
-        Tells (left_from number (line ∷ lines)) words
-    next [] same good go other = cc
-    next (words ∷ more) same good go other =
-        let (is_first, are_more) = and_parts (is_own words) (list_all is_own more) good in
-        let first : line ≡ line_of words = cc in
-        let rest : filter is_told lines ≡ map line_of more = cc in
-        rw other (ap head_of first ∙ head_back words is_first, go more rest are_more)
-
--- a text of a script is read as it
-pub text_read : (text : List ℕ) (script : Script) → IsTextOf text script → script_of text ≡ Ok script
-text_read text script is =
-    script_back script is.lawful is.deeds is.in_order is.told is.untold (left_from 1 (text_lines text))
-    (lines_tell 1 (text_lines text) (lines_of is.told script is.deeds) is.spelt
-    (script_lines is.told script is.deeds is.lawful is.in_order))
-
--- ---- the other way
-
 -- words with a space between each two are joined by it
 spaced : (words : List (List ℕ)) → line_of words ≡ join_with_byte 32 words
 spaced [] = refl
@@ -100,27 +69,46 @@ line_is_of line words own is =
     let (k, args, are) = (own_line words own).1 in
     sym (line_is line) ∙ ap line_of (words_are line k args (is ∙ ap kind_and_words are ∙ head_is k args) ∙ sym are)
 
--- the lines that count are those whose words are told
-lines_told : (number : ℕ) (lines : List (List ℕ)) (words : Lines) → list_all is_own words ≡ true →
-    Tells (left_from number lines) words → filter is_told lines ≡ map line_of words
-lines_told number [] [] good tells = refl
-lines_told number [] (first ∷ words) good tells = absurd tells
-lines_told number (line ∷ lines) words good tells = elim (cases_Bool (is_passed_over line)) [
-  | inl over ↦ first_kept line lines true over ∙ lines_told (number + 1) lines words good (rw over at tells)
-  | inr other ↦ first_kept line lines false other ∙ next words good (rw other at tells)
-      (lines_told (number + 1) lines)
+-- the lines that count are those of the words exactly if their words are told
+lines_tell : (number : ℕ) (lines : List (List ℕ)) (words : Lines) → list_all is_own words ≡ true →
+    (filter is_told lines ≡ map line_of words) ↔ Tells (left_from number lines) words
+lines_tell number [] [] good = (λ same. tt, λ tells. refl)
+lines_tell number [] (first ∷ words) good = (λ same. cc, λ tells. absurd tells)
+lines_tell number (line ∷ lines) words good = elim (cases_Bool (is_passed_over line)) [
+  | inl over ↦
+      let later = lines_tell (number + 1) lines words good in
+      let kept = first_kept line lines true over in
+      (λ same. rw over (later.0 (sym kept ∙ same)), λ tells. kept ∙ later.1 (rw over at tells))
+  | inr other ↦
+      let later = next words good (lines_tell (number + 1) lines) in
+      let kept = first_kept line lines false other in
+      (λ same. rw other (later.0 (sym kept ∙ same)), λ tells. kept ∙ later.1 (rw other at tells))
 ]
   where
-    next : (words : Lines) → list_all is_own words ≡ true →
-        Tells (Next number (head_of line) (left_from (number + 1) lines)) words →
-        ((more : Lines) → list_all is_own more ≡ true → Tells (left_from (number + 1) lines) more →
-        filter is_told lines ≡ map line_of more) → line ∷ filter is_told lines ≡ map line_of words
-    next [] good tells go = absurd tells
-    next (first ∷ words) good (is, more) go =
-        let (own, others) = and_parts (is_own first) (list_all is_own words) good in
-        let here = line_is_of line first own is in
-        let later = go words others more in
-        cc
+    -- the line is the next of the words
+    next : (words : Lines) → list_all is_own words ≡ true → ((more : Lines) → list_all is_own more ≡ true →
+        (filter is_told lines ≡ map line_of more) ↔ Tells (left_from (number + 1) lines) more) →
+        (line ∷ filter is_told lines ≡ map line_of words)
+        ↔ Tells (Next number (head_of line) (left_from (number + 1) lines)) words
+    next [] good go = (λ same. cc, λ tells. absurd tells)
+    next (words ∷ more) good go =
+        let (own, others) = and_parts (is_own words) (list_all is_own more) good in (
+          λ same.
+              let first : line ≡ line_of words = cc in
+              let rest : filter is_told lines ≡ map line_of more = cc in
+              (ap head_of first ∙ head_back words own, (go more others).0 rest),
+          λ (is, tells).
+              let here = line_is_of line words own is in
+              let rest = (go more others).1 tells in
+              cc,
+        )
+
+-- a text of a script is read as it
+pub text_read : (text : List ℕ) (script : Script) → IsTextOf text script → script_of text ≡ Ok script
+text_read text script is =
+    script_back script is.lawful is.deeds is.in_order is.told is.untold (left_from 1 (text_lines text))
+    ((lines_tell 1 (text_lines text) (lines_of is.told script is.deeds)
+    (script_lines is.told script is.deeds is.lawful is.in_order)).0 is.spelt)
 
 -- what is read as a script is a text of it
 pub text_said : (text : List ℕ) (script : Script) → script_of text ≡ Ok script → IsTextOf text script
@@ -132,6 +120,6 @@ text_said text script is =
       told = told;
       untold = untold;
       in_order = in_order;
-      spelt = lines_told 1 (text_lines text) (lines_of told script deeds)
-          (script_lines told script deeds lawful in_order) tells;
+      spelt = (lines_tell 1 (text_lines text) (lines_of told script deeds)
+          (script_lines told script deeds lawful in_order)).1 tells;
     }
