@@ -12,7 +12,7 @@ use Rattle.election_script.specs.Words.{◌>>=◌}
 use Rattle.election_script.specs.Lawful.{max_events, max_link}
 use Rattle.election_script.specs.Lines.{machine_said}
 use Rattle.election_script.specs.Left.{Left, End, Next, LinesRead, Head, at_line, one, is_most, most_lines}
-use Rattle.election_script.specs.inside.Resume.{part_of, resume, with_room, after_words, after_line, after}
+use Rattle.election_script.specs.inside.Resume.{part_of, resume, after_words, after_line, after}
 use Rattle.election_script.specs.inside.Resume.{ended}
 use Rattle.election_script.specs.Reading.{script_from}
 use Rattle.election_script.specs.inside.Sheets.{blank, script_in, is_supervised}
@@ -20,7 +20,7 @@ use Rattle.election_script.specs.inside.Lines.{reached_by}
 use Rattle.election_script.proofs.Imports.{◌<◌}
 use Rattle.election_script.proofs.Imports.{arith}
 use Rattle.election_script.specs.inside.Resume.{to_version, to_seed, to_key, to_log, to_link}
-use Rattle.election_script.specs.inside.Resume.{to_machine, to_machines, to_deeds, to_loses, to_stops, to_steps}
+use Rattle.election_script.specs.inside.Resume.{to_machines, to_deeds, to_loses, to_stops, to_steps}
 
 -- a line that comes once
 once : {A B S C : Type 0} (n : ℕ) (r : LineRead A) (left : Left) (f : A × Left → LinesRead C) (m : A → B)

@@ -1,8 +1,8 @@
 -- What a word names in the tables of roles, ways to override, kinds of key and heights.
-use Rattle.election_script.proofs.Imports.{◌≡◌, ◌≢◌, ◌∙◌, sym, ap, subst, refl, ℕ, Bool, true, false, List, [], ◌∷◌}
-use Rattle.election_script.proofs.Imports.{inl, inr, Option, Some, None, map, bytes_eq, bytes_eq-Decides, how_word, How}
+use Rattle.election_script.proofs.Imports.{◌≡◌, ◌≢◌, ◌∙◌, sym, ap, subst, refl, ℕ, List, [], ◌∷◌}
+use Rattle.election_script.proofs.Imports.{inl, inr, Option, Some, None, bytes_eq, bytes_eq-Decides, how_word, How}
 use Rattle.election_script.proofs.Imports.{IfSome, IfNone, ok_or, UnknownWord, in_table}
-use Rattle.election_script.proofs.Imports.{OtsKind, W1, W2, W4, W8, ots_word, IsHeight, height_word, Role, Supervisor}
+use Rattle.election_script.proofs.Imports.{OtsKind, W1, ots_word, IsHeight, height_word, Role, Supervisor}
 use Rattle.election_script.proofs.Imports.{Booth, role_word, named, role_names, how_names, key_kinds, key_heights}
 use Rattle.election_script.proofs.Imports.{Kind, line_kinds, line_word}
 use Rattle.election_script.proofs.Gives.{either_some}

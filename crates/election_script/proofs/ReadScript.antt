@@ -1,14 +1,14 @@
 -- The lines of a script are read as it, and no others are.
 use Rattle.election_script.proofs.Imports.{◌≡◌, ◌≢◌, ◌∙◌, ap, sym, subst, refl, ℕ, suc, ◌+◌, Bool, true, false, List}
-use Rattle.election_script.proofs.Imports.{[], ◌∷◌, ◌++◌, map, Some, Ok, Err, All, AllPairs, slice_get, Lines, LineRead}
-use Rattle.election_script.proofs.Imports.{Cast0, Lose, StopAt, Script, IsLawful, AreDeedsOf, IsName, IsDone, IsLose}
-use Rattle.election_script.proofs.Imports.{IsStopAt, IsStep, Step, Deed, name_at, role_word, deed_words, step_words}
+use Rattle.election_script.proofs.Imports.{[], ◌∷◌, ◌++◌, map, Some, Ok, Err, All, AllPairs, slice_get, Lines}
+use Rattle.election_script.proofs.Imports.{Cast0, StopAt, Script, IsLawful, AreDeedsOf, IsName, IsDone, IsLose}
+use Rattle.election_script.proofs.Imports.{IsStopAt, IsStep, Deed, role_word}
 use Rattle.election_script.proofs.Imports.{decimal, encode_lower, roles_of, stopped_of, with_deeds, actions_at, do_read}
-use Rattle.election_script.proofs.Imports.{lose_read, stop_read, step_read, IsBetween, Machines, inl, inr, line_word}
-use Rattle.election_script.proofs.Imports.{machine_said, codes, All-nil, All-cons, seed_read, key_read, one_number}
+use Rattle.election_script.proofs.Imports.{lose_read, stop_read, step_read, IsBetween, Machines, inl, inr}
+use Rattle.election_script.proofs.Imports.{codes, All-nil, All-cons, seed_read, key_read, one_number}
 use Rattle.election_script.proofs.Imports.{ots_word, height_word, lines_of, machine_line, arith, max_link, max_events}
-use Rattle.election_script.proofs.Imports.{max_actions, ◌<◌, ◌≤◌, length, get_or, get_or_default, All-push, All-same}
-use Rattle.election_script.proofs.Imports.{All-weaker, all_pairs_push, cond, length_push, slice_get_within}
+use Rattle.election_script.proofs.Imports.{max_actions, ◌<◌, ◌≤◌, length, get_or, All-push, All-same}
+use Rattle.election_script.proofs.Imports.{All-weaker, cond, length_push, slice_get_within}
 use Rattle.election_script.proofs.Imports.{slice_get-get_or, count_by, cases_eq, OtsKind, IsVersion, is_supervisor}
 use Rattle.election_script.proofs.Imports.{IsHeight, IsBytes, IsDeedOf, IsDeedIn, IsDeedAmong, IsCast, AreCast}
 use Rattle.election_script.proofs.Imports.{version_line, do_line, lose_line, stop_line, step_line, max_machines}
@@ -407,10 +407,17 @@ after_said version good l0 =
       steps = step;
       few_steps = few_steps;
     } in
-    value_gives _ (whole part deeds) (refl, (lawful, deeds, in_order part deeds done,
-    seed_front _ (key_front _ (log_front _ (link_front _
-    (subst (λ (first : Lines). Tells l4 (first ++ later)) (sym (lines_busy 0 deeds machines))
-    (machines_front later (deeds_front _ (loses_front _ (stops_front _ tells)))))))))))))))))))))
+    value_gives _ (whole part deeds) (
+      refl,
+      (
+        lawful,
+        deeds,
+        in_order part deeds done,
+        seed_front _ (key_front _ (log_front _ (link_front _
+            (subst (λ (first : Lines). Tells l4 (first ++ later)) (sym (lines_busy 0 deeds machines))
+            (machines_front later (deeds_front _ (loses_front _ (stops_front _ tells)))))))),
+      ),
+    ))))))))))))
 
 -- the version's line stands in front
 stated : (left : Left) (script : Script) (deeds : List (ℕ × Deed)) (told : Bool) →
