@@ -1,10 +1,9 @@
 -- What is left to read after a line more is what was left with it.
 use Rattle.std.specs.Prelude.{if◌then◌else◌}
-use Rattle.election_script.proofs.Imports.{◌≡◌, refl, ℕ, Bool, true, false, List, length, Option}
-use Rattle.election_script.proofs.Imports.{Some, None, Ok, Err, Kind, Sheet, Script}
-use Rattle.election_script.proofs.Imports.{ScriptWhy, LineRead, OutOfRange, At, roles_of, stopped_of, put}
-use Rattle.election_script.proofs.Imports.{one_number, seed_read, key_read, do_read, lose_read, stop_read, step_read}
-use Rattle.election_script.proofs.Imports.{version_in, ScriptFault, Deed}
+use Rattle.election_script.proofs.Imports.{◌≡◌, refl, ℕ, Bool, true, false, List, length, Option, Some, None, Ok, Err}
+use Rattle.election_script.proofs.Imports.{Kind, Sheet, Script, ScriptWhy, LineRead, OutOfRange, At, roles_of}
+use Rattle.election_script.proofs.Imports.{stopped_of, put, one_number, seed_read, key_read, do_read, lose_read}
+use Rattle.election_script.proofs.Imports.{stop_read, step_read, version_in, ScriptFault, Deed, ◌<◌, arith}
 use Rattle.election_script.specs.declared.faults.ScriptWhy.TheVariants.{OutOfOrder, NotOneSupervisor}
 use Rattle.election_script.specs.declared.kinds.Kind.TheVariants as kind
 use Rattle.election_script.specs.declared.draft.Line.TheVariants as line
@@ -12,15 +11,12 @@ use Rattle.election_script.specs.Words.{◌>>=◌}
 use Rattle.election_script.specs.Lawful.{max_events, max_link}
 use Rattle.election_script.specs.Lines.{machine_said}
 use Rattle.election_script.specs.Left.{Left, End, Next, LinesRead, Head, at_line, one, is_most, most_lines}
-use Rattle.election_script.specs.inside.Resume.{part_of, resume, after_words, after_line, after}
-use Rattle.election_script.specs.inside.Resume.{ended}
+use Rattle.election_script.specs.inside.Resume.{part_of, resume, after_words, after_line, after, ended, to_version}
+use Rattle.election_script.specs.inside.Resume.{to_seed, to_key, to_log, to_link, to_machines, to_deeds, to_loses}
+use Rattle.election_script.specs.inside.Resume.{to_stops, to_steps}
 use Rattle.election_script.specs.Reading.{script_from}
 use Rattle.election_script.specs.inside.Sheets.{blank, script_in, is_supervised}
 use Rattle.election_script.specs.inside.Lines.{reached_by}
-use Rattle.election_script.proofs.Imports.{◌<◌}
-use Rattle.election_script.proofs.Imports.{arith}
-use Rattle.election_script.specs.inside.Resume.{to_version, to_seed, to_key, to_log, to_link}
-use Rattle.election_script.specs.inside.Resume.{to_machines, to_deeds, to_loses, to_stops, to_steps}
 
 -- a line that comes once
 once : {A B S C : Type 0} (n : ℕ) (r : LineRead A) (left : Left) (f : A × Left → LinesRead C) (m : A → B)

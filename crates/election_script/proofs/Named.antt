@@ -1,10 +1,9 @@
 -- What a word names in the tables of roles, ways to override, kinds of key and heights.
-use Rattle.election_script.proofs.Imports.{◌≡◌, ◌≢◌, ◌∙◌, sym, ap, subst, refl, ℕ, List, [], ◌∷◌}
-use Rattle.election_script.proofs.Imports.{inl, inr, Option, Some, None, bytes_eq, bytes_eq-Decides, how_word, How}
-use Rattle.election_script.proofs.Imports.{IfSome, IfNone, ok_or, UnknownWord, in_table}
-use Rattle.election_script.proofs.Imports.{OtsKind, W1, ots_word, IsHeight, height_word, Role, Supervisor}
-use Rattle.election_script.proofs.Imports.{Booth, role_word, named, role_names, how_names, key_kinds, key_heights}
-use Rattle.election_script.proofs.Imports.{Kind, line_kinds, line_word}
+use Rattle.election_script.proofs.Imports.{◌≡◌, ◌≢◌, ◌∙◌, sym, ap, subst, refl, ℕ, List, [], ◌∷◌, inl, inr, Option}
+use Rattle.election_script.proofs.Imports.{Some, None, bytes_eq, bytes_eq-Decides, how_word, How, IfSome, IfNone, ok_or}
+use Rattle.election_script.proofs.Imports.{UnknownWord, in_table, OtsKind, W1, ots_word, IsHeight, height_word, Role}
+use Rattle.election_script.proofs.Imports.{Supervisor, Booth, role_word, named, role_names, how_names, key_kinds}
+use Rattle.election_script.proofs.Imports.{key_heights, Kind, line_kinds, line_word}
 use Rattle.election_script.proofs.Gives.{either_some}
 use Rattle.entry_format.specs.declared.deed.How.TheVariants as how
 

@@ -1,37 +1,33 @@
 -- The lines of a script are read as it, and no others are.
 use Rattle.election_script.proofs.Imports.{◌≡◌, ◌≢◌, ◌∙◌, ap, sym, subst, refl, ℕ, suc, ◌+◌, Bool, true, false, List}
-use Rattle.election_script.proofs.Imports.{[], ◌∷◌, ◌++◌, map, Some, Ok, Err, All, AllPairs, slice_get, Lines}
-use Rattle.election_script.proofs.Imports.{Cast0, StopAt, Script, IsLawful, AreDeedsOf, IsName, IsDone, IsLose}
-use Rattle.election_script.proofs.Imports.{IsStopAt, IsStep, Deed, role_word}
-use Rattle.election_script.proofs.Imports.{decimal, encode_lower, roles_of, stopped_of, with_deeds, actions_at, do_read}
-use Rattle.election_script.proofs.Imports.{lose_read, stop_read, step_read, IsBetween, Machines, inl, inr}
-use Rattle.election_script.proofs.Imports.{codes, All-nil, All-cons, seed_read, key_read, one_number}
-use Rattle.election_script.proofs.Imports.{ots_word, height_word, lines_of, machine_line, arith, max_link, max_events}
-use Rattle.election_script.proofs.Imports.{max_actions, ◌<◌, ◌≤◌, length, get_or, All-push, All-same}
-use Rattle.election_script.proofs.Imports.{All-weaker, cond, length_push, slice_get_within}
-use Rattle.election_script.proofs.Imports.{slice_get-get_or, count_by, cases_eq, OtsKind, IsVersion, is_supervisor}
-use Rattle.election_script.proofs.Imports.{IsHeight, IsBytes, IsDeedOf, IsDeedIn, IsDeedAmong, IsCast, AreCast}
-use Rattle.election_script.proofs.Imports.{version_line, do_line, lose_line, stop_line, step_line, max_machines}
-use Rattle.election_script.proofs.Imports.{max_loses, max_steps, Decides-eqb}
+use Rattle.election_script.proofs.Imports.{[], ◌∷◌, ◌++◌, map, Some, Ok, Err, All, AllPairs, slice_get, Lines, Cast0}
+use Rattle.election_script.proofs.Imports.{StopAt, Script, IsLawful, AreDeedsOf, IsName, IsDone, IsLose, IsStopAt}
+use Rattle.election_script.proofs.Imports.{IsStep, Deed, role_word, decimal, encode_lower, roles_of, stopped_of}
+use Rattle.election_script.proofs.Imports.{with_deeds, actions_at, do_read, lose_read, stop_read, step_read, IsBetween}
+use Rattle.election_script.proofs.Imports.{Machines, inl, inr, codes, All-nil, All-cons, seed_read, key_read}
+use Rattle.election_script.proofs.Imports.{one_number, ots_word, height_word, lines_of, machine_line, arith, max_link}
+use Rattle.election_script.proofs.Imports.{max_events, max_actions, ◌<◌, ◌≤◌, length, get_or, All-push, All-same}
+use Rattle.election_script.proofs.Imports.{All-weaker, cond, length_push, slice_get_within, slice_get-get_or, count_by}
+use Rattle.election_script.proofs.Imports.{cases_eq, OtsKind, IsVersion, is_supervisor, IsHeight, IsBytes, IsDeedOf}
+use Rattle.election_script.proofs.Imports.{IsDeedIn, IsDeedAmong, IsCast, AreCast, version_line, do_line, lose_line}
+use Rattle.election_script.proofs.Imports.{stop_line, step_line, max_machines, max_loses, max_steps, Decides-eqb, Kind}
+use Rattle.election_script.proofs.Imports.{rank, drop}
 use Rattle.roster.specs.Machines.{max_machines}
 use Rattle.election_script.specs.Lawful.{max_loses, max_steps}
 use Rattle.election_script.specs.Words.{◌>>=◌}
 use Rattle.election_script.specs.Left.{Left, End, Next, LinesRead, many, is_most, unless_full}
 use Rattle.election_script.specs.Reading.{version_read, cast_read, one_supervisor, none_left, script_after, script_from}
 use Rattle.election_script.proofs.ReadWords.{number_back, seed_back, key_back, machine_back, deed_back, lose_back}
-use Rattle.election_script.proofs.ReadWords.{stop_back, step_back}
+use Rattle.election_script.proofs.ReadWords.{stop_back, step_back, seed_gives, key_gives, one_gives, machine_gives}
+use Rattle.election_script.proofs.ReadWords.{deed_gives, lose_gives, stop_gives, step_gives}
 use Rattle.election_script.proofs.Parts.{middle, all_in_front, fresh, fresh_push}
 use Rattle.election_script.proofs.DeedCount.{deed_count, deeds_done}
 use Rattle.election_script.proofs.Busy.{same_roles, same_stops, supervisors_busy, get_busy, size_busy, lines_busy}
 use Rattle.election_script.proofs.Busy.{each_busy, own_deeds}
 use Rattle.election_script.proofs.ReadLines.{head_is, Tells, IsPast, in_front, past, one_back, many_back, some_back}
-use Rattle.election_script.proofs.ReadLines.{room, each_back}
-use Rattle.election_script.proofs.Imports.{Kind, rank, drop}
+use Rattle.election_script.proofs.ReadLines.{room, each_back, at_line_is, one_said, many_said, some_said, each_said}
 use Rattle.std.proofs.lemmas.Bool.{leb-false}
 use Rattle.election_script.proofs.Gives.{Gives, value_gives, then_gives, then_gave, if_gives}
-use Rattle.election_script.proofs.ReadWords.{seed_gives, key_gives, one_gives, machine_gives, deed_gives, lose_gives}
-use Rattle.election_script.proofs.ReadWords.{stop_gives, step_gives}
-use Rattle.election_script.proofs.ReadLines.{at_line_is, one_said, many_said, some_said, each_said}
 use Rattle.election_script.specs.declared.kinds.Kind.TheVariants as kind
 
 -- one reading after another that gave a value
@@ -407,17 +403,10 @@ after_said version good l0 =
       steps = step;
       few_steps = few_steps;
     } in
-    value_gives _ (whole part deeds) (
-      refl,
-      (
-        lawful,
-        deeds,
-        in_order part deeds done,
-        seed_front _ (key_front _ (log_front _ (link_front _
-            (subst (λ (first : Lines). Tells l4 (first ++ later)) (sym (lines_busy 0 deeds machines))
-            (machines_front later (deeds_front _ (loses_front _ (stops_front _ tells)))))))),
-      ),
-    ))))))))))))
+    let after = subst (λ (first : Lines). Tells l4 (first ++ later)) (sym (lines_busy 0 deeds machines))
+    (machines_front later (deeds_front _ (loses_front _ (stops_front _ tells)))) in
+    let before = seed_front _ (key_front _ (log_front _ (link_front _ after))) in
+    value_gives _ (whole part deeds) (refl, (lawful, deeds, in_order part deeds done, before)))))))))))))
 
 -- the version's line stands in front
 stated : (left : Left) (script : Script) (deeds : List (ℕ × Deed)) (told : Bool) →

@@ -1,23 +1,20 @@
 -- A text of a script is read as the script.
-use Rattle.std.proofs.Common.{◌↔◌}
-use Rattle.std.proofs.Common.{cond}
+use Rattle.std.proofs.Common.{◌↔◌, cond}
 use Rattle.std.specs.Prelude.{not, filter}
-use Rattle.election_script.proofs.Imports.{◌≡◌, ◌∙◌, ap, sym, refl, ℕ, ◌+◌, Bool, true, false, List, [], ◌∷◌, map}
-use Rattle.election_script.proofs.Imports.{inl, inr, list_all, list_all-from_AllPass, and_parts, cases_Bool, All-weaker}
-use Rattle.election_script.proofs.Imports.{Script, line_of, lines_of, is_passed_over, IsTextOf, Lines, Ok}
-use Rattle.election_script.proofs.Imports.{text_lines, is_between}
+use Rattle.election_script.proofs.Imports.{◌≡◌, ◌∙◌, ap, sym, refl, ℕ, ◌+◌, Bool, true, false, List, [], ◌∷◌, map, inl}
+use Rattle.election_script.proofs.Imports.{inr, list_all, list_all-from_AllPass, and_parts, cases_Bool, All-weaker}
+use Rattle.election_script.proofs.Imports.{Script, line_of, lines_of, is_passed_over, IsTextOf, Lines, Ok, text_lines}
+use Rattle.election_script.proofs.Imports.{is_between, ◌++◌, join_with_byte, join_with_byte-slice_split, Kind, words_of}
+use Rattle.election_script.proofs.Imports.{line_word, line_kinds, named, in_table}
 use Rattle.election_script.specs.Left.{Next, left_from, head_of, kind_and_words}
 use Rattle.election_script.specs.Reading.{script_of}
 use Rattle.election_script.proofs.LineWords.{IsPlain, is_line, is_own, own_line, plain_line, words_back}
 use Rattle.election_script.proofs.Names.{between_test}
 use Rattle.election_script.proofs.ScriptLines.{script_lines}
 use Rattle.election_script.proofs.ReadLines.{Tells, head_is}
-use Rattle.election_script.proofs.ReadScript.{script_back}
-use Rattle.election_script.proofs.ReadScript.{script_said}
-use Rattle.election_script.proofs.Imports.{◌++◌, join_with_byte, join_with_byte-slice_split}
+use Rattle.election_script.proofs.ReadScript.{script_back, script_said}
 use Rattle.election_script.proofs.Named.{kind_word}
 use Rattle.election_script.proofs.Gives.{value_gives, then_gives, if_gives, some_gives}
-use Rattle.election_script.proofs.Imports.{Kind, words_of, line_word, line_kinds, named, in_table}
 
 -- a line of words is read as these
 head_back : (words : List (List ℕ)) → is_own words ≡ true → head_of (line_of words) ≡ kind_and_words words
