@@ -1,9 +1,9 @@
 -- Machines with what they are to do.
 use Rattle.election_script.proofs.Imports.{◌≡◌, ◌∙◌, ap, sym, subst, refl, arith, ℕ, zero, suc, ◌+◌, List, [], ◌∷◌}
-use Rattle.election_script.proofs.Imports.{length, map, get_or, Some, inl, inr, All, All-head, All-tail, All-same, All-nil}
-use Rattle.election_script.proofs.Imports.{All-cons, slice_get, count_by, sum_by-cons, cases_eq, is_supervisor, cond, Deed}
-use Rattle.election_script.proofs.Imports.{Cast0, StopAt, Machines, name_at, machine_line, actions_at, Lines, with_deeds}
-use Rattle.election_script.proofs.Imports.{roles_of, stopped_of}
+use Rattle.election_script.proofs.Imports.{length, map, get_or, Some, inl, inr, All, All-head, All-tail, All-same}
+use Rattle.election_script.proofs.Imports.{All-nil, All-cons, slice_get, count_by, sum_by-cons, cases_eq, is_supervisor}
+use Rattle.election_script.proofs.Imports.{cond, Deed, Cast0, StopAt, Machines, name_at, machine_line, actions_at}
+use Rattle.election_script.proofs.Imports.{Lines, with_deeds, roles_of, stopped_of}
 use Rattle.election_script.proofs.MachineDeeds.{at_here, at_other}
 
 -- machines with their deeds have the names that they had
@@ -72,7 +72,8 @@ supervisors_busy from deeds (cast ∷ machines) =
     ∙ sym (sum_by-cons f cast machines)
 
 -- the deeds of a place, of deeds of which something holds
-pub own_deeds : (P : ℕ → Deed → Type 0) (place : ℕ) (deeds : List (ℕ × Deed)) → All (λ (maker, done). P maker done) deeds →
+pub own_deeds : (P : ℕ → Deed → Type 0) (place : ℕ) (deeds : List (ℕ × Deed)) →
+    All (λ (maker, done). P maker done) deeds →
     All (P place) (actions_at place deeds)
 own_deeds P place [] all = All-nil (P place)
 own_deeds P place ((at, deed) ∷ rest) all =

@@ -21,7 +21,8 @@ use Rattle.election_script.specs.inside.Lines.{reached_by}
 -- a line that comes once
 once : {A B S C : Type 0} (n : ℕ) (r : LineRead A) (left : Left) (f : A × Left → LinesRead C) (m : A → B)
     (g : B → S) (h : S → LinesRead C) → ((a : A) → f (a, left) ≡ h (g (m a))) →
-    ((at_line n r >>= λ value. Ok (value, left)) >>= f) ≡ (at_line n ((r >>= λ a. Ok (m a)) >>= λ line. Ok (g line)) >>= h)
+    ((at_line n r >>= λ value. Ok (value, left)) >>= f)
+    ≡ (at_line n ((r >>= λ a. Ok (m a)) >>= λ line. Ok (g line)) >>= h)
 once n (Ok a) left f m g h same = same a
 once n (Err why) left f m g h same = refl
 
@@ -96,13 +97,14 @@ next_is s kind.Do n words left =
     again n (do_read (version_in s) (roles_of s.machines) words) (is_most (most_lines kind.Do) (length s.deeds)) _ _
     (λ done. line.Do done.0 done.1) (put s) _ (λ a. refl)
 next_is s kind.Lose n words left =
-    again n (lose_read (roles_of s.machines) words) (is_most (most_lines kind.Lose) (length s.loses)) _ _ line.Lose (put s) _
-    (λ a. refl)
+    again n (lose_read (roles_of s.machines) words) (is_most (most_lines kind.Lose) (length s.loses)) _ _ line.Lose
+    (put s) _ (λ a. refl)
 next_is s kind.Stop n words left =
-    again n (stop_read (roles_of s.machines) (stopped_of s.machines s.stops) words) false _ _ line.Stop (put s) _ (λ a. refl)
-next_is s kind.Step n words left =
-    again n (step_read (roles_of s.machines) words) (is_most (most_lines kind.Step) (length s.steps)) _ _ line.Step (put s) _
+    again n (stop_read (roles_of s.machines) (stopped_of s.machines s.stops) words) false _ _ line.Stop (put s) _
     (λ a. refl)
+next_is s kind.Step n words left =
+    again n (step_read (roles_of s.machines) words) (is_most (most_lines kind.Step) (length s.steps)) _ _ line.Step
+    (put s) _ (λ a. refl)
 
 -- the first line after the machines is read where there is one supervisor
 begun : (s : Sheet) (k : Kind) (one : Bool) (n : ℕ) (words : List (List ℕ)) (left : Left) →
@@ -127,14 +129,16 @@ ended_by sheet last = record sheet { last = last }
 abbrev IsResumed : Sheet → Kind → Type 0
 IsResumed sheet kind =
     (n : ℕ) (words : List (List ℕ)) (left : Left) →
-    resume sheet (Next n (Ok (kind, words)) left) ≡ (at_line n (after_line sheet kind words) >>= λ next. resume next left)
+    resume sheet (Next n (Ok (kind, words)) left)
+    ≡ (at_line n (after_line sheet kind words) >>= λ next. resume next left)
 
 -- a line of a later kind than the machines comes after one supervisor
 abbrev IsSupervised : Sheet → Type 0
 IsSupervised sheet = 6 < reached_by sheet.last → is_supervised sheet.machines ≡ true
 
 -- after any kind
-from_any : (s : Sheet) (last : Option Kind) → IsSupervised (ended_by s last) → (k : Kind) → IsResumed (ended_by s last) k
+from_any : (s : Sheet) (last : Option Kind) → IsSupervised (ended_by s last) → (k : Kind) →
+    IsResumed (ended_by s last) k
 from_any s None is kind.Version = next_is (ended_by s None) kind.Version
 from_any s None is kind.Seed = next_is (ended_by s None) kind.Seed
 from_any s None is k = λ n words left. refl
@@ -150,9 +154,12 @@ from_any s (Some kind.Link) is kind.Machine = next_is (ended_by s (Some kind.Lin
 from_any s (Some kind.Link) is k = λ n words left. refl
 from_any s (Some kind.Machine) is kind.Machine = next_is (ended_by s (Some kind.Machine)) kind.Machine
 from_any s (Some kind.Machine) is kind.Do = begun (ended_by s (Some kind.Machine)) kind.Do (is_supervised s.machines)
-from_any s (Some kind.Machine) is kind.Lose = begun (ended_by s (Some kind.Machine)) kind.Lose (is_supervised s.machines)
-from_any s (Some kind.Machine) is kind.Stop = begun (ended_by s (Some kind.Machine)) kind.Stop (is_supervised s.machines)
-from_any s (Some kind.Machine) is kind.Step = begun (ended_by s (Some kind.Machine)) kind.Step (is_supervised s.machines)
+from_any s (Some kind.Machine) is kind.Lose =
+    begun (ended_by s (Some kind.Machine)) kind.Lose (is_supervised s.machines)
+from_any s (Some kind.Machine) is kind.Stop =
+    begun (ended_by s (Some kind.Machine)) kind.Stop (is_supervised s.machines)
+from_any s (Some kind.Machine) is kind.Step =
+    begun (ended_by s (Some kind.Machine)) kind.Step (is_supervised s.machines)
 from_any s (Some kind.Machine) is k = λ n words left. either (is_supervised s.machines) (At n OutOfOrder)
 from_any s (Some kind.Do) is kind.Do = held (ended_by s (Some kind.Do)) kind.Do (is (omega arith))
 from_any s (Some kind.Do) is kind.Lose = held (ended_by s (Some kind.Do)) kind.Lose (is (omega arith))

@@ -13,8 +13,8 @@ pub value_gives : {A E : Type 0} (P : A → Type 0) (a : A) → P a → Gives {E
 value_gives P a holds b is = let same : a ≡ b = cc in subst P same holds
 
 -- one reading after another
-pub then_gives : {A B E : Type 0} (r : Result A E) (next : A → Result B E) (P : A → Type 0) (Q : B → Type 0) → Gives r P →
-    ((a : A) → P a → Gives (next a) Q) → Gives (r >>= next) Q
+pub then_gives : {A B E : Type 0} (r : Result A E) (next : A → Result B E) (P : A → Type 0) (Q : B → Type 0) →
+    Gives r P → ((a : A) → P a → Gives (next a) Q) → Gives (r >>= next) Q
 then_gives (Ok a) next P Q first later b is = later a (first a refl) b is
 then_gives (Err why) next P Q first later b is = cc
 

@@ -17,7 +17,8 @@ abbrev pub AreRows : {A : Type 0} → (List ℕ → A → Type 0) → List (List
 AreRows P [] = Unit {0}
 AreRows P (row ∷ rows) = P row.0 row.1 × AreRows P rows
 
-pub row_is : {A : Type 0} (P : List ℕ → A → Type 0) (rows : List (List ℕ × A)) (word : List ℕ) → AreRows P rows → (a : A) →
+pub row_is : {A : Type 0} (P : List ℕ → A → Type 0) (rows : List (List ℕ × A)) (word : List ℕ) → AreRows P rows →
+    (a : A) →
     named rows word ≡ Some a → P word a
 row_is P [] word are a is = cc
 row_is P ((own, thing) ∷ rows) word (first, more) a is =

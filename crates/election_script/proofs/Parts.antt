@@ -1,8 +1,8 @@
 -- Items of a list by where it parts.
 use Rattle.std.proofs.Common.{length-append}
-use Rattle.election_script.proofs.Imports.{◌≡◌, ◌≢◌, ◌∙◌, ap, refl, sym, subst, arith, ◌<◌, List, ◌∷◌, ◌++◌, length, get_or}
-use Rattle.election_script.proofs.Imports.{All, Any, AllPairs, get_or-append_seam, get_or_append_left, take_at, All-take}
-use Rattle.election_script.proofs.Imports.{[], all_pairs_push, get_or_default}
+use Rattle.election_script.proofs.Imports.{◌≡◌, ◌≢◌, ◌∙◌, ap, refl, sym, subst, arith, ◌<◌, List, ◌∷◌, ◌++◌, length}
+use Rattle.election_script.proofs.Imports.{get_or, All, Any, AllPairs, get_or-append_seam, get_or_append_left, take_at}
+use Rattle.election_script.proofs.Imports.{All-take, [], all_pairs_push, get_or_default}
 
 -- what holds of all items holds of the one in the middle
 pub middle : {X : Type 0} (P : X → Type 0) (xs a b : List X) (x : X) → xs ≡ a ++ x ∷ b → All P xs → P x

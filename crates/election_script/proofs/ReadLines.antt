@@ -141,12 +141,17 @@ module _ {A : Type 0} (k : Kind) (line : A → List (List ℕ)) where
   one_said read P each (Next n (Ok (found, words)) left) =
       if_gives (is_same_kind k found) _ _ _ (λ same.
       then_gives _ _ (λ a. P a × (words ≡ drop 1 (line a))) _ (λ a is. each words a (at_line_is n (read words) a is))
-      (λ a (holds, are). value_gives _ (a, left) (holds, λ lines tells. (said k found words (drop 1 (line a)) same are, tells))))
+      (λ a (holds, are). value_gives _ (a, left) (
+        holds,
+        λ lines tells.
+            (said k found words (drop 1 (line a)) same are, tells),
+      )))
 
   -- lines, of which each keeps what holds of the values before
   many_from : (read : List A → List (List ℕ) → LineRead A) (Q : List A → Type 0) →
       ((values : List A) (words : List (List ℕ)) → Q values → is_most (most_lines k) (length values) ≡ false →
-      Gives (read values words) (λ a. Q (values ++ a ∷ []) × (words ≡ drop 1 (line a)))) → (values : List A) → Q values →
+      Gives (read values words) (λ a. Q (values ++ a ∷ []) × (words ≡ drop 1 (line a)))) → (values : List A) →
+      Q values →
       (left : Left) → Gives (many k read values left)
       (λ (all, rest). Q all × ((xs : List A) × (all ≡ values ++ xs) × AreInFront left xs rest))
   many_from read Q each values holds (End n) =

@@ -41,8 +41,12 @@ version_back : (version : ℕ) (left : Left) (lines : Lines) → IsBetween 1 2 v
     Tells left ((codes "version" ∷ decimal version ∷ []) ∷ lines) →
     (rest : Left) × Tells rest lines × (version_read 1 left ≡ Ok (version, rest))
 version_back version (End n) lines good tells = absurd tells
-version_back version (Next n head rest) lines good (same, more) =
-    (rest, more, rw (same ∙ head_is kind.Version (decimal version ∷ []), number_back 1 2 version good (omega arith)) refl)
+version_back version (Next n head rest) lines good (same, more) = (
+  rest,
+  more,
+  rw (same ∙ head_is kind.Version (decimal version ∷ []), number_back 1 2 version good (omega arith))
+      refl,
+)
 
 -- none
 version_none : (args : List (List ℕ)) (left : Left) (lines : Lines) → Tells left ((codes "seed" ∷ args) ∷ lines) →
@@ -67,7 +71,8 @@ busy_back from deeds [] each = refl
 busy_back from deeds (cast ∷ machines) each =
     let own : cast.actions ≡ actions_at from deeds =
     each 0 cast refl ∙ ap (λ p. actions_at p deeds) (omega arith) in
-    let here : record { name = cast.name; role = cast.role; actions = actions_at from deeds } ≡ cast = grind (arith, own) in
+    let here : record { name = cast.name; role = cast.role; actions = actions_at from deeds } ≡ cast =
+    grind (arith, own) in
     let rest = busy_back (from + 1) deeds machines
     (λ k c at. each (suc k) c at ∙ ap (λ p. actions_at p deeds) (omega arith)) in
     cc
@@ -159,12 +164,14 @@ module _ (script : Script) (lawful : IsLawful script) (deeds : List (ℕ × Deed
   from_seed_back : (version : ℕ × Left) → version.0 ≡ script.version →
       Tells version.1 (lines_of false script deeds) → script_after version ≡ Ok script
   from_seed_back (version, l0) stated t0 =
-      let (l1, t1, seed) = one_back kind.Seed (λ seed. codes "seed" ∷ encode_lower seed ∷ []) seed_read script.seed l0 _ t0
+      let (l1, t1, seed) = one_back kind.Seed (λ seed. codes "seed" ∷ encode_lower seed ∷ []) seed_read script.seed l0
+      _ t0
       (seed_back script.seed lawful.seed lawful.octets) in
-      let (l2, t2, key) = one_back kind.Key (λ (key : OtsKind × ℕ). codes "key" ∷ ots_word key.0 ∷ height_word key.1 ∷ [])
-      key_read (script.kind, script.height) l1 _ t1 (key_back script.kind script.height lawful.height) in
-      let (l3, t3, log) = one_back kind.Log (λ log. codes "log" ∷ decimal log ∷ []) (one_number 1 max_events) script.log l2
-      _ t2 (number_back 1 max_events script.log lawful.log (omega arith)) in
+      let (l2, t2, key) = one_back kind.Key (λ (key : OtsKind × ℕ). codes "key" ∷ ots_word key.0
+      ∷ height_word key.1 ∷ []) key_read (script.kind, script.height) l1 _ t1 (key_back script.kind script.height
+      lawful.height) in
+      let (l3, t3, log) = one_back kind.Log (λ log. codes "log" ∷ decimal log ∷ []) (one_number 1 max_events)
+      script.log l2 _ t2 (number_back 1 max_events script.log lawful.log (omega arith)) in
       let (l4, t4, link) = one_back kind.Link (λ link. codes "link" ∷ decimal link ∷ []) (one_number 1 max_link)
       script.link l3 _ t3 (number_back 1 max_link script.link lawful.link (omega arith)) in
       let t4' : Tells l4 (map machine_line (idle all) ++ do_lines) =
@@ -179,8 +186,8 @@ module _ (script : Script) (lawful : IsLawful script) (deeds : List (ℕ × Deed
       (past_loses kind.Machine (omega arith))) t4' in
       let (l6, t6, done) = each_back kind.Do (do_line script.version all) (do_read script.version (roles_of all))
       (IsDone script.version all) max_actions refl (λ done (cast, there, own, in_version, among).
-      deed_back all lawful.machines.named lawful.machines.distinct script.version lawful.version done.0 done.1 cast there
-      own in_version among) deeds (deeds_done script deeds lawful are)
+      deed_back all lawful.machines.named lawful.machines.distinct script.version lawful.version done.0 done.1 cast
+      there own in_version among) deeds (deeds_done script deeds lawful are)
       (omega (arith, deed_count script deeds are, lawful.machines.in_all)) l5 lose_lines
       (past_loses kind.Do (omega arith)) t5 in
       let (l7, t7, loses) = each_back kind.Lose (lose_line all) (lose_read (roles_of all)) (IsLose all) max_loses refl
@@ -358,14 +365,16 @@ after_said version good l0 =
     let roles : roles_of all ≡ roles_of machines = same_roles 0 deeds machines in
     let (seed_good, seed_front) = one_said kind.Seed (λ seed. codes "seed" ∷ encode_lower seed ∷ []) seed_read
     (λ seed. IsBetween 1 32 (length seed) × IsBytes seed) seed_gives l0 (seed, l1) seed_is in
-    let (key_good, key_front) = one_said kind.Key (λ (key : OtsKind × ℕ). codes "key" ∷ ots_word key.0 ∷ height_word key.1 ∷ []) key_read
+    let (key_good, key_front) = one_said kind.Key (λ (key : OtsKind × ℕ). codes "key" ∷ ots_word key.0
+    ∷ height_word key.1 ∷ []) key_read
     (λ key. IsHeight key.1) key_gives l1 ((signature, height), l2) key_is in
     let (log_good, log_front) = one_said kind.Log (λ log. codes "log" ∷ decimal log ∷ []) (one_number 1 max_events)
     (IsBetween 1 max_events) (one_gives 1 max_events) l2 (log, l3) log_is in
     let (link_good, link_front) = one_said kind.Link (λ link. codes "link" ∷ decimal link ∷ []) (one_number 1 max_link)
     (IsBetween 1 max_link) (one_gives 1 max_link) l3 (link, l4) link_is in
     let (new, machines_front) = some_said kind.Machine machine_line cast_read _ l4 (many_said kind.Machine machine_line
-    cast_read AreNew cast_gives (omega arith, All-nil _, λ i j d below within. absurd (omega arith)) l4) (machines, l5) machines_are in
+    cast_read AreNew cast_gives (omega arith, All-nil _, λ i j d below within. absurd (omega arith)) l4)
+    (machines, l5) machines_are in
     let ((done, few_deeds), deeds_front) = each_said kind.Do (do_line version all) (do_read version (roles_of all))
     (IsDone version all) max_actions refl (deed_gives all version good) l5 (deeds, l6)
     (ap (λ (m : Machines). many kind.Do (λ deeds. do_read version m) [] l5) roles ∙ deeds_are) in
@@ -416,12 +425,12 @@ stated left script deeds true tells = tells
 stated left script deeds false tells = tells
 
 -- the lines are a script's, and may tell its version
-pub script_said : (left : Left) → Gives (script_from left) (λ script. (told : Bool) × (told ≡ false → script.version ≡ 1)
-    × IsSaid left told script)
+pub script_said : (left : Left) → Gives (script_from left) (λ script. (told : Bool)
+    × (told ≡ false → script.version ≡ 1) × IsSaid left told script)
 script_said left = then_gives _ _ _ _ (version_is left) (λ (version, rest) (good, (told, untold, front)) script is.
     let (same, (lawful, deeds, in_order, tells)) = after_said version good rest script is in
     let lines : Lines = lines_of false script deeds in
     let all = stated left script deeds told
-    (subst (λ v. Tells left (cond told ((codes "version" ∷ decimal v ∷ []) ∷ lines) lines)) (sym same) (front lines tells))
-    in
+    (subst (λ v. Tells left (cond told ((codes "version" ∷ decimal v ∷ []) ∷ lines) lines)) (sym same)
+    (front lines tells)) in
     (told, (λ unsaid. same ∙ untold unsaid), (lawful, deeds, in_order, all)))

@@ -246,7 +246,8 @@ number_gives least greatest word =
     value_gives _ number ((between_test least greatest number).0 between, is)))
 
 -- hexadecimal digits
-lower_is : (word : List ℕ) (read : Result (List ℕ) FromHexError) (octets : List ℕ) → in_lower_case word read ≡ Some octets →
+lower_is : (word : List ℕ) (read : Result (List ℕ) FromHexError) (octets : List ℕ) →
+    in_lower_case word read ≡ Some octets →
     (read ≡ Ok octets) × (word ≡ encode_lower octets)
 lower_is word (Ok own) octets is =
     let (equal, same) = if_some (bytes_eq (encode_lower own) word) own octets is in
@@ -264,7 +265,8 @@ ballot_gives word = some_gives (digest_in word) _ _ (λ ballot is.
 pub seed_gives : (words : List (List ℕ)) → Gives (seed_read words)
     (λ seed. (IsBetween 1 32 (length seed) × IsBytes seed) × (words ≡ encode_lower seed ∷ []))
 seed_gives (digits ∷ []) =
-    then_gives _ _ (λ seed. IsBytes seed × (digits ≡ encode_lower seed)) _ (some_gives (octets_in digits) _ _ (λ seed is.
+    then_gives _ _ (λ seed. IsBytes seed × (digits ≡ encode_lower seed)) _ (some_gives (octets_in digits) _ _
+    (λ seed is.
     let (decodes, same) = lower_is digits (decode_of digits) seed is in
     ((decode_of-ok digits seed decodes).3, same))) (λ seed (octets, is).
     if_gives (is_between 1 32 (length seed)) _ _ _ (λ between.
@@ -306,7 +308,8 @@ module _ (machines : List Cast0) where
             (suc k, omega (arith, sum), (omega (arith, within), is_named))
       ]
 
-  place_is : (name : List ℕ) (place : ℕ) → place_of (roles_of machines) name ≡ Some place → IsNamedAt machines name place
+  place_is : (name : List ℕ) (place : ℕ) → place_of (roles_of machines) name ≡ Some place →
+      IsNamedAt machines name place
   place_is name place is =
       let (k, sum, there) = found_is machines name 0 place is in
       let same : k ≡ place = omega (arith, sum) in
@@ -381,7 +384,8 @@ module _ (machines : List Cast0) where
       Gives (stopper_read (roles_of machines) (stopped_of machines stops) name)
       (λ place. IsNamedAt machines name place × (Any (λ (stop : StopAt). stop.machine ≡ place) stops → ⊥))
   stopper_gives stops name =
-      unless_gives (not (is_name_word name)) _ _ _ (λ good. unless_gives (is_listed (stopped_of machines stops) name) _ _ _ (λ new.
+      unless_gives (not (is_name_word name)) _ _ _ (λ good. unless_gives (is_listed (stopped_of machines stops) name)
+      _ _ _ (λ new.
       some_gives _ _ _ (λ place is.
       let at = place_is name place is in (
         at,
@@ -431,7 +435,8 @@ module _ (machines : List Cast0) where
 
   -- ---- deeds
 
-  role_session_gives : (role : Role) (name word : List ℕ) → Gives (machine_and_session (roles_of machines) role name word)
+  role_session_gives : (role : Role) (name word : List ℕ) →
+      Gives (machine_and_session (roles_of machines) role name word)
       (λ read. (IsNamedAt machines name read.0 × HasRoleAt machines role read.0)
       × (IsSession read.1 × (word ≡ decimal read.1)))
   role_session_gives role name word = then_gives _ _ _ _ (role_gives role name) (λ place has.
@@ -529,7 +534,8 @@ module _ (machines : List Cast0) where
 
   override_how_is : IsDeedSaid 2 (codes "override") deed.OverrideHow
   override_how_is name (word ∷ said ∷ []) = then_gives _ _ (λ read. (IsNamedAt machines name read.0
-      × HasRoleAt machines Supervisor read.0) × (IsSession read.1 × ((word ≡ decimal read.1) × (said ≡ how_word read.2)))) _
+      × HasRoleAt machines Supervisor read.0) × (IsSession read.1 × ((word ≡ decimal read.1) ×
+      (said ≡ how_word read.2)))) _
       (then_gives _ _ _ _ (role_session_gives Supervisor name word) (λ read (has, (good, is)).
       then_gives _ _ _ _ (some_gives (named how_names said) _ _ (how_named said)) (λ how also.
       value_gives _ (read.0, read.1, how) (has, (good, (is, also))))))
@@ -547,7 +553,8 @@ module _ (machines : List Cast0) where
   deeds_are version (inl one) =
       common version (subst (λ v. AreRows (IsDeedSaid v) (later_deeds v)) (sym one) (override_is, tt))
   deeds_are version (inr two) =
-      common version (subst (λ v. AreRows (IsDeedSaid v) (later_deeds v)) (sym two) (override_how_is, (challenge_is, tt)))
+      common version (subst (λ v. AreRows (IsDeedSaid v) (later_deeds v)) (sym two)
+      (override_how_is, (challenge_is, tt)))
 
   pub deed_gives : (version : ℕ) → IsVersion version → (words : List (List ℕ)) →
       Gives (do_read version (roles_of machines) words)

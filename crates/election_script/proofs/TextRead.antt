@@ -49,7 +49,8 @@ line_is line = spaced (words_of line) ∙ join_with_byte-slice_split 32 line
 words_are : (line : List ℕ) (k : Kind) (args : List (List ℕ)) → head_of line ≡ Ok (k, args) →
     words_of line ≡ line_word k ∷ args
 words_are line k args is =
-    by (words_of line) (if_gives (list_all (is_between 32 126) line) _ _ (λ head. kind_and_words (words_of line) ≡ Ok head)
+    by (words_of line) (if_gives (list_all (is_between 32 126) line) _ _ (λ head. kind_and_words (words_of line) ≡
+    Ok head)
     (λ plain head is. is) (k, args) is)
   where
     by : (words : List (List ℕ)) → kind_and_words words ≡ Ok (k, args) → words ≡ line_word k ∷ args
