@@ -1,10 +1,9 @@
 -- How many actions and steps a day has.
-use Rattle.std.proofs.Common.{◌==◌, cond}
-use Rattle.election_script.proofs.Imports.{◌≡◌, inl, inr, ℕ, zero, suc, ◌+◌, ◌-◌, ◌*◌, ◌%◌, ◌<◌, ◌≤◌, Bool, true}
-use Rattle.election_script.proofs.Imports.{false, List, [], ◌∷◌, length, get_or, set, refl, sym, ◌∙◌, ap, arith}
-use Rattle.election_script.proofs.Imports.{add-zero, ne_eqb, cases_eq, nat_tests, get_or-set_same, get_or-set_other}
-use Rattle.election_script.proofs.Imports.{Deed, session_booth, deeds_of, actions_of, first_number}
-use Rattle.std.proofs.Common.{eq-eqb}
+use Rattle.std.proofs.Common.{◌==◌, cond, eq-eqb}
+use Rattle.election_script.proofs.Imports.{◌≡◌, inl, inr, ℕ, zero, suc, ◌+◌, ◌-◌, ◌*◌, ◌%◌, ◌<◌, ◌≤◌, Bool, true, false}
+use Rattle.election_script.proofs.Imports.{List, [], ◌∷◌, length, get_or, set, refl, sym, ◌∙◌, ap, arith, add-zero}
+use Rattle.election_script.proofs.Imports.{ne_eqb, cases_eq, nat_tests, get_or-set_same, get_or-set_other, Deed}
+use Rattle.election_script.proofs.Imports.{session_booth, deeds_of, actions_of, first_number}
 use Rattle.std.proofs.lemmas.List.{length-append}
 use Rattle.election_script.proofs.DaySessions.{actions_own, actions_other}
 

@@ -1,17 +1,15 @@
 -- The script of a day is within its limits.
-use Rattle.std.proofs.Common.{◌==◌}
-use Rattle.std.proofs.Common.{cond}
+use Rattle.std.proofs.Common.{◌==◌, cond}
 use Rattle.election_script.proofs.Imports.{◌≡◌, ◌≢◌, inl, inr, ℕ, zero, suc, ◌+◌, ◌-◌, ◌*◌, ◌%◌, ◌<◌, ◌≤◌, Bool, true}
 use Rattle.election_script.proofs.Imports.{false, List, [], ◌∷◌, ◌++◌, length, map, reverse, replicate, get_or, refl}
 use Rattle.election_script.proofs.Imports.{sym, ◌∙◌, ap, arith, subst, add-zero, length-map, reverse-append}
-use Rattle.election_script.proofs.Imports.{length-range_with_len, get_or-range_with_len, All-nil, All-cons}
-use Rattle.election_script.proofs.Imports.{All-append, All-map, All-filter, AllPairs-cons, mul-suc, All, AllPairs}
-use Rattle.election_script.proofs.Imports.{codes, flat_map, concat, range_with_len, byte_at, IsBytes, Deed, Opened}
-use Rattle.election_script.proofs.Imports.{Closed, Activate, Commit, Cast, Cancel, IsDeedOf, IsDigest, IsDeedIn}
-use Rattle.election_script.proofs.Imports.{u32str, Role, Supervisor, Booth, IsName, IsNameByte, Cast0, AreCast}
-use Rattle.election_script.proofs.Imports.{IsCast, IsBoothAt, IsDeedAmong, IsSession, max_actions, sessions}
-use Rattle.election_script.proofs.Imports.{session_booth, session_ballot, deeds_of, authorise_of, supervisor_actions}
-use Rattle.election_script.proofs.Imports.{actions_of, machines_of, count_actions}
+use Rattle.election_script.proofs.Imports.{length-range_with_len, get_or-range_with_len, All-nil, All-cons, All-append}
+use Rattle.election_script.proofs.Imports.{All-map, All-filter, AllPairs-cons, mul-suc, All, AllPairs, codes, flat_map}
+use Rattle.election_script.proofs.Imports.{concat, range_with_len, byte_at, IsBytes, Deed, Opened, Closed, Activate}
+use Rattle.election_script.proofs.Imports.{Commit, Cast, Cancel, IsDeedOf, IsDigest, IsDeedIn, u32str, Role, Supervisor}
+use Rattle.election_script.proofs.Imports.{Booth, IsName, IsNameByte, Cast0, AreCast, IsCast, IsBoothAt, IsDeedAmong}
+use Rattle.election_script.proofs.Imports.{IsSession, max_actions, sessions, session_booth, session_ballot, deeds_of}
+use Rattle.election_script.proofs.Imports.{authorise_of, supervisor_actions, actions_of, machines_of, count_actions}
 use Rattle.std.proofs.lemmas.List.{length-append}
 use Rattle.election_script.proofs.DayCounts.{booths_few}
 

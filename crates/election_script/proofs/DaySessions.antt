@@ -1,15 +1,13 @@
 -- One session more of a day.
-use Rattle.std.proofs.Common.{◌==◌, cond}
-use Rattle.std.proofs.Common.{filter}
+use Rattle.std.proofs.Common.{◌==◌, cond, filter}
 use Rattle.election_script.proofs.Imports.{◌≡◌, ℕ, ◌+◌, ◌-◌, ◌<◌, ◌≤◌, Bool, true, false, List, [], ◌∷◌, ◌++◌, length}
-use Rattle.election_script.proofs.Imports.{map, reverse, replicate, get_or, take, drop, suc, refl, sym, ◌∙◌, ap}
-use Rattle.election_script.proofs.Imports.{arith, append-nil, map-append, reverse-append, replicate-append-replicate}
+use Rattle.election_script.proofs.Imports.{map, reverse, replicate, get_or, take, drop, suc, refl, sym, ◌∙◌, ap, arith}
+use Rattle.election_script.proofs.Imports.{append-nil, map-append, reverse-append, replicate-append-replicate}
 use Rattle.election_script.proofs.Imports.{take-append-drop, drop_more, concat-append, flat_map-append, filter-append}
 use Rattle.election_script.proofs.Imports.{flat_map, concat, range_with_len, Deed, range_with_len_next, supervisor}
 use Rattle.election_script.proofs.Imports.{session_booth, deeds_of, actions_of, first_number, count_actions, hears}
 use Rattle.election_script.proofs.Imports.{supervisor_steps, others, session_steps, Step, Act, Cast0}
-use Rattle.std.proofs.lemmas.List.{append_assoc}
-use Rattle.std.proofs.lemmas.List.{length-append}
+use Rattle.std.proofs.lemmas.List.{append_assoc, length-append}
 
 -- numbers from one on, with one more
 pub range_more : (a i : ℕ) → a ≤ i → range_with_len a (i + 1 - a) ≡ range_with_len a (i - a) ++ i ∷ []

@@ -1,6 +1,5 @@
 -- The steps of a day are within their limits.
-use Rattle.std.proofs.Common.{cond, not, ◌==◌}
-use Rattle.std.proofs.Common.{filter}
+use Rattle.std.proofs.Common.{cond, not, ◌==◌, filter}
 use Rattle.std.proofs.lemmas.List.{length-append}
 use Rattle.election_script.proofs.Imports.{◌≡◌, ℕ, suc, ◌+◌, ◌*◌, ◌<◌, ◌≤◌, Bool, true, false, List, [], ◌∷◌, ◌++◌}
 use Rattle.election_script.proofs.Imports.{length, map, reverse, replicate, ◌∙◌, ap, arith, length-map}

@@ -1,30 +1,32 @@
 -- What the proofs of this crate take from others.
 pub use Rattle.election_script.specs.Deeds.{ballot_deed, do_read, machine_and_session, override_deed}
 pub use Rattle.election_script.specs.Left.{words_of}
-pub use Rattle.election_script.specs.Lines.{entry_read, key_read, lose_read}
-pub use Rattle.election_script.specs.Lines.{machine_said, read_line, receiver_read, seed_read}
-pub use Rattle.election_script.specs.Lines.{one_number, step_read, stop_read, stopper_read}
+pub use Rattle.election_script.specs.Lines.{entry_read, key_read, lose_read, machine_said, one_number, read_line}
+pub use Rattle.election_script.specs.Lines.{receiver_read, seed_read, step_read, stop_read, stopper_read}
 pub use Rattle.election_script.specs.Machines.{Machines, is_same_role, machine_named, machine_of_role, place_of}
-pub use Rattle.election_script.specs.Words.{LineRead, ballot_read, in_table}
-pub use Rattle.election_script.specs.Words.{is_listed, is_between, is_name_word, is_name_byte}
-pub use Rattle.election_script.specs.Words.{number_within, session_read}
-pub use Rattle.std.proofs.Common.{cond}
-pub use Rattle.std.proofs.lemmas.Bool.{le-leb, leb-true}
-pub use Rattle.std.specs.Prelude.{IfNone, IfSome, nat_le, ok_or}
-pub use Rattle.election_script.specs.Generated.{authorise_of, booths, count_actions, day_steps, first_number}
-pub use Rattle.election_script.specs.Generated.{generated, hears, machines_of, numbers_of, others, session_ballot}
-pub use Rattle.election_script.specs.Generated.{session_booth, sessions, supervisor, supervisor_actions}
-pub use Rattle.election_script.specs.Generated.{supervisor_steps}
+pub use Rattle.election_script.specs.Words.{LineRead, ballot_read, in_table, is_between, is_listed, is_name_byte}
+pub use Rattle.election_script.specs.Words.{is_name_word, number_within, session_read}
+pub use Rattle.std.proofs.Common.{Bool, List, None, Option, Some, [], add-zero, ap, arith, cond, drop, eqb, false}
+pub use Rattle.std.proofs.Common.{get_or, inl, inr, length, map, refl, replicate, reverse, rules, set, subst, suc, sym}
+pub use Rattle.std.proofs.Common.{take, tests, true, zero, ℕ, ⊎_elim, ◌%◌, ◌*◌, ◌++◌, ◌+◌, ◌-◌, ◌/◌, ◌<◌, ◌^◌, ◌∙◌, ◌∷◌}
+pub use Rattle.std.proofs.Common.{◌≡◌, ◌≢◌, ◌≤◌, ◌⊎◌}
+pub use Rattle.std.proofs.lemmas.Bool.{agree_below_at, and_from, and_parts, cases_Bool, cases_eq, cond-false, cond-true}
+pub use Rattle.std.proofs.lemmas.Bool.{false_from_ne_true, false≢true, le-leb, leb-true, lt-ltb, ltb-true, ne_eqb}
+pub use Rattle.std.specs.Prelude.{All, AllPairs, Any, Err, IfNone, IfSome, Ok, Result, codes, count_by, nat_le, nat_lt}
+pub use Rattle.std.specs.Prelude.{ok_or, slice_get, slice_index, ◌&&◌}
+pub use Rattle.election_script.specs.Generated.{authorise_of, booths, count_actions, day_steps, first_number, generated}
+pub use Rattle.election_script.specs.Generated.{hears, machines_of, numbers_of, others, session_ballot, session_booth}
+pub use Rattle.election_script.specs.Generated.{sessions, supervisor, supervisor_actions, supervisor_steps}
 unfoldable pub use Rattle.election_script.specs.Generated.{actions_of, deeds_of, session_steps}
-pub use Rattle.election_script.specs.Grammar.{AreDeedsOf, IsTextOf, actions_at, deed_words, do_line}
-pub use Rattle.election_script.specs.Grammar.{how_words, is_passed_over, key_line, line_of, lines_of, lines_of_kind}
-pub use Rattle.election_script.specs.Grammar.{link_line, log_line, lose_line, machine_line, name_at, name_of}
-pub use Rattle.election_script.specs.Grammar.{seed_line, step_line, step_words, stop_line, version_line}
-pub use Rattle.election_script.specs.Kinds.{IsNeeded, how_names, key_heights, key_kinds, kinds, line_kinds}
-pub use Rattle.election_script.specs.Kinds.{line_word, named, rank, role_names}
+pub use Rattle.election_script.specs.Grammar.{AreDeedsOf, IsTextOf, actions_at, deed_words, do_line, how_words}
+pub use Rattle.election_script.specs.Grammar.{is_passed_over, key_line, line_of, lines_of, lines_of_kind, link_line}
+pub use Rattle.election_script.specs.Grammar.{log_line, lose_line, machine_line, name_at, name_of, seed_line, step_line}
+pub use Rattle.election_script.specs.Grammar.{step_words, stop_line, version_line}
+pub use Rattle.election_script.specs.Kinds.{how_names, key_heights, key_kinds, kinds, line_kinds, line_word, named}
+pub use Rattle.election_script.specs.Kinds.{rank, role_names}
 pub use Rattle.election_script.specs.Lawful.{AreCast, IsBetween, IsBoothAt, IsCast, IsDeedAmong, IsLawful, IsLose}
-pub use Rattle.election_script.specs.Lawful.{IsSession, IsStep, IsStopAt, max_actions, max_events, max_link}
-pub use Rattle.election_script.specs.Lawful.{max_loses, max_steps}
+pub use Rattle.election_script.specs.Lawful.{IsSession, IsStep, IsStopAt, max_actions, max_events, max_link, max_loses}
+pub use Rattle.election_script.specs.Lawful.{max_steps}
 pub use Rattle.election_script.specs.WordLines.{Lines}
 pub use Rattle.election_script.specs.Written.{deeds_at, deeds_from, ended, script_text, text_of_lines}
 pub use Rattle.election_script.specs.declared.draft.Line.{Line}
@@ -40,17 +42,16 @@ pub use Rattle.election_script.specs.declared.script.Lose.{Lose}
 pub use Rattle.election_script.specs.declared.script.Script.{Script}
 pub use Rattle.election_script.specs.declared.script.StopAt.{StopAt}
 pub use Rattle.election_script.specs.declared.sheet.Sheet.{Sheet}
-pub use Rattle.election_script.specs.inside.Draft.{HasRoleAt, IsDone}
-pub use Rattle.election_script.specs.inside.Lines.{IsInOrder, kind_of, line_words, reached_by}
-pub use Rattle.election_script.specs.inside.Sheets.{AreFew, IsFit, IsSheet, IsSheetFull, IsWithin, blank}
-pub use Rattle.election_script.specs.inside.Sheets.{is_read, kept, listed, told_by, put, script_in, version_in, with_deeds}
+pub use Rattle.election_script.proofs.KnownPlaces.{HasRoleAt, IsDone}
+pub use Rattle.election_script.specs.inside.Lines.{kind_of}
+pub use Rattle.election_script.specs.inside.Sheets.{IsSheet, put, script_in, version_in, with_deeds}
 pub use Rattle.election_script.specs.inside.Words.{roles_of, stopped_of, texts_of, told}
 pub use Rattle.entry_format.proofs.Taken.{version_small}
 pub use Rattle.entry_format.specs.Deeds.{IsDeedOf}
 pub use Rattle.entry_format.specs.EntryText.{IsDeedIn, IsDigest, IsVersion, how_word}
 pub use Rattle.entry_format.specs.declared.deed.Deed.{Deed}
-pub use Rattle.entry_format.specs.declared.deed.Deed.TheVariants.{Activate, Authorise, Cancel, Cast, Challenge}
-pub use Rattle.entry_format.specs.declared.deed.Deed.TheVariants.{Closed, Commit, Opened, Override}
+pub use Rattle.entry_format.specs.declared.deed.Deed.TheVariants.{Activate, Authorise, Cancel, Cast, Challenge, Closed}
+pub use Rattle.entry_format.specs.declared.deed.Deed.TheVariants.{Commit, Opened, Override}
 pub use Rattle.entry_format.specs.declared.deed.How.{How}
 pub use Rattle.entry_order.specs.declared.step.Step.{Step}
 pub use Rattle.entry_order.specs.declared.step.Step.TheVariants.{Act, Hear, Stop}
@@ -69,30 +70,20 @@ pub use Rattle.lms_ots.specs.declared.kind.OtsKind.{OtsKind}
 pub use Rattle.lms_ots.specs.declared.kind.OtsKind.TheVariants.{W1, W2, W4, W8}
 pub use Rattle.lms_sign.specs.Height.{IsHeight, height_word}
 pub use Rattle.roster.proofs.Raws.{name_is_text}
-pub use Rattle.roster.proofs.Trees.{one_role}
 pub use Rattle.roster.specs.Machines.{IsName, IsNameByte, is_supervisor, max_machines}
 pub use Rattle.roster.specs.RosterText.{role_word}
 pub use Rattle.roster.specs.declared.post.Role.{Role}
 pub use Rattle.roster.specs.declared.post.Role.TheVariants.{Booth, Supervisor}
-pub use Rattle.std.proofs.Common.{Bool, List, None, Option, Some, [], add-zero, ap, arith, drop, eqb, false, get_or}
-pub use Rattle.std.proofs.Common.{inl, inr, length, map, refl, replicate, reverse, rules, set, subst}
-pub use Rattle.std.proofs.Common.{suc, sym, take, tests, true, zero, ℕ, ⊎_elim, ◌%◌, ◌*◌, ◌++◌, ◌+◌, ◌-◌, ◌/◌, ◌<◌}
-pub use Rattle.std.proofs.Common.{◌^◌, ◌↔◌, ◌∙◌, ◌∷◌, ◌≡◌, ◌≢◌, ◌≤◌, ◌⊎◌}
 pub use Rattle.std.proofs.Math.Nat.{mul-suc}
 pub use Rattle.std.proofs.Math.Seq.{get_or-append_seam}
-pub use Rattle.std.proofs.lemmas.Bool.{agree_below_at, and_from, and_parts, cases_Bool, cases_eq, cases_lt}
-pub use Rattle.std.proofs.lemmas.Bool.{cond-false, cond-true, false_from_ne_true, false≢true, lt-ltb}
-pub use Rattle.std.proofs.lemmas.Bool.{ltb-true, ne_eqb}
 pub use Rattle.std.proofs.lemmas.Bool.Decides.{Decides-eqb, nat_tests}
-pub use Rattle.std.proofs.lemmas.Fmt.{decimal_by_steps, decimal_digit}
+pub use Rattle.std.proofs.lemmas.Fmt.{decimal_by_steps}
 pub use Rattle.std.proofs.lemmas.Iterator.Consumers.{map_from_collect}
 pub use Rattle.std.proofs.lemmas.Iterator.Splits.{YieldsList-from_slice_split}
-pub use Rattle.std.proofs.lemmas.List.{append-nil, drop_more, get_or-map}
-pub use Rattle.std.proofs.lemmas.List.{get_or-set_other, get_or-set_same, get_or_append_left}
-pub use Rattle.std.proofs.lemmas.List.{get_or_default, length-map, length-replicate, length-reverse}
-pub use Rattle.std.proofs.lemmas.List.{length-set, length-take-le, length_push, map-append, map_push, nil_from_length}
-pub use Rattle.std.proofs.lemmas.List.{replicate-append-replicate, reverse-append, take-append-drop, take_all}
-pub use Rattle.std.proofs.lemmas.List.{take_at, take_more, take_rest}
+pub use Rattle.std.proofs.lemmas.List.{append-nil, drop_more, get_or-map, get_or-set_other, get_or-set_same}
+pub use Rattle.std.proofs.lemmas.List.{get_or_append_left, get_or_default, length-map, length-replicate, length-reverse}
+pub use Rattle.std.proofs.lemmas.List.{length-set, length-take-le, length_push, map-append, replicate-append-replicate}
+pub use Rattle.std.proofs.lemmas.List.{reverse-append, take-append-drop, take_all, take_at, take_more, take_rest}
 pub use Rattle.std.proofs.lemmas.List.Concat.{flat_map-append, flat_map-cons}
 pub use Rattle.std.proofs.lemmas.List.Elements.{All-append, All-cons, All-filter, All-get_or, All-head, All-map}
 pub use Rattle.std.proofs.lemmas.List.Elements.{All-nil, All-push, All-replicate, All-same, All-tail, All-take}
@@ -101,18 +92,13 @@ pub use Rattle.std.proofs.lemmas.List.Folds.{concat-append, list_all-append}
 pub use Rattle.std.proofs.lemmas.List.FromFn.{get_or-range_with_len, length-range_with_len}
 pub use Rattle.std.proofs.lemmas.List.Kept.{AllPairs-cons}
 pub use Rattle.std.proofs.lemmas.List.Quantifiers.{all_pairs_push}
-pub use Rattle.std.proofs.lemmas.List.Splits.{join_with_byte-slice_split, slice_split_at}
-pub use Rattle.std.proofs.lemmas.List.Splits.{slice_split_none}
-pub use Rattle.std.proofs.lemmas.List.Sums.{AllPass-from_list_all, count_by-le-length, length-filter}
-pub use Rattle.std.proofs.lemmas.List.Sums.{list_all-from_AllPass, sum_by-cons, sum_by_push}
-pub use Rattle.std.proofs.lemmas.Option.{get_or_from_slice_get, slice_get-get_or, slice_get_cases, slice_get_read}
-pub use Rattle.std.proofs.lemmas.Option.{slice_get_within}
+pub use Rattle.std.proofs.lemmas.List.Splits.{join_with_byte-slice_split, slice_split_at, slice_split_none}
+pub use Rattle.std.proofs.lemmas.List.Sums.{AllPass-from_list_all, count_by-le-length, list_all-from_AllPass}
+pub use Rattle.std.proofs.lemmas.List.Sums.{sum_by-cons, sum_by_push}
+pub use Rattle.std.proofs.lemmas.Option.{get_or_from_slice_get, slice_get-get_or, slice_get_cases, slice_get_within}
 pub use Rattle.std.proofs.lemmas.Result.{IfOk-weaker, err_from_is_err_and}
 pub use Rattle.std.proofs.lemmas.Slice.Eq.{bytes_eq-Decides}
 pub use Rattle.std.specs.Fmt.{decimal}
 pub use Rattle.std.specs.Int.{byte_at}
 pub use Rattle.std.specs.List.{concat, flat_map, join_with_byte, list_all, range_with_len}
-pub use Rattle.std.specs.Prelude.{All, AllPairs, Any, Err, Ok, OnOk, Result, codes, count_by, nat_lt}
-pub use Rattle.std.specs.Prelude.{slice_get, slice_index, unwrap_or, ◌&&◌}
 pub use Rattle.std.specs.Str.{bytes_eq}
-pub use borrow.Author.Count.{below_more}

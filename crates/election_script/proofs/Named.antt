@@ -1,9 +1,10 @@
 -- What a word names in the tables of roles, ways to override, kinds of key and heights.
-use Rattle.election_script.proofs.Imports.{◌≡◌, ◌≢◌, ◌∙◌, sym, ap, subst, refl, ℕ, Bool, true, false, List, [], ◌∷◌}
-use Rattle.election_script.proofs.Imports.{inl, inr, Option, Some, None, map, bytes_eq, bytes_eq-Decides, how_word, How}
-use Rattle.election_script.proofs.Imports.{IfSome, IfNone, ok_or, UnknownWord, in_table}
-use Rattle.election_script.proofs.Imports.{OtsKind, W1, W2, W4, W8, ots_word, IsHeight, height_word, Role, Supervisor}
-use Rattle.election_script.proofs.Imports.{Booth, role_word, named, role_names, how_names, key_kinds, key_heights}
+use Rattle.election_script.proofs.Imports.{◌≡◌, ◌≢◌, ◌∙◌, sym, ap, subst, refl, ℕ, List, [], ◌∷◌, inl, inr, Option}
+use Rattle.election_script.proofs.Imports.{Some, None, bytes_eq, bytes_eq-Decides, how_word, How, IfSome, IfNone, ok_or}
+use Rattle.election_script.proofs.Imports.{UnknownWord, in_table, OtsKind, W1, ots_word, IsHeight, height_word, Role}
+use Rattle.election_script.proofs.Imports.{Supervisor, Booth, role_word, named, role_names, how_names, key_kinds}
+use Rattle.election_script.proofs.Imports.{key_heights, Kind, line_kinds, line_word}
+use Rattle.election_script.proofs.Gives.{either_some}
 use Rattle.entry_format.specs.declared.deed.How.TheVariants as how
 
 -- what is found is what is read
@@ -11,21 +12,48 @@ pub reads : {A : Type 0} (rows : List (List ℕ × A)) (word : List ℕ) (found 
     ok_or found UnknownWord ≡ in_table rows word
 reads rows word found is = ap (λ f. ok_or f UnknownWord) is
 
--- a row of another word is passed over
-next_row : {A : Type 0} (own : List ℕ) (a : A) (rows : List (List ℕ × A)) (word : List ℕ) → word ≢ own
-    → named rows word ≡ None → named ((own, a) ∷ rows) word ≡ None
-next_row own a rows word other none = by (bytes_eq word own) refl
-  where
-    by : (test : Bool) → bytes_eq word own ≡ test → named ((own, a) ∷ rows) word ≡ None
-    by true is = absurd (other ((bytes_eq-Decides word own).0 is))
-    by false is = rw is none
+-- each row's thing is so by its word
+abbrev pub AreRows : {A : Type 0} → (List ℕ → A → Type 0) → List (List ℕ × A) → Type 0
+AreRows P [] = Unit {0}
+AreRows P (row ∷ rows) = P row.0 row.1 × AreRows P rows
 
--- a word of none of the things names none
-no_word : {A : Type 0} (word_of : A → List ℕ) (word : List ℕ) → ((a : A) → word ≢ word_of a) → (things : List A)
-    → named (map (λ a. (word_of a, a)) things) word ≡ None
-no_word word_of word none [] = refl
-no_word word_of word none (a ∷ things) =
-    next_row (word_of a) a (map (λ a. (word_of a, a)) things) word (none a) (no_word word_of word none things)
+pub row_is : {A : Type 0} (P : List ℕ → A → Type 0) (rows : List (List ℕ × A)) (word : List ℕ) → AreRows P rows →
+    (a : A) →
+    named rows word ≡ Some a → P word a
+row_is P [] word are a is = cc
+row_is P ((own, thing) ∷ rows) word (first, more) a is =
+    elim (either_some (bytes_eq word own) thing a (named rows word) is) [
+      | inl (equal, same) ↦ subst (P word) same
+          (subst (λ w. P w thing) (sym ((bytes_eq-Decides word own).0 equal)) first)
+      | inr later ↦ row_is P rows word more a later
+    ]
+
+-- a word that names a kind of line is the kind's
+pub kind_word : (word : List ℕ) (k : Kind) → named line_kinds word ≡ Some k → word ≡ line_word k
+kind_word word =
+    row_is (λ w k. w ≡ line_word k) line_kinds word
+    (refl, (refl, (refl, (refl, (refl, (refl, (refl, (refl, (refl, (refl, tt))))))))))
+
+-- a word that names a role, how a session is overridden, a kind of key or a height is its word
+pub role_named : (word : List ℕ) (role : Role) → named role_names word ≡ Some role → word ≡ role_word role
+role_named word = row_is (λ w role. w ≡ role_word role) role_names word (refl, (refl, tt))
+
+pub how_named : (word : List ℕ) (how : How) → named how_names word ≡ Some how → word ≡ how_word how
+how_named word = row_is (λ w how. w ≡ how_word how) how_names word (refl, (refl, tt))
+
+pub kind_named : (word : List ℕ) (kind : OtsKind) → named key_kinds word ≡ Some kind → word ≡ ots_word kind
+kind_named word = row_is (λ w kind. w ≡ ots_word kind) key_kinds word (refl, (refl, (refl, (refl, tt))))
+
+pub height_named : (word : List ℕ) (height : ℕ) → named key_heights word ≡ Some height →
+    IsHeight height × (word ≡ height_word height)
+height_named word =
+    row_is (λ w height. IsHeight height × (w ≡ height_word height)) key_heights word
+    ((inl refl, refl), ((inr refl, refl), tt))
+
+-- what names nothing of some names nothing
+none_named : {A : Type 0} (found : Option A) → ((a : A) → found ≡ Some a → ⊥) → found ≡ None
+none_named None none = refl
+none_named (Some a) none = absurd (none a refl)
 
 -- the word of a role names it, and no other word names one
 pub some_role : (role : Role) → named role_names (role_word role) ≡ Some role
@@ -33,7 +61,7 @@ some_role Supervisor = refl
 some_role Booth = refl
 
 pub no_role : (word : List ℕ) → ((role : Role) → word ≢ role_word role) → named role_names word ≡ None
-no_role word none = no_word role_word word none (Supervisor ∷ Booth ∷ [])
+no_role word none = none_named (named role_names word) (λ role is. none role (role_named word role is))
 
 -- the word of how a session is overridden names it
 pub some_how : (how : How) → named how_names (how_word how) ≡ Some how
@@ -41,7 +69,7 @@ some_how how.Cancel = refl
 some_how how.Cast = refl
 
 pub no_how : (word : List ℕ) → ((how : How) → word ≢ how_word how) → named how_names word ≡ None
-no_how word none = no_word how_word word none (how.Cancel ∷ how.Cast ∷ [])
+no_how word none = none_named (named how_names word) (λ how is. none how (how_named word how is))
 
 -- with that of a kind of key
 pub some_kind : (kind : OtsKind) → named key_kinds (ots_word kind) ≡ Some kind
@@ -49,7 +77,7 @@ some_kind W1 = refl
 some_kind kind = refl
 
 no_kind : (word : List ℕ) → ((kind : OtsKind) → word ≢ ots_word kind) → named key_kinds word ≡ None
-no_kind word none = no_word ots_word word none (W1 ∷ W2 ∷ W4 ∷ W8 ∷ [])
+no_kind word none = none_named (named key_kinds word) (λ kind is. none kind (kind_named word kind is))
 
 pub kind_is : (word : List ℕ) (found : Option OtsKind) → IfSome found (λ kind. word ≡ ots_word kind)
     → IfNone found ((kind : OtsKind) → word ≢ ots_word kind) → found ≡ named key_kinds word
@@ -63,9 +91,8 @@ some_height height (inr is) = subst (λ h. named key_heights (height_word h) ≡
 
 no_height : (word : List ℕ) → ((height : ℕ) → IsHeight height → word ≢ height_word height)
     → named key_heights word ≡ None
-no_height word none =
-    next_row (height_word 5) 5 ((height_word 10, 10) ∷ []) word (none 5 (inl refl))
-    (next_row (height_word 10) 10 [] word (none 10 (inr refl)) refl)
+no_height word none = none_named (named key_heights word) (λ height is.
+    let (good, same) = height_named word height is in none height good same)
 
 pub height_is : (word : List ℕ) (found : Option ℕ) → IfSome found IsHeight
     → IfSome found (λ height. word ≡ height_word height)

@@ -1,7 +1,8 @@
 -- Items of a list by where it parts.
 use Rattle.std.proofs.Common.{length-append}
-use Rattle.election_script.proofs.Imports.{◌≡◌, ◌≢◌, ◌∙◌, ap, refl, sym, subst, arith, ◌<◌, List, ◌∷◌, ◌++◌, length, get_or}
-use Rattle.election_script.proofs.Imports.{All, Any, AllPairs, get_or-append_seam, get_or_append_left, take_at, All-take}
+use Rattle.election_script.proofs.Imports.{◌≡◌, ◌≢◌, ◌∙◌, ap, refl, sym, subst, arith, ◌<◌, List, ◌∷◌, ◌++◌, length}
+use Rattle.election_script.proofs.Imports.{get_or, All, Any, AllPairs, get_or-append_seam, get_or_append_left, take_at}
+use Rattle.election_script.proofs.Imports.{All-take, [], all_pairs_push, get_or_default}
 
 -- what holds of all items holds of the one in the middle
 pub middle : {X : Type 0} (P : X → Type 0) (xs a b : List X) (x : X) → xs ≡ a ++ x ∷ b → All P xs → P x
@@ -24,3 +25,10 @@ fresh v a b x distinct (k, y, within, is, same) =
     let size = length-append a (x ∷ b) in
     let long : length a < length (a ++ x ∷ b) = omega arith in
     distinct k (length a) y within long (ap v (left ∙ is) ∙ same ∙ sym (ap v seam))
+
+-- and one that differs so from all others may come after them
+pub fresh_push : {X V : Type 0} (v : X → V) (xs : List X) (x : X) → AllPairs (λ (y z : X). v y ≢ v z) xs →
+    (Any (λ (y : X). v y ≡ v x) xs → ⊥) → AllPairs (λ (y z : X). v y ≢ v z) (xs ++ x ∷ [])
+fresh_push v xs x distinct new =
+    all_pairs_push (λ y z. v y ≢ v z) xs x distinct
+    (λ k y below same. new (k, get_or xs k y, below, get_or_default xs k _ _ below, same))

@@ -2,10 +2,10 @@ use Rattle.election_script.proofs.Imports.{◌∙◌, ap, sym, Some, None, named
 use Rattle.election_script.proofs.Named.{reads, some_how, no_how}
 use Rattle.election_script.proofs.words.how_in.Goals as goal
 
-pub returns-in_default-clause-value : goal.returns-in_default-clause-value
-returns-in_default-clause-value c =
+pub returns-in_default : goal.returns-in_default
+returns-in_default c =
     reads how_names c.args.word.now None (sym (no_how c.args.word.now c.in_default.ensures))
 
-pub returns-clause-value : goal.returns-clause-value
-returns-clause-value c =
+pub returns : goal.returns
+returns c =
     reads how_names c.args.word.now (Some _) (sym (ap (named how_names) c.in-Some.ensures ∙ some_how _))

@@ -2,7 +2,7 @@ use Rattle.election_script.proofs.Imports.{◌∙◌, key_kinds}
 use Rattle.election_script.proofs.Named.{reads, kind_is}
 use Rattle.election_script.proofs.words.kind_in.Goals as goal
 
-pub returns-clause-value : goal.returns-clause-value
-returns-clause-value c =
+pub returns : goal.returns
+returns c =
     c.ok_or.ensures.value
     ∙ reads key_kinds c.args.word.now _ (kind_is c.args.word.now _ c.of_word.ensures.known c.of_word.ensures.unknown)

@@ -1,0 +1,565 @@
+-- The words of a line are read as what they say, and no others are.
+use Rattle.election_script.proofs.Imports.{◌≡◌, ◌∙◌, ap, sym, subst, refl, arith, ℕ, ◌<◌, ◌≤◌, ◌^◌, true, false, List}
+use Rattle.election_script.proofs.Imports.{[], ◌∷◌, length, inl, inr, Some, Ok, All, Any, slice_get, decimal}
+use Rattle.election_script.proofs.Imports.{All-get_or, get_or_from_slice_get, slice_get_within, encode_lower}
+use Rattle.election_script.proofs.Imports.{decode_of-encode_lower, IsBytes, IsDeedOf, IsDigest, IsVersion, IsDeedIn}
+use Rattle.election_script.proofs.Imports.{how_word, How, Deed, Opened, Authorise, Override, Closed, Activate, Commit}
+use Rattle.election_script.proofs.Imports.{Cast, Cancel, Challenge, Step, Act, Hear, Stop, OtsKind, IsHeight}
+use Rattle.election_script.proofs.Imports.{height_word, Role, Supervisor, Booth, IsName, role_word, Cast0, Lose, StopAt}
+use Rattle.election_script.proofs.Imports.{IsBetween, IsSession, IsDeedAmong, IsLose, IsStopAt, IsStep, max_events}
+use Rattle.election_script.proofs.Imports.{ots_word, name_at, deed_words, step_words, HasRoleAt, bytes_eq}
+use Rattle.election_script.proofs.Imports.{bytes_eq-Decides, false_from_ne_true, is_name_word, roles_of, stopped_of}
+use Rattle.election_script.proofs.Imports.{number_within, session_read, ballot_read, machine_named, machine_of_role}
+use Rattle.election_script.proofs.Imports.{seed_read, key_read, machine_said, machine_and_session, override_deed}
+use Rattle.election_script.proofs.Imports.{ballot_deed, do_read, entry_read, receiver_read, lose_read, stopper_read}
+use Rattle.election_script.proofs.Imports.{stop_read, step_read, ◌≢◌, suc, ◌+◌, Option, None, Result, Err, and_parts}
+use Rattle.election_script.proofs.Imports.{nat_lt, ◌&&◌, decode_of-ok, IsDone, is_between, is_listed, is_same_role}
+use Rattle.election_script.proofs.Imports.{place_of, in_table, named, role_names, how_names, key_kinds, key_heights}
+use Rattle.election_script.proofs.Imports.{one_number}
+use Rattle.hall_text.proofs.DigestText.{digest_decodes}
+use Rattle.hall_text.proofs.Numbers.{number-found}
+use Rattle.std.proofs.lemmas.Option.{slice_get-map}
+use Rattle.std.specs.Prelude.{option_map, is_some, not, codes}
+use Rattle.election_script.proofs.Names.{between_test, name_test}
+use Rattle.election_script.proofs.Places.{AreDistinct, cast_at, name_read, place_back, place_none, own_role, same_place}
+use Rattle.election_script.proofs.Places.{stop_new, from, place_unknown, stop_among}
+use Rattle.election_script.proofs.Spaceless.{AreNamed}
+use Rattle.election_script.proofs.Named.{role_named, how_named, kind_named, height_named}
+use Rattle.election_script.proofs.Named.{some_role, some_how, some_kind, some_height, AreRows, row_is}
+use Rattle.std.proofs.Common.{true≢false}
+use Rattle.hall_text.specs.Words.{number_in, value_from, digest_in, in_lower_case}
+use Rattle.hex.specs.Hex.{decode_of, decode_sized}
+use Rattle.hex.specs.declared.error.FromHexError.{FromHexError}
+use Rattle.hex.proofs.HexLemmas.{decode_sized-ok, decode_sized-twice}
+use Rattle.election_script.specs.declared.kinds.DeedName.{DeedName}
+use Rattle.election_script.specs.declared.kinds.StepName.{StepName}
+use Rattle.entry_format.specs.declared.deed.How.{How}
+use Rattle.entry_format.specs.EntryText.{IsDeedIn}
+use Rattle.election_script.specs.Words.{octets_in}
+use Rattle.election_script.specs.Kinds.{deed_names, later_deeds, step_names}
+use Rattle.election_script.specs.Machines.{is_of_role}
+use Rattle.election_script.specs.Deeds.{plain_deed, session_deed, named_deed}
+use Rattle.election_script.specs.Lines.{own_step, named_step}
+use Rattle.election_script.proofs.KnownPlaces.{IsNamedAt}
+use Rattle.election_script.proofs.Gives.{Gives, value_gives, then_gives, if_gives, unless_gives, some_gives}
+use Rattle.election_script.proofs.Gives.{either_some, if_some, unnot}
+use Rattle.entry_format.specs.declared.deed.How.TheVariants as how
+use Rattle.election_script.specs.declared.kinds.DeedName.TheVariants as deed
+use Rattle.election_script.specs.declared.kinds.StepName.TheVariants as step
+
+-- the digits of a number within its bounds are read as it
+pub number_back : (least greatest number : ℕ) → IsBetween least greatest number → greatest < 2 ^ 32 →
+    number_within least greatest (decimal number) ≡ Ok number
+number_back least greatest number is small =
+    let most : number ≤ greatest = is.1 in
+    rw (number-found (decimal number) number (omega arith) refl, (between_test least greatest number).1 is) refl
+
+-- those of a session
+session_back : (session : ℕ) → IsSession session → session_read (decimal session) ≡ Ok session
+session_back session is = number_back 1 4294967295 session is (omega arith)
+
+-- those of a ballot
+ballot_back : (ballot : List ℕ) → IsDigest ballot → IsBytes ballot → ballot_read (encode_lower ballot) ≡ Ok ballot
+ballot_back ballot size bytes =
+    rw (
+      digest_decodes (encode_lower ballot) ballot (record { size = size; bytes = bytes; digits = refl }),
+      (bytes_eq-Decides (encode_lower ballot) (encode_lower ballot)).1 refl,
+    ) refl
+
+-- those of a seed
+pub seed_back : (seed : List ℕ) → IsBetween 1 32 (length seed) → IsBytes seed →
+    seed_read (encode_lower seed ∷ []) ≡ Ok seed
+seed_back seed size bytes =
+    rw (
+      decode_of-encode_lower seed bytes,
+      (bytes_eq-Decides (encode_lower seed) (encode_lower seed)).1 refl,
+      (between_test 1 32 (length seed)).1 size,
+    ) refl
+
+-- the words of a key
+pub key_back : (kind : OtsKind) (height : ℕ) → IsHeight height →
+    key_read (ots_word kind ∷ height_word height ∷ []) ≡ Ok (kind, height)
+key_back kind height is = rw (some_kind kind, some_height height is) refl
+
+-- a machine's new name and its role
+pub machine_back : (machines : List Cast0) (name : List ℕ) (role : Role) → IsName name →
+    (Any (λ (cast : Cast0). cast.name ≡ name) machines → ⊥) →
+    machine_said (roles_of machines) (name ∷ role_word role ∷ []) ≡ Ok (name, role)
+machine_back machines name role is new =
+    rw ((name_test name).1 is, place_none machines name new, some_role role) refl
+
+module _ (machines : List Cast0) (names : AreNamed machines) (distinct : AreDistinct machines) where
+  -- each machine's name is a name
+  is_name : (place : ℕ) → place < length machines → is_name_word (name_at machines place) ≡ true
+  is_name place within =
+      let (found, is) = cast_at machines place within in
+      (name_test (name_at machines place)).1 (subst IsName (sym (name_read machines place found is))
+      (subst (λ (cast : Cast0). IsName cast.name) (get_or_from_slice_get machines place found found is)
+      (All-get_or (λ (cast : Cast0). IsName cast.name) machines place found within names)))
+
+  -- and is read as the machine's place
+  name_back : (place : ℕ) → place < length machines →
+      machine_named (roles_of machines) (name_at machines place) ≡ Ok place
+  name_back place within = rw (is_name place within, place_back machines place distinct within) refl
+
+  -- also where a machine of its role is asked for
+  role_back : (place : ℕ) (role : Role) → HasRoleAt machines role place →
+      machine_of_role (roles_of machines) role (name_at machines place) ≡ Ok place
+  role_back place role (cast, is, same) =
+      let there : slice_get (roles_of machines) place ≡ Some (cast.name, cast.role) =
+      slice_get-map (λ (cast : Cast0). (cast.name, cast.role)) machines place
+      ∙ ap (option_map (λ (cast : Cast0). (cast.name, cast.role))) is in
+      rw (name_back place (slice_get_within machines place cast is), there, own_role role cast.role same) refl
+
+  -- with a session
+  role_session_back : (place : ℕ) (role : Role) (session : ℕ) → HasRoleAt machines role place → IsSession session →
+      machine_and_session (roles_of machines) role (name_at machines place) (decimal session) ≡ Ok (place, session)
+  role_session_back place role session has is =
+      rw (role_back place role has, session_back session is) refl
+
+  -- with a session and a ballot
+  ballot_deed_back : (place session : ℕ) (ballot : List ℕ) → HasRoleAt machines Booth place →
+      IsSession session × IsDigest ballot × IsBytes ballot →
+      ballot_deed (roles_of machines) (name_at machines place) (decimal session ∷ encode_lower ballot ∷ [])
+      ≡ Ok (place, session, ballot)
+  ballot_deed_back place session ballot has (good, digest, octets) =
+      rw (role_session_back place Booth session has good, ballot_back ballot digest octets) refl
+
+  -- with a session and how it is overridden
+  override_back : (place session : ℕ) (how : How) → HasRoleAt machines Supervisor place → IsSession session →
+      override_deed (roles_of machines) (name_at machines place) (decimal session ∷ how_word how ∷ [])
+      ≡ Ok (place, session, how)
+  override_back place session how has is =
+      rw (role_session_back place Supervisor session has is, some_how how) refl
+
+  -- the maker and the number of an entry
+  entry_back : (maker number : ℕ) → maker < length machines → number ≤ 4095 →
+      entry_read (roles_of machines) (name_at machines maker) (decimal number) ≡ Ok (maker, number)
+  entry_back maker number within most =
+      rw (name_back maker within, number_back 0 4095 number (omega arith, most) (omega arith)) refl
+
+  -- the line of the machine's deed is read as it
+  abbrev IsReadBack : ℕ → ℕ → Deed → Type 0
+  IsReadBack place version deed =
+      do_read version (roles_of machines) (name_at machines place ∷ deed_words version machines deed) ≡ Ok (place, deed)
+
+  -- an override that the version has
+  override_in_version : (version : ℕ) → IsVersion version → (place session : ℕ) (how : How) →
+      HasRoleAt machines Supervisor place → IsSession session → IsDeedIn version (Override session how) →
+      IsReadBack place version (Override session how)
+  override_in_version version good place session how.Cast has is two =
+      subst (λ v. IsReadBack place v (Override session how.Cast)) (sym two)
+      (rw (override_back place session how.Cast has is) refl)
+  override_in_version version (inr two) place session how.Cancel has is among =
+      subst (λ v. IsReadBack place v (Override session how.Cancel)) (sym two)
+      (rw (override_back place session how.Cancel has is) refl)
+  override_in_version version (inl one) place session how.Cancel has is among =
+      subst (λ v. IsReadBack place v (Override session how.Cancel)) (sym one)
+      (rw (role_session_back place Supervisor session has is) refl)
+
+  -- each deed that a machine of the script may do
+  pub deed_back : (version : ℕ) → IsVersion version → (place : ℕ) (deed : Deed) (cast : Cast0) →
+      slice_get machines place ≡ Some cast → IsDeedOf cast.role deed → IsDeedIn version deed →
+      IsDeedAmong machines deed → IsReadBack place version deed
+  deed_back version good place Opened cast at own is among =
+      rw (role_back place Supervisor (cast, at, own)) refl
+  deed_back version good place (Authorise booth session) cast at own is among =
+      rw (
+        role_back place Supervisor
+            (cast, at, own),
+        role_session_back booth Booth session among.0 among.1,
+      ) refl
+  deed_back version good place (Override session how) cast at own is among =
+      override_in_version version good place session how
+      (cast, at, own) among is
+  deed_back version good place Closed cast at own is among =
+      rw (role_back place Supervisor (cast, at, own)) refl
+  deed_back version good place (Activate session) cast at own is among =
+      rw (role_session_back place Booth session
+      (cast, at, own) among) refl
+  deed_back version good place (Commit session ballot) cast at own is among =
+      rw (ballot_deed_back place session ballot
+      (cast, at, own) among) refl
+  deed_back version good place (Cast session ballot) cast at own is among =
+      rw (ballot_deed_back place session ballot
+      (cast, at, own) among) refl
+  deed_back version good place (Cancel session) cast at own is among =
+      rw (role_session_back place Booth session
+      (cast, at, own) among) refl
+  deed_back version good place (Challenge session ballot) cast at own is among =
+      subst (λ v. IsReadBack place v (Challenge session ballot)) (sym is)
+      (rw (ballot_deed_back place session ballot
+      (cast, at, own) among) refl)
+
+  -- an entry that is lost
+  pub lose_back : (lose : Lose) → IsLose machines lose →
+      lose_read (roles_of machines) (name_at machines lose.from ∷ decimal lose.number ∷ name_at machines lose.to ∷ [])
+      ≡ Ok lose
+  lose_back lose (from_in, to_in, differ, most) =
+      let maker : List ℕ = name_at machines lose.from in
+      let receiver : List ℕ = name_at machines lose.to in
+      let other : bytes_eq receiver maker ≡ false = false_from_ne_true (bytes_eq receiver maker)
+      (λ same. differ (same_place machines lose.from lose.to distinct from_in to_in
+      (sym ((bytes_eq-Decides receiver maker).0 same)))) in
+      let heard : receiver_read (roles_of machines) maker receiver ≡ Ok lose.to =
+      rw (is_name lose.to to_in, other, place_back machines lose.to distinct to_in) refl in
+      rw (entry_back lose.from lose.number from_in most, heard) refl
+
+  -- a stop of a machine that has no other
+  pub stop_back : (stops : List StopAt) (stop : StopAt) → All (IsStopAt machines) stops → IsStopAt machines stop →
+      (Any (λ (other : StopAt). other.machine ≡ stop.machine) stops → ⊥) →
+      stop_read (roles_of machines) (stopped_of machines stops)
+      (name_at machines stop.machine ∷ decimal stop.events ∷ []) ≡ Ok stop
+  stop_back stops stop good (inside, most) new =
+      let stopper : stopper_read (roles_of machines) (stopped_of machines stops) (name_at machines stop.machine)
+      ≡ Ok stop.machine =
+      rw (
+        is_name stop.machine inside,
+        stop_new machines stops stop.machine distinct good inside new,
+        place_back machines stop.machine distinct inside,
+      ) refl in
+      rw (stopper, number_back 0 max_events stop.events (omega arith, most) (omega arith)) refl
+
+  -- a step
+  pub step_back : (step : Step) → IsStep machines step →
+      step_read (roles_of machines) (step_words machines step) ≡ Ok step
+  step_back (Act machine) is = rw (name_back machine is) refl
+  step_back (Hear at from number) (at_in, from_in, most) =
+      rw (name_back at at_in, entry_back from number from_in most) refl
+  step_back (Stop machine) is = rw (name_back machine is) refl
+
+-- ---- words
+
+-- a number
+decimal_is : (word : List ℕ) (n : ℕ) → number_in word ≡ Some n → word ≡ decimal n
+decimal_is word n is =
+    let own : List ℕ = decimal (value_from 0 word) in
+    let (both, same) = if_some (nat_lt (value_from 0 word) (2 ^ 32) && bytes_eq word own) (value_from 0 word) n is in
+    (bytes_eq-Decides word own).0 (and_parts (nat_lt (value_from 0 word) (2 ^ 32)) (bytes_eq word own) both).1
+    ∙ ap decimal same
+
+pub number_gives : (least greatest : ℕ) (word : List ℕ) → Gives (number_within least greatest word)
+    (λ number. IsBetween least greatest number × (word ≡ decimal number))
+number_gives least greatest word =
+    then_gives _ _ (λ number. word ≡ decimal number) _ (some_gives (number_in word) _ _ (decimal_is word)) (λ number is.
+    if_gives (is_between least greatest number) _ _ _ (λ between.
+    value_gives _ number ((between_test least greatest number).0 between, is)))
+
+-- hexadecimal digits
+lower_is : (word : List ℕ) (read : Result (List ℕ) FromHexError) (octets : List ℕ) →
+    in_lower_case word read ≡ Some octets →
+    (read ≡ Ok octets) × (word ≡ encode_lower octets)
+lower_is word (Ok own) octets is =
+    let (equal, same) = if_some (bytes_eq (encode_lower own) word) own octets is in
+    (ap Ok same, sym ((bytes_eq-Decides (encode_lower own) word).0 equal) ∙ ap encode_lower same)
+lower_is word (Err fault) octets is = cc
+
+ballot_gives : (word : List ℕ) → Gives (ballot_read word)
+    (λ ballot. IsDigest ballot × IsBytes ballot × (word ≡ encode_lower ballot))
+ballot_gives word = some_gives (digest_in word) _ _ (λ ballot is.
+    let (decodes, same) = lower_is word (decode_sized word 32) ballot is in
+    let twice = decode_sized-ok word 32 ballot decodes in
+    let octets = decode_of-ok word ballot (sym (decode_sized-twice word 32 twice) ∙ decodes) in
+    (omega (arith, twice, octets.2), octets.3, same))
+
+pub seed_gives : (words : List (List ℕ)) → Gives (seed_read words)
+    (λ seed. (IsBetween 1 32 (length seed) × IsBytes seed) × (words ≡ encode_lower seed ∷ []))
+seed_gives (digits ∷ []) =
+    then_gives _ _ (λ seed. IsBytes seed × (digits ≡ encode_lower seed)) _ (some_gives (octets_in digits) _ _
+    (λ seed is.
+    let (decodes, same) = lower_is digits (decode_of digits) seed is in
+    ((decode_of-ok digits seed decodes).3, same))) (λ seed (octets, is).
+    if_gives (is_between 1 32 (length seed)) _ _ _ (λ between.
+    value_gives _ seed (((between_test 1 32 (length seed)).0 between, octets), ap (λ word. word ∷ []) is)))
+seed_gives words = λ a is. cc
+
+-- ---- tables
+
+pub row_gives : {A : Type 0} (P : List ℕ → A → Type 0) (rows : List (List ℕ × A)) (word : List ℕ) → AreRows P rows →
+    Gives (in_table rows word) (P word)
+row_gives P rows word are = some_gives (named rows word) _ (P word) (row_is P rows word are)
+
+pub key_gives : (words : List (List ℕ)) → Gives (key_read words)
+    (λ key. IsHeight key.1 × (words ≡ ots_word key.0 ∷ height_word key.1 ∷ []))
+key_gives (first ∷ second ∷ []) =
+    then_gives _ _ _ _ (some_gives (named key_kinds first) _ _ (kind_named first)) (λ kind is.
+    then_gives _ _ _ _ (some_gives (named key_heights second) _ _ (height_named second)) (λ height (good, also).
+    value_gives _ (kind, height) (good, cc)))
+key_gives words = λ a is. cc
+
+pub one_gives : (least greatest : ℕ) (words : List (List ℕ)) → Gives (one_number least greatest words)
+    (λ number. IsBetween least greatest number × (words ≡ decimal number ∷ []))
+one_gives least greatest (word ∷ []) = λ number is.
+    let (between, same) = number_gives least greatest word number is in (between, ap (λ w. w ∷ []) same)
+one_gives least greatest words = λ a is. cc
+
+-- ---- machines
+
+module _ (machines : List Cast0) where
+  -- a place by its name
+  found_is : (all : List Cast0) (name : List ℕ) (at place : ℕ) → from name at all ≡ Some place →
+      (k : ℕ) × (at + k ≡ place) × IsNamedAt all name k
+  found_is [] name at place is = cc
+  found_is (cast ∷ all) name at place is =
+      elim (either_some (bytes_eq cast.name name) at place (from name (at + 1) all) is) [
+        | inl (equal, same) ↦ (0, omega (arith, same), (omega arith, (bytes_eq-Decides cast.name name).0 equal))
+        | inr later ↦
+            let (k, sum, (within, is_named)) = found_is all name (at + 1) place later in
+            (suc k, omega (arith, sum), (omega (arith, within), is_named))
+      ]
+
+  place_is : (name : List ℕ) (place : ℕ) → place_of (roles_of machines) name ≡ Some place →
+      IsNamedAt machines name place
+  place_is name place is =
+      let (k, sum, there) = found_is machines name 0 place is in
+      let same : k ≡ place = omega (arith, sum) in
+      subst (IsNamedAt machines name) same there
+
+  named_gives : (name : List ℕ) → Gives (machine_named (roles_of machines) name) (IsNamedAt machines name)
+  named_gives name = if_gives (is_name_word name) _ _ _ (λ good. some_gives _ _ _ (place_is name))
+
+  -- a machine of a role
+  role_is : (role other : Role) → is_same_role role other ≡ true → other ≡ role
+  role_is Supervisor Supervisor is = refl
+  role_is Supervisor Booth is = cc
+  role_is Booth Supervisor is = cc
+  role_is Booth Booth is = refl
+
+  role_gives : (role : Role) (name : List ℕ) → Gives (machine_of_role (roles_of machines) role name)
+      (λ place. IsNamedAt machines name place × HasRoleAt machines role place)
+  role_gives role name = then_gives _ _ _ _ (named_gives name) (λ place at.
+      let (cast, there) = cast_at machines place at.0 in
+      let listed : slice_get (roles_of machines) place ≡ Some (cast.name, cast.role) =
+      slice_get-map (λ (cast : Cast0). (cast.name, cast.role)) machines place
+      ∙ ap (option_map (λ (cast : Cast0). (cast.name, cast.role))) there in
+      if_gives (is_of_role role (slice_get (roles_of machines) place)) _ _ _ (λ has.
+      value_gives _ place (at, (cast, there, role_is role cast.role (sym (ap (is_of_role role) listed) ∙ has)))))
+
+  -- a new name
+  none_is : {A : Type 0} (o : Option A) → is_some o ≡ false → None ≡ o
+  none_is (Some a) is = cc
+  none_is None is = refl
+
+  pub machine_gives : (words : List (List ℕ)) → Gives (machine_said (roles_of machines) words)
+      (λ said. IsName said.0 × (Any (λ (cast : Cast0). cast.name ≡ said.0) machines → ⊥)
+      × (words ≡ said.0 ∷ role_word said.1 ∷ []))
+  machine_gives (name ∷ word ∷ []) =
+      then_gives _ _ (λ own. IsName own × (Any (λ (cast : Cast0). cast.name ≡ own) machines → ⊥) × (name ≡ own)) _
+      (unless_gives _ _ _ _ (λ good. unless_gives _ _ _ _ (λ unknown.
+      value_gives _ name ((name_test name).0 (unnot _ good), place_unknown machines name (none_is _ unknown), refl))))
+      (λ own (good, new, same). then_gives _ _ _ _
+      (some_gives (named role_names word) _ _ (role_named word)) (λ role is.
+      value_gives _ (own, role) (good, new, cc)))
+  machine_gives words = λ a is. cc
+
+  -- ---- entries
+
+  entry_gives : (maker word : List ℕ) → Gives (entry_read (roles_of machines) maker word)
+      (λ entry. IsNamedAt machines maker entry.0 × (entry.1 ≤ 4095) × (word ≡ decimal entry.1))
+  entry_gives maker word = then_gives _ _ _ _ (named_gives maker) (λ place at.
+      then_gives _ _ _ _ (number_gives 0 4095 word) (λ number (within, is).
+      value_gives _ (place, number) (at, within.1, is)))
+
+  receiver_gives : (maker receiver : List ℕ) → Gives (receiver_read (roles_of machines) maker receiver)
+      (λ place. (receiver ≢ maker) × IsNamedAt machines receiver place)
+  receiver_gives maker receiver =
+      unless_gives (not (is_name_word receiver)) _ _ _ (λ good. unless_gives (bytes_eq receiver maker) _ _ _ (λ other.
+      some_gives _ _ _ (λ place is.
+      (λ same. true≢false (sym ((bytes_eq-Decides receiver maker).1 same) ∙ other), place_is receiver place is))))
+
+  -- one that is lost
+  pub lose_gives : (words : List (List ℕ)) → Gives (lose_read (roles_of machines) words)
+      (λ lose. IsLose machines lose
+      × (words ≡ name_at machines lose.from ∷ decimal lose.number ∷ name_at machines lose.to ∷ []))
+  lose_gives (maker ∷ number ∷ receiver ∷ []) = then_gives _ _ _ _ (entry_gives maker number) (λ entry (made, most, is).
+      then_gives _ _ _ _ (receiver_gives maker receiver) (λ place (differ, heard).
+      let other : (entry.0 ≡ place) → ⊥ = λ same. differ (sym heard.1 ∙ ap (name_at machines) (sym same) ∙ made.1) in
+      value_gives _ (record { from = entry.0; number = entry.1; to = place })
+      ((made.0, heard.0, other, most), cc)))
+  lose_gives words = λ a is. cc
+
+  -- ---- stops
+
+  stopper_gives : (stops : List StopAt) (name : List ℕ) →
+      Gives (stopper_read (roles_of machines) (stopped_of machines stops) name)
+      (λ place. IsNamedAt machines name place × (Any (λ (stop : StopAt). stop.machine ≡ place) stops → ⊥))
+  stopper_gives stops name =
+      unless_gives (not (is_name_word name)) _ _ _ (λ good. unless_gives (is_listed (stopped_of machines stops) name)
+      _ _ _ (λ new.
+      some_gives _ _ _ (λ place is.
+      let at = place_is name place is in (
+        at,
+        λ any. true≢false (sym (stop_among machines stops place any)
+            ∙ ap (is_listed (stopped_of machines stops)) at.1 ∙ new),
+      ))))
+
+  pub stop_gives : (stops : List StopAt) (words : List (List ℕ)) →
+      Gives (stop_read (roles_of machines) (stopped_of machines stops) words)
+      (λ stop. (IsStopAt machines stop × (Any (λ (other : StopAt). other.machine ≡ stop.machine) stops → ⊥))
+      × (words ≡ name_at machines stop.machine ∷ decimal stop.events ∷ []))
+  stop_gives stops (name ∷ word ∷ []) = then_gives _ _ _ _ (stopper_gives stops name) (λ place (at, new).
+      then_gives _ _ _ _ (number_gives 0 max_events word) (λ events (within, is).
+      value_gives _ (record { machine = place; events = events }) (((at.0, within.1), new), cc)))
+  stop_gives stops words = λ a is. cc
+
+  -- ---- steps
+
+  own_gives : (words : List (List ℕ)) → Gives (own_step (roles_of machines) words)
+      (λ place. (place < length machines) × (words ≡ name_at machines place ∷ []))
+  own_gives (name ∷ []) = λ place is.
+      let (within, named) = named_gives name place is in (within, ap (λ w. w ∷ []) (sym named))
+  own_gives words = λ a is. cc
+
+  -- what the words after that of a step say
+  abbrev IsStepSaid : List ℕ → StepName → Type 0
+  IsStepSaid word name =
+      (words : List (List ℕ)) → Gives (named_step (roles_of machines) name words)
+      (λ step. IsStep machines step × (word ∷ words ≡ step_words machines step))
+
+  hear_gives : IsStepSaid (codes "hear") step.Hear
+  hear_gives (name ∷ maker ∷ number ∷ []) = then_gives _ _ _ _ (named_gives name) (λ place at.
+      then_gives _ _ _ _ (entry_gives maker number) (λ entry (made, most, is).
+      value_gives _ (Hear place entry.0 entry.1) ((at.0, made.0, most), cc)))
+  hear_gives words = λ a is. cc
+
+  pub step_gives : (words : List (List ℕ)) → Gives (step_read (roles_of machines) words)
+      (λ step. IsStep machines step × (words ≡ step_words machines step))
+  step_gives (word ∷ words) = then_gives _ _ _ _ (row_gives IsStepSaid step_names word (
+    λ ws. then_gives _ _ _ _ (own_gives ws) (λ place (within, is). value_gives _ (Act place) (within, cc)),
+    (
+      hear_gives,
+      (λ ws. then_gives _ _ _ _ (own_gives ws) (λ place (within, is). value_gives _ (Stop place) (within, cc)), tt),
+    ),
+  )) (λ step said. said words)
+  step_gives words = λ a is. cc
+
+  -- ---- deeds
+
+  role_session_gives : (role : Role) (name word : List ℕ) →
+      Gives (machine_and_session (roles_of machines) role name word)
+      (λ read. (IsNamedAt machines name read.0 × HasRoleAt machines role read.0)
+      × (IsSession read.1 × (word ≡ decimal read.1)))
+  role_session_gives role name word = then_gives _ _ _ _ (role_gives role name) (λ place has.
+      then_gives _ _ _ _ (number_gives 1 4294967295 word) (λ session is. value_gives _ (place, session) (has, is)))
+
+  module _ (version : ℕ) where
+    -- the deed is one that the machine of the name may do, and these are its words
+    abbrev IsSaid : List ℕ → List (List ℕ) → ℕ × Deed → Type 0
+    IsSaid name words done =
+        IsDone version machines done × (name ∷ words ≡ name_at machines done.0 ∷ deed_words version machines done.1)
+
+    -- what the words after that of a deed say
+    abbrev IsDeedSaid : List ℕ → DeedName → Type 0
+    IsDeedSaid word deed =
+        (name : List ℕ) (words : List (List ℕ)) → Gives (named_deed (roles_of machines) name deed words)
+        (IsSaid name (word ∷ words))
+
+    plain_gives : (role : Role) (name : List ℕ) (words : List (List ℕ)) →
+        Gives (plain_deed (roles_of machines) role name words)
+        (λ place. (IsNamedAt machines name place × HasRoleAt machines role place) × (words ≡ []))
+    plain_gives role name [] = λ place is. (role_gives role name place is, refl)
+    plain_gives role name words = λ a is. cc
+
+    session_gives : (role : Role) (name : List ℕ) (words : List (List ℕ)) →
+        Gives (session_deed (roles_of machines) role name words)
+        (λ read. (IsNamedAt machines name read.0 × HasRoleAt machines role read.0)
+        × (IsSession read.1 × (words ≡ decimal read.1 ∷ [])))
+    session_gives role name (word ∷ []) = λ read is.
+        let (has, (good, same)) = role_session_gives role name word read is in (has, (good, ap (λ w. w ∷ []) same))
+    session_gives role name words = λ a is. cc
+
+    ballot_deed_gives : (name : List ℕ) (words : List (List ℕ)) → Gives (ballot_deed (roles_of machines) name words)
+        (λ read. (IsNamedAt machines name read.0 × HasRoleAt machines Booth read.0)
+        × ((IsSession read.1 × IsDigest read.2 × IsBytes read.2) × (words ≡ decimal read.1 ∷ encode_lower read.2 ∷ [])))
+    ballot_deed_gives name (word ∷ digits ∷ []) =
+        then_gives _ _ _ _ (role_session_gives Booth name word) (λ read (has, (good, is)).
+        then_gives _ _ _ _ (ballot_gives digits) (λ ballot (digest, octets, also).
+        value_gives _ (read.0, read.1, ballot) (has, ((good, digest, octets), cc))))
+    ballot_deed_gives name words = λ a is. cc
+
+    open_is : IsDeedSaid (codes "open") deed.Open
+    open_is name words = then_gives _ _ _ _ (plain_gives Supervisor name words)
+        (λ place ((at, (cast, there, own)), is).
+        value_gives _ (place, Opened) ((cast, there, own, tt, tt), cc))
+
+    close_is : IsDeedSaid (codes "close") deed.Close
+    close_is name words = then_gives _ _ _ _ (plain_gives Supervisor name words)
+        (λ place ((at, (cast, there, own)), is).
+        value_gives _ (place, Closed) ((cast, there, own, tt, tt), cc))
+
+    authorise_is : IsDeedSaid (codes "authorise") deed.Authorise
+    authorise_is name (booth ∷ word ∷ []) = then_gives _ _ (λ read. (IsNamedAt machines name read.0
+        × HasRoleAt machines Supervisor read.0) × ((IsNamedAt machines booth read.1 × HasRoleAt machines Booth read.1)
+        × (IsSession read.2 × (word ≡ decimal read.2)))) _
+        (then_gives _ _ _ _ (role_gives Supervisor name) (λ place has.
+        then_gives _ _ _ _ (role_session_gives Booth booth word) (λ read is.
+        value_gives _ (place, read.0, read.1) (has, is))))
+        (λ read ((at, (cast, there, own)), ((also, holds), (good, is))).
+        value_gives _ (read.0, Authorise read.1 read.2) ((cast, there, own, tt, (holds, good)), cc))
+    authorise_is name words = λ a is. cc
+
+    activate_is : IsDeedSaid (codes "activate") deed.Activate
+    activate_is name words = then_gives _ _ _ _ (session_gives Booth name words)
+        (λ read ((at, (cast, there, own)), (good, is)).
+        value_gives _ (read.0, Activate read.1) ((cast, there, own, tt, good), cc))
+
+    cancel_is : IsDeedSaid (codes "cancel") deed.Cancel
+    cancel_is name words = then_gives _ _ _ _ (session_gives Booth name words)
+        (λ read ((at, (cast, there, own)), (good, is)).
+        value_gives _ (read.0, Cancel read.1) ((cast, there, own, tt, good), cc))
+
+    commit_is : IsDeedSaid (codes "commit") deed.Commit
+    commit_is name words = then_gives _ _ _ _ (ballot_deed_gives name words)
+        (λ read ((at, (cast, there, own)), (good, is)).
+        value_gives _ (read.0, Commit read.1 read.2) ((cast, there, own, tt, good), cc))
+
+    cast_is : IsDeedSaid (codes "cast") deed.Cast
+    cast_is name words = then_gives _ _ _ _ (ballot_deed_gives name words)
+        (λ read ((at, (cast, there, own)), (good, is)).
+        value_gives _ (read.0, Cast read.1 read.2) ((cast, there, own, tt, good), cc))
+
+    -- the deeds of all versions, before those of one
+    common : AreRows IsDeedSaid (later_deeds version) → AreRows IsDeedSaid (deed_names version)
+    common later = (open_is, (authorise_is, (close_is, (activate_is, (commit_is, (cast_is, (cancel_is, later)))))))
+
+  -- what only one version has
+  override_is : IsDeedSaid 1 (codes "override") deed.Override
+  override_is name words = then_gives _ _ _ _ (session_gives 1 Supervisor name words)
+      (λ read ((at, (cast, there, own)), (good, is)).
+      value_gives _ (read.0, Override read.1 how.Cancel) ((cast, there, own, tt, good), cc))
+
+  how_in_two : (session : ℕ) (how : How) → IsDeedIn 2 (Override session how)
+  how_in_two session how.Cancel = tt
+  how_in_two session how.Cast = refl
+
+  override_how_is : IsDeedSaid 2 (codes "override") deed.OverrideHow
+  override_how_is name (word ∷ said ∷ []) = then_gives _ _ (λ read. (IsNamedAt machines name read.0
+      × HasRoleAt machines Supervisor read.0) × (IsSession read.1 × ((word ≡ decimal read.1) ×
+      (said ≡ how_word read.2)))) _
+      (then_gives _ _ _ _ (role_session_gives Supervisor name word) (λ read (has, (good, is)).
+      then_gives _ _ _ _ (some_gives (named how_names said) _ _ (how_named said)) (λ how also.
+      value_gives _ (read.0, read.1, how) (has, (good, (is, also))))))
+      (λ read ((at, (cast, there, own)), (good, (is, also))).
+      value_gives _ (read.0, Override read.1 read.2) ((cast, there, own, how_in_two read.1 read.2, good), cc))
+  override_how_is name words = λ a is. cc
+
+  challenge_is : IsDeedSaid 2 (codes "challenge") deed.Challenge
+  challenge_is name words = then_gives _ _ _ _ (ballot_deed_gives 2 name words)
+      (λ read ((at, (cast, there, own)), (good, is)).
+      value_gives _ (read.0, Challenge read.1 read.2) ((cast, there, own, refl, good), cc))
+
+  -- what a version has
+  deeds_are : (version : ℕ) → IsVersion version → AreRows (IsDeedSaid version) (deed_names version)
+  deeds_are version (inl one) =
+      common version (subst (λ v. AreRows (IsDeedSaid v) (later_deeds v)) (sym one) (override_is, tt))
+  deeds_are version (inr two) =
+      common version (subst (λ v. AreRows (IsDeedSaid v) (later_deeds v)) (sym two)
+      (override_how_is, (challenge_is, tt)))
+
+  pub deed_gives : (version : ℕ) → IsVersion version → (words : List (List ℕ)) →
+      Gives (do_read version (roles_of machines) words)
+      (λ done. IsDone version machines done × (words ≡ name_at machines done.0 ∷ deed_words version machines done.1))
+  deed_gives version good (name ∷ word ∷ words) =
+      then_gives _ _ _ _ (row_gives (IsDeedSaid version) (deed_names version) word (deeds_are version good))
+      (λ deed said. said name words)
+  deed_gives version good words = λ a is. cc
