@@ -1,9 +1,6 @@
 -- What the proofs of this crate take from others.
 pub use Rattle.audit_proof.specs.Answers.{verdict_of}
 pub use Rattle.audit_proof.specs.Canonical.{IsCanonicalProof, IsCanonicalText, IsGreatest, OneTextIsCanonical}
-pub use Rattle.audit_proof.specs.Faults.{IsFirstFault, IsLineFault, ProofCauses, SaysNumber, SaysStep}
-pub use Rattle.audit_proof.specs.Faults.{ancestor_causes, count_causes, end_causes, form_causes, line_in, past_causes}
-pub use Rattle.audit_proof.specs.Faults.{survivors_causes, word_in}
 pub use Rattle.audit_proof.specs.KnownBy.{before_by, before_on, is_whole_line, lists, own_line, three_by, whole_by}
 pub use Rattle.audit_proof.specs.Lines.{HasEachLine, IsBegun, IsLineOf, IsOnLine, IsProofOf, IsReached, LacksNoParent}
 pub use Rattle.audit_proof.specs.Lines.{Line, listed_in}
@@ -11,7 +8,7 @@ pub use Rattle.audit_proof.specs.OneReading.{HaveSameArrows, SameArrowsGiveOneVa
 pub use Rattle.audit_proof.specs.OneReading.{TextsAreReadInOneWay}
 pub use Rattle.audit_proof.specs.ProofText.{form_line, head_text, line_text, line_words, proof_text, step_text}
 pub use Rattle.audit_proof.specs.ProofText.{step_word, survivors_line}
-pub use Rattle.audit_proof.specs.Reads.{IsReadAnswer, IsTextFor}
+pub use Rattle.audit_proof.specs.Reads.{IsReadAnswer, IsTextFor, TextsOfProofsAreRead}
 pub use Rattle.audit_proof.specs.Trust.{FullProofsSayAll, LinesListAncestors, ProofsAreRight, ProofsSayNoMore}
 pub use Rattle.audit_proof.specs.Trust.{WrittenProofsSayAll}
 pub use Rattle.audit_proof.specs.declared.fault.ProofFault.{ProofFault}
@@ -19,21 +16,16 @@ pub use Rattle.audit_proof.specs.declared.fault.ProofFault.TheVariants.{At}
 pub use Rattle.audit_proof.specs.declared.fault.ProofWhy.{ProofWhy}
 pub use Rattle.audit_proof.specs.declared.fault.ProofWhy.TheVariants.{Form, NotFalling, NotParent, NotReached}
 pub use Rattle.audit_proof.specs.declared.fault.ProofWhy.TheVariants.{NotRising, OutOfRange, WrongCount}
-pub use Rattle.audit_proof.specs.declared.lines.Entry.{Entry}
 pub use Rattle.audit_proof.specs.declared.listing.Listing.{Listing}
 pub use Rattle.audit_proof.specs.declared.reading.Unread.{Unread}
 pub use Rattle.audit_proof.specs.declared.reading.Unread.TheVariants.{Why}
 pub use Rattle.audit_proof.specs.declared.step.ProofStep.{ProofStep}
-pub use Rattle.audit_proof.specs.inside.Begun.{GoesOn, IsListedTable, IsNextWord, IsReading, IsWordStep, step_tests}
 pub use Rattle.audit_proof.specs.inside.Bytes.{Follows, HasNo}
 pub use Rattle.audit_proof.specs.inside.Kinds.{places_of}
 pub use Rattle.audit_proof.specs.inside.Closed.{closed_at}
 pub use Rattle.audit_proof.specs.inside.Falls.{Falls}
-pub use Rattle.audit_proof.specs.inside.LineAnswers.{IsEntryOf, IsFinished, IsLineAnswer, IsNoEntry, fault_of}
 pub use Rattle.audit_proof.specs.inside.Listing.{IsListingOf, listing_before, listing_whole}
-pub use Rattle.audit_proof.specs.inside.Lists.{IsReadingLines}
 pub use Rattle.audit_proof.specs.inside.Packing.{step_in, steps_from, unpacked}
-pub use Rattle.audit_proof.specs.inside.Unread.{IsWordFault, IsWordsAnswer, line_with}
 pub use Rattle.audit_proof.specs.inside.Walks.{IsNoted, IsWalking, noted_one, via_at}
 pub use Rattle.audit_proof.specs.inside.Writings.{IsWriting}
 pub use Rattle.entry_order.proofs.Lists.{Contains-cons_cases, Contains-head, Contains-later}
@@ -46,8 +38,6 @@ pub use Rattle.entry_order.specs.Ancestors.{Descends, IsAncestor, IsWalk, before
 pub use Rattle.entry_order.specs.Node.{Node}
 pub use Rattle.entry_order.specs.declared.three.Three.{Three}
 pub use Rattle.entry_order.specs.declared.three.Three.TheVariants.{False, True, Unknown}
-pub use Rattle.item_list.proofs.Rows.{one_first}
-pub use Rattle.item_list.specs.Causes.{IsFirstOf}
 pub use Rattle.precedence.specs.Graph.{Graph}
 pub use Rattle.rule_language.specs.Forms.{tree_of}
 pub use Rattle.rule_language.specs.Trees.{Trees}
@@ -68,7 +58,7 @@ pub use Rattle.std.proofs.Common.{inl, inr, length, nat_eq, refl, replicate, rul
 pub use Rattle.std.proofs.Common.{ℕ, ◌%◌, ◌++◌, ◌+◌, ◌-◌, ◌/◌, ◌<◌, ◌^◌, ◌||◌, ◌∙◌, ◌∷◌, ◌≡◌, ◌≢◌, ◌≤◌}
 pub use Rattle.std.proofs.lemmas.Bool.{and_from, and_parts, cases_eq, cases_lt, eq-eqb, eqb-true, false≢true, lt-ltb}
 pub use Rattle.std.proofs.lemmas.Bool.{ltb-true, ne_eqb, not-true, not_from_false}
-pub use Rattle.std.proofs.lemmas.Fmt.{decimal_by_steps, decimal_injective, length-decimal-le}
+pub use Rattle.std.proofs.lemmas.Fmt.{decimal_by_steps, decimal_nonempty, decimal_injective, length-decimal-le}
 pub use Rattle.std.proofs.lemmas.List.{drop-drop, drop_all, drop_more, get_or-append-add, get_or-replicate}
 pub use Rattle.std.proofs.lemmas.List.{get_or-set_other, get_or-set_same, get_or_append_left, get_or_past}
 pub use Rattle.std.proofs.lemmas.List.{length-append, length-map, length-replicate, length-set, length-take-le}
@@ -85,3 +75,31 @@ pub use Rattle.std.specs.List.{prefix_len, range_with_len}
 pub use Rattle.std.specs.Option.{option_or}
 pub use Rattle.std.specs.Prelude.{AllPairs, Err, Ok, Result, codes, nat_lt, not, slice_get, slice_index_or, slice_set}
 pub use Rattle.std.specs.Prelude.{◌&&◌, ◌==◌, ◌⊎◌}
+pub use Rattle.audit_proof.specs.Reading.{Read, TextLine, after_line, at_line}
+pub use Rattle.audit_proof.specs.Reading.{is_above, is_closed, is_on_line, lines_between, lines_in}
+pub use Rattle.audit_proof.specs.Reading.{lists_parents, longer, need, number_after, number_read}
+pub use Rattle.audit_proof.specs.Reading.{pasts_read, steps_read, words_of, ◌>>=◌}
+pub use Rattle.audit_proof.specs.inside.Begun.{IsListedTable, IsNumbered, IsReading, IsWordsAnswer, Told, line_with}
+pub use Rattle.audit_proof.specs.inside.Begun.{spaced, text_line}
+pub use Rattle.audit_proof.specs.inside.Lists.{IsAnswer, IsLineAt, IsReadingLines, fault_of}
+pub use Rattle.audit_proof.specs.declared.fault.ProofFault.TheVariants.{Memory}
+pub use Rattle.hall_text.proofs.Numbers.{number-found, number-none}
+pub use Rattle.hall_text.specs.Words.{number_in, value_from}
+pub use Rattle.std.proofs.Common.{Bool, append-nil, false}
+pub use Rattle.std.proofs.Math.Seq.{drop-append-add}
+pub use Rattle.std.proofs.lemmas.Bool.{false_from_ne_true, le-leb, leb-true, or_cases}
+pub use Rattle.std.proofs.lemmas.List.Splits.{join_with_byte-slice_split, length-slice_split}
+pub use Rattle.std.proofs.lemmas.List.Sums.{passes_at_first, split_at_first}
+pub use Rattle.std.proofs.lemmas.Slice.Eq.{bytes_eq-Decides}
+pub use Rattle.std.specs.List.{after_first, join_with_byte, slice_split}
+pub use Rattle.std.specs.Prelude.{All, if◌then◌else◌, map, ok_or}
+pub use Rattle.std.specs.Str.{bytes_eq}
+unfoldable pub use Rattle.audit_proof.specs.Reading.{count_read, end_read, entry_read, form_read, past_read, proof_of}
+unfoldable pub use Rattle.audit_proof.specs.Reading.{step_fits, step_read}
+unfoldable pub use Rattle.audit_proof.specs.inside.Begun.{step_tests}
+pub use Rattle.std.proofs.lemmas.List.Splits.{slice_split_at, slice_split_none}
+pub use Rattle.audit_proof.specs.declared.fault.ProofWhy.TheVariants.{NotClosed}
+pub use Rattle.audit_proof.specs.declared.reading.Numbered.{Numbered}
+pub use Rattle.audit_proof.specs.declared.whole_text.LineAt.{LineAt}
+pub use Rattle.std.proofs.lemmas.List.{length-drop}
+pub use Rattle.std.specs.Prelude.{nat_le}

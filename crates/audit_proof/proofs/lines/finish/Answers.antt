@@ -1,17 +1,16 @@
-use Rattle.std.proofs.Common.{Bool, false}
-use Rattle.audit_proof.proofs.Imports.{◌≡◌, ◌∙◌, ◌<◌, ℕ, List, sym, ap, refl, subst, inl, inr, true, length, get_or}
-use Rattle.audit_proof.proofs.Imports.{rules, arith, list_all, false≢true, slice_get-get_or, ProofStep, listed_in}
-use Rattle.audit_proof.proofs.Imports.{IsLineOf, closed_at, line_with}
-use Rattle.audit_proof.proofs.LongerLines.{step_on_line, reached_on_line}
-use Rattle.audit_proof.proofs.LineFacts.{line_own, line_each, closed_line}
 use Rattle.audit_proof.proofs.lines.finish.Goals as goal
+use Rattle.audit_proof.proofs.Imports.{Bool, Line, List, Ok, ProofStep, ap, arith, closed_at, false, get_or, length}
+use Rattle.audit_proof.proofs.Imports.{line_with, list_all, listed_in, refl, rules, slice_get-get_or, subst, sym}
+use Rattle.audit_proof.proofs.Imports.{true, ℕ, ◌<◌, ◌∙◌, ◌≡◌}
+use Rattle.audit_proof.proofs.LongerLines.{reached_on_line, step_on_line}
+use Rattle.audit_proof.proofs.LinesRead.{end_by}
 
 pub returns-then-not-is_ended : goal.returns-then-not-is_ended
-returns-then-not-is_ended g c = inl (
-  (λ ended. let not : c.args.is_ended ≡ false = search rules in
-      false≢true (sym not ∙ ended)),
-  refl,
-)
+returns-then-not-is_ended g c =
+    let graph = g.A.Arrows.graph c.args.graph.now in
+    let cut : c.args.is_ended ≡ false = search rules in
+    end_by graph c.args.is_ended c.args.entry c.args.read.steps.items c.args.read.listed.items c.requires.table _ _ refl
+    refl ∙ rw cut refl
 
 pub are_listed-requires : goal.are_listed-requires
 are_listed-requires g c i d low =
@@ -23,20 +22,12 @@ are_listed-requires g c i d low =
 pub returns-then-not-are_listed : goal.returns-then-not-are_listed
 returns-then-not-are_listed g c =
     let graph = g.A.Arrows.graph c.args.graph.now in
-    let steps = c.args.read.steps.items in
-    let listed = c.args.read.listed.items in
     let ended : c.args.is_ended ≡ true = search rules in
     let lost : c.are_listed.result ≡ false = search rules in
-    inr (
-      (λ lacks. lacks ended),
-      inl (
-        λ closed. false≢true (sym lost ∙ c.are_listed.ensures
-            ∙ ap (λ (bs : List Bool). closed_at bs c.parents.result.now) c.deref.ensures.value
-            ∙ ap (closed_at listed) c.parents.ensures.are
-            ∙ line_own graph c.args.entry steps listed c.requires.table closed),
-        refl,
-      ),
-    )
+    end_by graph c.args.is_ended c.args.entry c.args.read.steps.items c.args.read.listed.items c.requires.table
+    c.are_listed.result _ (c.are_listed.ensures
+    ∙ ap (λ (bs : List Bool). closed_at bs c.parents.result.now) c.deref.ensures.value
+    ∙ ap (closed_at c.args.read.listed.items) c.parents.ensures.are) refl ∙ rw (ended, lost) refl
 
 pub are_closed-requires-clause-each : goal.are_closed-requires-clause-each
 are_closed-requires-clause-each g c = ap (λ (bs : List Bool). length bs) c.deref-3.ensures.value ∙ c.requires.each
@@ -54,22 +45,17 @@ pub returns-then-not-are_closed : goal.returns-then-not-are_closed
 returns-then-not-are_closed g c =
     let graph = g.A.Arrows.graph c.args.graph.now in
     let steps = c.args.read.steps.items in
-    let listed = c.args.read.listed.items in
     let ended : c.args.is_ended ≡ true = search rules in
+    let own : c.are_listed.result ≡ true = search rules in
     let lost : c.are_closed.result ≡ false = search rules in
-    inr (
-      (λ lacks. lacks ended),
-      inl (
-        λ closed. false≢true (sym lost ∙ c.are_closed.ensures
-            ∙ ap (λ (ss : List ProofStep). list_all (λ y. closed_at c.deref-3.result.now (graph.parents y))
-            (listed_in ss))
-            c.deref-2.ensures.value
-            ∙ ap (λ (bs : List Bool). list_all (λ y. closed_at bs (graph.parents y))
-            (listed_in steps)) c.deref-3.ensures.value
-            ∙ line_each graph c.args.entry steps listed c.requires.table closed),
-        refl,
-      ),
-    )
+    end_by graph c.args.is_ended c.args.entry steps c.args.read.listed.items c.requires.table c.are_listed.result
+    c.are_closed.result (c.are_listed.ensures
+    ∙ ap (λ (bs : List Bool). closed_at bs c.parents.result.now) c.deref.ensures.value
+    ∙ ap (closed_at c.args.read.listed.items) c.parents.ensures.are) (c.are_closed.ensures
+    ∙ ap (λ (ss : List ProofStep). list_all (λ y. closed_at c.deref-3.result.now (graph.parents y)) (listed_in ss))
+    c.deref-2.ensures.value
+    ∙ ap (λ (bs : List Bool). list_all (λ y. closed_at bs (graph.parents y)) (listed_in steps)) c.deref-3.ensures.value)
+    ∙ rw (ended, own, lost) refl
 
 -- the steps are kept as they are
 pub of-requires-clause-falls : goal.of-requires-clause-falls
@@ -87,24 +73,14 @@ pub returns : goal.returns
 returns g c =
     let graph = g.A.Arrows.graph c.args.graph.now in
     let steps = c.args.read.steps.items in
-    let listed = c.args.read.listed.items in
     let ended : c.args.is_ended ≡ true = search rules in
     let own : c.are_listed.result ≡ true = search rules in
-    let each : c.are_closed.result ≡ true = search rules in (
-      ended,
-      c.in_ok-of.ensures,
-      subst (IsLineOf graph) (sym c.in_ok-of.ensures) (record {
-        begun = c.requires.begun;
-        closed = closed_line graph c.args.entry steps listed c.requires.table
-            (sym (c.are_listed.ensures
-            ∙ ap (λ (bs : List Bool). closed_at bs c.parents.result.now) c.deref.ensures.value
-            ∙ ap (closed_at listed) c.parents.ensures.are) ∙ own)
-            (sym (c.are_closed.ensures
-            ∙ ap (λ (ss : List ProofStep). list_all (λ y. closed_at c.deref-3.result.now (graph.parents y))
-            (listed_in ss))
-            c.deref-2.ensures.value
-            ∙ ap (λ (bs : List Bool). list_all (λ y. closed_at bs (graph.parents y))
-            (listed_in steps)) c.deref-3.ensures.value)
-            ∙ each);
-      }),
-    )
+    let each : c.are_closed.result ≡ true = search rules in
+    end_by graph c.args.is_ended c.args.entry steps c.args.read.listed.items c.requires.table c.are_listed.result
+    c.are_closed.result (c.are_listed.ensures
+    ∙ ap (λ (bs : List Bool). closed_at bs c.parents.result.now) c.deref.ensures.value
+    ∙ ap (closed_at c.args.read.listed.items) c.parents.ensures.are) (c.are_closed.ensures
+    ∙ ap (λ (ss : List ProofStep). list_all (λ y. closed_at c.deref-3.result.now (graph.parents y)) (listed_in ss))
+    c.deref-2.ensures.value
+    ∙ ap (λ (bs : List Bool). list_all (λ y. closed_at bs (graph.parents y)) (listed_in steps)) c.deref-3.ensures.value)
+    ∙ rw (ended, own, each) (ap (λ (l : Line). Ok l) (sym c.in_ok-of.ensures))
