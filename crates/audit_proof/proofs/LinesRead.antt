@@ -1,18 +1,18 @@
 -- The lines of a text, read by their places.
 use Rattle.audit_proof.specs.declared.fault.ProofFault.TheVariants.{Memory as OutOfMemory}
 use Rattle.audit_proof.specs.declared.reading.Unread.TheVariants.{Why, Memory}
-use Rattle.audit_proof.proofs.Imports.{At, Bool, Err, Follows, Form, Graph, HasNo, IsAnswer, IsBegun, IsLineAt}
-use Rattle.audit_proof.proofs.Imports.{IsListedTable, IsReadAnswer, IsReadingLines, IsWordsAnswer, Line, LineAt, List}
-use Rattle.audit_proof.proofs.Imports.{NotClosed, NotRising, Ok, OutOfRange, ProofFault, ProofStep, Read, Result}
-use Rattle.audit_proof.proofs.Imports.{TextLine, Told, Unread, [], after_line, and_from, and_parts, ap, append-nil}
-use Rattle.audit_proof.proofs.Imports.{arith, at_line, cases_lt, closed_at, codes, count_read, drop, drop-drop}
-use Rattle.audit_proof.proofs.Imports.{drop_all, drop_more, end_read, entry_read, false, false_from_ne_true, fault_of}
-use Rattle.audit_proof.proofs.Imports.{form_read, get_or, inl, inr, is_above, is_closed, le-leb, leb-true, length}
-use Rattle.audit_proof.proofs.Imports.{length-drop, line_with, lines_in, list_all, list_all-append, list_any}
-use Rattle.audit_proof.proofs.Imports.{listed_in, lists_parents, lt-ltb, ltb-true, nat_le, nat_lt, need, number_after}
+use Rattle.audit_proof.proofs.Imports.{At, Bool, Err, Follows, Form, Graph, HasNo, IsBegun, IsLineAt, IsListedTable}
+use Rattle.audit_proof.proofs.Imports.{IsReadAnswer, IsReadingLines, IsWordsAnswer, Line, LineAt, List, NotRising, Ok}
+use Rattle.audit_proof.proofs.Imports.{OutOfRange, ProofFault, ProofRead, ProofStep, Result, TextLine, Told, Unread}
+use Rattle.audit_proof.proofs.Imports.{[], after_line, and_from, and_parts, ap, append-nil, arith, at_number}
+use Rattle.audit_proof.proofs.Imports.{cases_lt, closed_at, codes, count_read, drop, drop-drop, drop_all, drop_more}
+use Rattle.audit_proof.proofs.Imports.{end_read, false, false_from_ne_true, fault_of, form_read, get_or, inl, inr}
+use Rattle.audit_proof.proofs.Imports.{is_above, lacks_no_parent, le-leb, leb-true, length, length-drop}
+use Rattle.audit_proof.proofs.Imports.{line_of_entry, line_with, lines_in, list_all, list_all-append, list_any}
+use Rattle.audit_proof.proofs.Imports.{listed_in, lists_parents, lt-ltb, ltb-true, nat_le, nat_lt, number_after}
 use Rattle.audit_proof.proofs.Imports.{past_read, pasts_read, proof_of, refl, spaced, steps_read, subst, suc, sym}
-use Rattle.audit_proof.proofs.Imports.{take, take-append-drop, text_line, true, words_of, zero, ℕ, ◌&&◌, ◌++◌, ◌+◌}
-use Rattle.audit_proof.proofs.Imports.{◌-◌, ◌<◌, ◌==◌, ◌>>=◌, ◌∙◌, ◌∷◌, ◌≡◌, ◌≤◌}
+use Rattle.audit_proof.proofs.Imports.{take, take-append-drop, text_line, true, words_on, zero, ℕ, ◌&&◌, ◌++◌, ◌+◌}
+use Rattle.audit_proof.proofs.Imports.{◌-◌, ◌<◌, ◌==◌, ◌>>=◌, ◌∙◌, ◌∷◌, ◌≡◌, ◌≢◌, ◌≤◌}
 use Rattle.audit_proof.proofs.Ancestries.{same_test}
 use Rattle.audit_proof.proofs.Parts.{lines_at, lines_last}
 use Rattle.audit_proof.proofs.Tests.{all_same}
@@ -72,7 +72,7 @@ module _ (bytes : List ℕ) (start end : ℕ) (order : start ≤ end) (within : 
 
 -- one of the first two lines, by its place: no line is as little one as a line of nothing
 pub first_line : (bytes : List ℕ) (start : ℕ) (at : LineAt) → IsLineAt bytes start at →
-    (read : TextLine → Read (Unit {0})) → read (text_line [] false) ≡ Err Form → after_line read (lines_in (drop start bytes))
+    (read : TextLine → ProofRead (Unit {0})) → read (text_line [] false) ≡ Err Form → after_line read (lines_in (drop start bytes))
     ≡ (read (text_line (take (at.end - start) (drop start bytes)) at.is_ended)
     >>= λ it. Ok (lines_in (drop at.next bytes)))
 first_line bytes start at is read nothing = elim (cases_lt start (length bytes)) [
@@ -85,7 +85,7 @@ first_line bytes start at is read nothing = elim (cases_lt start (length bytes))
       ap (λ (xs : List ℕ). after_line read (lines_in xs)) none
       ∙ sym (ap (λ (xs : List ℕ). read (text_line xs at.is_ended) >>= λ it. Ok (lines_in (drop at.next bytes))) empty
       ∙ ap (λ (b : Bool). read (text_line [] b) >>= λ it. Ok (lines_in (drop at.next bytes))) open_end
-      ∙ ap (λ (r : Read (Unit {0})). r >>= λ it. Ok (lines_in (drop at.next bytes))) nothing)
+      ∙ ap (λ (r : ProofRead (Unit {0})). r >>= λ it. Ok (lines_in (drop at.next bytes))) nothing)
 ]
   where
     -- of nothing nothing is taken
@@ -95,34 +95,27 @@ first_line bytes start at is read nothing = elim (cases_lt start (length bytes))
 
 -- ---- the end of a line
 
-module _ (graph : Graph) (ended : Bool) (entry : ℕ) (steps : List ProofStep) (listed : List Bool)
-    (table : IsListedTable steps listed) where
-  -- the table shows whether a parent is missing
-  closed_by : (x : ℕ) → lists_parents graph (line_with entry steps) x ≡ closed_at listed (graph.parents x)
-  closed_by x =
-      all_same (λ parent. list_any (λ z. z == parent) (listed_in steps)) (λ number. get_or listed number false)
-      (graph.parents x) (λ p c. sym (table p))
-
-  -- so the line's end is tried by it
-  pub end_by : (own each : Bool) → own ≡ closed_at listed (graph.parents entry) →
-      each ≡ list_all (λ y. closed_at listed (graph.parents y)) (listed_in steps) →
-      end_read graph ended (line_with entry steps)
-      ≡ (need ended Form >>= λ it. need (own && each) NotClosed >>= λ closed. Ok (line_with entry steps))
-  unfolding end_read
-  end_by own each is_own is_each =
-      let all : is_closed graph (line_with entry steps) ≡ own && each =
-      ap (λ (b : Bool). b && list_all (lists_parents graph (line_with entry steps)) (listed_in steps))
-      (closed_by entry ∙ sym is_own)
-      ∙ ap (λ (b : Bool). own && b) (all_same (lists_parents graph (line_with entry steps))
-      (λ y. closed_at listed (graph.parents y)) (listed_in steps) (λ y c. closed_by y) ∙ sym is_each) in
-      rw all refl
+-- a table of what is listed shows whether a parent is missing
+pub closed_by : (graph : Graph) (entry : ℕ) (steps : List ProofStep) (listed : List Bool) → IsListedTable steps listed →
+    lacks_no_parent graph (line_with entry steps)
+    ≡ (closed_at listed (graph.parents entry) && list_all (λ y. closed_at listed (graph.parents y)) (listed_in steps))
+closed_by graph entry steps listed table =
+    ap (λ (b : Bool). b && list_all (lists_parents graph (line_with entry steps)) (listed_in steps)) (one entry)
+    ∙ ap (λ (b : Bool). closed_at listed (graph.parents entry) && b)
+    (all_same (lists_parents graph (line_with entry steps)) (λ y. closed_at listed (graph.parents y)) (listed_in steps)
+    (λ y c. one y))
+  where
+    one : (x : ℕ) → lists_parents graph (line_with entry steps) x ≡ closed_at listed (graph.parents x)
+    one x =
+        all_same (λ parent. list_any (λ z. z == parent) (listed_in steps)) (λ number. get_or listed number false)
+        (graph.parents x) (λ p c. sym (table p))
 
 -- ---- the line of an entry
 
 module _ (graph : Graph) (rises : ℕ → Bool) (ended : Bool) (entry : ℕ) (words : List (List ℕ)) where
   -- an entry that is no survivor
-  pub out_of_range : graph.count ≤ entry → entry_read graph rises ended (entry, words) ≡ Err OutOfRange
-  unfolding entry_read
+  pub out_of_range : graph.count ≤ entry → line_of_entry graph rises ended (entry, words) ≡ Err OutOfRange
+  unfolding line_of_entry
   out_of_range over =
       let test : nat_lt entry graph.count ≡ false =
       false_from_ne_true (nat_lt entry graph.count) (λ low. let less = ltb-true entry graph.count low in
@@ -131,14 +124,14 @@ module _ (graph : Graph) (rises : ℕ → Bool) (ended : Bool) (entry : ℕ) (wo
 
   module _ (low : entry < graph.count) where
     -- one that doesn't rise
-    pub not_rising : rises entry ≡ false → entry_read graph rises ended (entry, words) ≡ Err NotRising
-    unfolding entry_read
+    pub not_rising : rises entry ≡ false → line_of_entry graph rises ended (entry, words) ≡ Err NotRising
+    unfolding line_of_entry
     not_rising falls = rw (lt-ltb entry graph.count low, falls) refl
 
     -- one that rises, by what is read of its words
-    pub entry_by : rises entry ≡ true → (read : Read Line) → steps_read graph (line_with entry []) words ≡ read →
-        entry_read graph rises ended (entry, words) ≡ (read >>= end_read graph ended)
-    unfolding entry_read
+    pub entry_by : rises entry ≡ true → (read : ProofRead Line) → steps_read graph (line_with entry []) words ≡ read →
+        line_of_entry graph rises ended (entry, words) ≡ (read >>= end_read graph ended)
+    unfolding line_of_entry
     entry_by above read is = rw (lt-ltb entry graph.count low, above, is) refl
 
 -- a line whose words are read has begun
@@ -149,16 +142,16 @@ read_begun graph entry words line e low =
 
 -- a line by its number
 pub past_by : (graph : Graph) (rises : ℕ → Bool) (line : List ℕ) (ended : Bool) (first : List ℕ) →
-    first ≡ codes "past" → (said : Read (ℕ × List (List ℕ))) → number_after first (words_of line) ≡ said →
-    past_read graph rises (text_line line ended) ≡ (said >>= entry_read graph rises ended)
+    first ≡ codes "past" → (said : ProofRead (ℕ × List (List ℕ))) → number_after first (words_on line) ≡ said →
+    past_read graph rises (text_line line ended) ≡ (said >>= line_of_entry graph rises ended)
 unfolding past_read
 past_by graph rises line ended first same said is =
-    ap (λ (xs : List ℕ). number_after xs (words_of line) >>= entry_read graph rises ended) (sym same) ∙ rw is refl
+    ap (λ (xs : List ℕ). number_after xs (words_on line) >>= line_of_entry graph rises ended) (sym same) ∙ rw is refl
 
 -- what is read of words that are refused
 pub words_refused : (graph : Graph) (rises : ℕ → Bool) (ended : Bool) (entry : ℕ) (bytes : List ℕ) (unread : Unread) →
     entry < graph.count → rises entry ≡ true → IsWordsAnswer graph entry bytes (Err unread) →
-    Told (entry_read graph rises ended (entry, spaced bytes)) (Err unread)
+    Told (line_of_entry graph rises ended (entry, spaced bytes)) (Err unread)
 words_refused graph rises ended entry bytes (Why why) low above is =
     entry_by graph rises ended entry (spaced bytes) low above (Err why) is
 words_refused graph rises ended entry bytes Memory low above is = tt
@@ -168,24 +161,24 @@ words_refused graph rises ended entry bytes Memory low above is = tt
 -- a line is read as well where the same entries rise
 rises_same : (graph : Graph) (rises above : ℕ → Bool) → ((x : ℕ) → rises x ≡ above x) → (next : TextLine) →
     past_read graph rises next ≡ past_read graph above next
-unfolding past_read entry_read
-rises_same graph rises above same next = by (number_after (codes "past") (words_of next.bytes))
+unfolding past_read line_of_entry
+rises_same graph rises above same next = by (number_after (codes "past") (words_on next.bytes))
   where
-    by : (said : Read (ℕ × List (List ℕ))) →
-        (said >>= entry_read graph rises next.is_ended) ≡ (said >>= entry_read graph above next.is_ended)
+    by : (said : ProofRead (ℕ × List (List ℕ))) →
+        (said >>= line_of_entry graph rises next.is_ended) ≡ (said >>= line_of_entry graph above next.is_ended)
     by (Ok (entry, words)) = rw (same entry) refl
     by (Err why) = refl
 
-module _ (graph : Graph) (bytes : List ℕ) (start : ℕ) (lines : List Line) (least at : ℕ)
-    (reading : IsReadingLines graph bytes start lines least at) (found : LineAt) (is : IsLineAt bytes at found)
-    (inside : at < length bytes) (piece : List ℕ) (taken : piece ≡ take (found.end - at) (drop at bytes)) where
+module _ {graph : Graph} {bytes : List ℕ} {start : ℕ} {lines : List Line} {least at : ℕ}
+    (reading : IsReadingLines graph bytes start lines least at) {found : LineAt} (is : IsLineAt bytes at found)
+    (inside : at < length bytes) {piece : List ℕ} (taken : piece ≡ take (found.end - at) (drop at bytes)) where
   -- this line is the next
-  next_line : (read : Read Line) → past_read graph (nat_le least) (text_line piece found.is_ended) ≡ read →
+  next_line : (read : ProofRead Line) → past_read graph (nat_le least) (text_line piece found.is_ended) ≡ read →
       pasts_read graph [] (lines_in (drop start bytes))
-      ≡ (at_line (length lines + 3) read >>= λ line. pasts_read graph (lines ++ line ∷ []) (lines_in (drop found.next bytes)))
+      ≡ (at_number (length lines + 3) read >>= λ line. pasts_read graph (lines ++ line ∷ []) (lines_in (drop found.next bytes)))
   next_line read e =
       reading.goes_on ∙ ap (pasts_read graph lines) (is.is inside)
-      ∙ ap (λ (r : Read Line). at_line (length lines + 3) r
+      ∙ ap (λ (r : ProofRead Line). at_number (length lines + 3) r
       >>= λ line. pasts_read graph (lines ++ line ∷ []) (lines_in (drop found.next bytes)))
       (rises_same graph (is_above lines) (nat_le least) reading.rises
       (text_line (take (found.end - at) (drop at bytes)) found.is_ended)
@@ -194,9 +187,10 @@ module _ (graph : Graph) (bytes : List ℕ) (start : ℕ) (lines : List Line) (l
   -- it is refused
   pub line_refused : (unread : Unread) →
       Told (past_read graph (nat_le least) (text_line piece found.is_ended)) (Err unread) →
-      IsAnswer (pasts_read graph [] (lines_in (drop start bytes))) (Err (fault_of (length lines + 3) unread))
-  line_refused (Why why) e = next_line (Err why) e
-  line_refused Memory e = tt
+      ◌≢◌ {A = Result (List Line) ProofFault} (Err (fault_of (length lines + 3) unread)) (Err OutOfMemory) →
+      Err (fault_of (length lines + 3) unread) ≡ pasts_read graph [] (lines_in (drop start bytes))
+  line_refused (Why why) e some = sym (next_line (Err why) e)
+  line_refused Memory e some = absurd (some refl)
 
   -- it is read
   pub lines_more : (line : Line) → past_read graph (nat_le least) (text_line piece found.is_ended) ≡ Ok line →
@@ -218,18 +212,6 @@ pub read_rises : (graph : Graph) (least : ℕ) (next : TextLine) (line : Line) �
     past_read graph (nat_le least) next ≡ Ok line → least ≤ line.entry
 read_rises graph least next line e = leb-true least line.entry (past_said graph (nat_le least) next line e).2
 
--- before the first line
-pub lines_none : (graph : Graph) (bytes : List ℕ) (start : ℕ) → start ≤ length bytes →
-    IsReadingLines graph bytes start [] 0 start
-lines_none graph bytes start within = record { within = within; goes_on = refl; rises = λ x. sym (le-leb 0 x (omega arith)) }
-
--- after the last
-pub lines_end : (graph : Graph) (bytes : List ℕ) (start : ℕ) (lines : List Line) (least at : ℕ) →
-    IsReadingLines graph bytes start lines least at → length bytes ≤ at →
-    pasts_read graph [] (lines_in (drop start bytes)) ≡ Ok lines
-lines_end graph bytes start lines least at reading over =
-    reading.goes_on ∙ ap (λ (xs : List ℕ). pasts_read graph lines (lines_in xs)) (drop_all at bytes over)
-
 -- ---- the entire text
 
 -- nothing is none of the first two lines
@@ -241,12 +223,12 @@ no_count : (count : ℕ) → count_read count (text_line [] false) ≡ Err Form
 unfolding count_read
 no_count count = refl
 
-module _ (graph : Graph) (bytes : List ℕ) (first : LineAt) (is_first : IsLineAt bytes 0 first) (line : List ℕ)
+module _ (graph : Graph) {bytes : List ℕ} {first : LineAt} (is_first : IsLineAt bytes 0 first) {line : List ℕ}
     (is_line : line ≡ take (first.end - 0) bytes) where
   -- a text by what is read of its first line
-  pub by_form : (form : Read (Unit {0})) → form ≡ form_read (text_line line first.is_ended) → proof_of graph bytes
-      ≡ (at_line 1 (form >>= λ it. Ok (lines_in (drop first.next bytes)))
-      >>= λ second. at_line 2 (after_line (count_read graph.count) second) >>= λ pasts. pasts_read graph [] pasts)
+  pub by_form : (form : ProofRead (Unit {0})) → form ≡ form_read (text_line line first.is_ended) → proof_of graph bytes
+      ≡ (at_number 1 (form >>= λ it. Ok (lines_in (drop first.next bytes)))
+      >>= λ second. at_number 2 (after_line (count_read graph.count) second) >>= λ pasts. pasts_read graph [] pasts)
   unfolding proof_of
   by_form form is =
       rw (
@@ -254,27 +236,27 @@ module _ (graph : Graph) (bytes : List ℕ) (first : LineAt) (is_first : IsLineA
         ap (λ (xs : List ℕ). form_read (text_line xs first.is_ended)) (sym is_line) ∙ sym is,
       ) refl
 
-  module _ (form : Ok tt ≡ form_read (text_line line first.is_ended)) (second : LineAt)
-      (is_second : IsLineAt bytes first.next second) (other : List ℕ)
-      (is_other : other ≡ take (second.end - first.next) (drop first.next bytes)) (count : ℕ)
+  module _ (form : Ok tt ≡ form_read (text_line line first.is_ended)) {second : LineAt}
+      (is_second : IsLineAt bytes first.next second) {other : List ℕ}
+      (is_other : other ≡ take (second.end - first.next) (drop first.next bytes)) {count : ℕ}
       (same : count ≡ graph.count) where
     -- and of its second
-    pub by_count : (head : Read (Unit {0})) → head ≡ count_read count (text_line other second.is_ended) →
-        proof_of graph bytes ≡ (at_line 2 (head >>= λ it. Ok (lines_in (drop second.next bytes)))
+    pub by_count : (head : ProofRead (Unit {0})) → head ≡ count_read count (text_line other second.is_ended) →
+        proof_of graph bytes ≡ (at_number 2 (head >>= λ it. Ok (lines_in (drop second.next bytes)))
         >>= λ pasts. pasts_read graph [] pasts)
     by_count head is =
         by_form (Ok tt) form
-        ∙ ap (λ (r : Read (List TextLine)). at_line 2 r >>= λ pasts. pasts_read graph [] pasts)
+        ∙ ap (λ (r : ProofRead (List TextLine)). at_number 2 r >>= λ pasts. pasts_read graph [] pasts)
         (first_line bytes first.next second is_second (count_read graph.count) (no_count graph.count)
         ∙ ap (λ (xs : List ℕ). count_read graph.count (text_line xs second.is_ended)
         >>= λ it. Ok (lines_in (drop second.next bytes))) (sym is_other)
         ∙ ap (λ (n : ℕ). count_read n (text_line other second.is_ended)
         >>= λ it. Ok (lines_in (drop second.next bytes))) (sym same)
-        ∙ ap (λ (r : Read (Unit {0})). r >>= λ it. Ok (lines_in (drop second.next bytes))) (sym is))
+        ∙ ap (λ (r : ProofRead (Unit {0})). r >>= λ it. Ok (lines_in (drop second.next bytes))) (sym is))
 
 -- the answer to a text is right if it is what the text is read as
 pub answered : (graph : Graph) (bytes : List ℕ) (answer : Result (List Line) ProofFault) →
-    IsAnswer (proof_of graph bytes) answer → IsReadAnswer graph bytes answer
-answered graph bytes (Ok lines) is = text_said graph bytes lines is
-answered graph bytes (Err (At line why)) is = is
+    (answer ≢ Err OutOfMemory → answer ≡ proof_of graph bytes) → IsReadAnswer graph bytes answer
+answered graph bytes (Ok lines) is = text_said graph bytes lines (sym (is (λ e. cc)))
+answered graph bytes (Err (At line why)) is = sym (is (λ e. cc))
 answered graph bytes (Err OutOfMemory) is = tt

@@ -7,7 +7,7 @@ use Rattle.audit_proof.proofs.Imports.{join_with_byte-slice_split, length, lengt
 use Rattle.audit_proof.proofs.Imports.{lines_between, lines_in, member_at, ne_eqb, not, position_or_len, prefix_len}
 use Rattle.audit_proof.proofs.Imports.{refl, slice_get-get_or, slice_split, slice_split_at, slice_split_none, spaced}
 use Rattle.audit_proof.proofs.Imports.{subst, sym, take, take-append-drop, take_at, taken_more, text_line, true}
-use Rattle.audit_proof.proofs.Imports.{words_of, ℕ, ◌++◌, ◌+◌, ◌<◌, ◌==◌, ◌∙◌, ◌∷◌, ◌≡◌, ◌≢◌, ◌≤◌}
+use Rattle.audit_proof.proofs.Imports.{words_on, ℕ, ◌++◌, ◌+◌, ◌<◌, ◌==◌, ◌∙◌, ◌∷◌, ◌≡◌, ◌≢◌, ◌≤◌}
 use Rattle.audit_proof.proofs.Texts.{has_no_both, has_no_more}
 
 -- one byte more that is another
@@ -90,18 +90,18 @@ part_dropped s xs n within none follows =
 -- ---- words
 
 -- a word, and what follows it
-pub words_at : (xs ys : List ℕ) → HasNo 32 xs → Follows 32 ys → words_of (xs ++ ys) ≡ xs ∷ spaced ys
-words_at xs [] none follows = ap words_of (append-nil xs) ∙ parts_last 32 xs none
-words_at xs (y ∷ ys) none follows = ap (λ (b : ℕ). words_of (xs ++ b ∷ ys)) follows ∙ parts_at 32 xs ys none
+pub words_at : (xs ys : List ℕ) → HasNo 32 xs → Follows 32 ys → words_on (xs ++ ys) ≡ xs ∷ spaced ys
+words_at xs [] none follows = ap words_on (append-nil xs) ∙ parts_last 32 xs none
+words_at xs (y ∷ ys) none follows = ap (λ (b : ℕ). words_on (xs ++ b ∷ ys)) follows ∙ parts_at 32 xs ys none
 
 -- the same by the place where the word ends
 pub words_taken : (xs : List ℕ) (n : ℕ) → HasNo 32 (take n xs) → Follows 32 (drop n xs) →
-    words_of xs ≡ take n xs ∷ spaced (drop n xs)
+    words_on xs ≡ take n xs ∷ spaced (drop n xs)
 words_taken xs n none follows =
-    ap words_of (sym (take-append-drop n xs)) ∙ words_at (take n xs) (drop n xs) none follows
+    ap words_on (sym (take-append-drop n xs)) ∙ words_at (take n xs) (drop n xs) none follows
 
 -- a line is its words with a space between each two
-pub words_back : (bytes first : List ℕ) (more : List (List ℕ)) → words_of bytes ≡ first ∷ more →
+pub words_back : (bytes first : List ℕ) (more : List (List ℕ)) → words_on bytes ≡ first ∷ more →
     bytes ≡ first ++ flat_map (λ (word : List ℕ). 32 ∷ word) more
 words_back bytes first more are =
     sym (join_with_byte-slice_split 32 bytes) ∙ ap (join_with_byte 32) are ∙ joined 32 first more

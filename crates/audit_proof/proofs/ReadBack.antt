@@ -2,11 +2,11 @@
 use Rattle.audit_proof.proofs.Imports.{AllPairs, Bool, Contains, Form, Graph, IsBegun, IsLineOf, IsOnLine, IsProofOf}
 use Rattle.audit_proof.proofs.Imports.{IsReached, Line, List, Ok, Option, ProofStep, Some, [], all_at, ap, append-nil}
 use Rattle.audit_proof.proofs.Imports.{append_assoc, arith, bytes_eq, bytes_eq-Decides, codes, decimal, end_read}
-use Rattle.audit_proof.proofs.Imports.{entry_read, flat_map, inl, inr, is_above, length, line_with, line_words}
+use Rattle.audit_proof.proofs.Imports.{line_of_entry, flat_map, inl, inr, is_above, length, line_with, line_words}
 use Rattle.audit_proof.proofs.Imports.{list_all_from_each, lt-ltb, map, nat_lt, number-found, number_after}
-use Rattle.audit_proof.proofs.Imports.{number_read, ok_or, past_read, pasts_read, place_of, refl, slice_get}
-use Rattle.audit_proof.proofs.Imports.{slice_get_within, spaced, step_fits, step_read, step_text, step_word}
-use Rattle.audit_proof.proofs.Imports.{steps_read, subst, suc, sym, text_line, true, words_of, zero, ℕ, ◌++◌}
+use Rattle.audit_proof.proofs.Imports.{decimal_read, ok_or, past_read, pasts_read, place_of, refl, slice_get}
+use Rattle.audit_proof.proofs.Imports.{slice_get_within, spaced, step_fits, step_of_word, step_text, step_word}
+use Rattle.audit_proof.proofs.Imports.{steps_read, subst, suc, sym, text_line, true, words_on, zero, ℕ, ◌++◌}
 use Rattle.audit_proof.proofs.Imports.{◌<◌, ◌^◌, ◌∙◌, ◌∷◌, ◌≡◌, ◌≤◌}
 use Rattle.audit_proof.proofs.Listings.{pair_at}
 use Rattle.audit_proof.proofs.Texts.{AreSmall, IsSmallLine, IsSmallStep, decimal_has_no, decimal_has_no_above, has_no_by, step_has_no, steps_follow}
@@ -15,12 +15,12 @@ use Rattle.audit_proof.proofs.LongerLines.{reached_on_line, step_on_line}
 use Rattle.audit_proof.proofs.Tests.{closed_back, find_in, is_on}
 
 -- a number's decimal is read as the number
-pub number_back : (word : List ℕ) (number : ℕ) → number < 2 ^ 32 → word ≡ decimal number → number_read word ≡ Ok number
+pub number_back : (word : List ℕ) (number : ℕ) → number < 2 ^ 32 → word ≡ decimal number → decimal_read word ≡ Ok number
 number_back word number low is = ap (λ (o : Option ℕ). ok_or o Form) (number-found word number low is)
 
 -- and a step's word as the step
-pub step_back : (step : ProofStep) → IsSmallStep step → step_read (step_word step) ≡ Ok step
-unfolding step_read
+pub step_back : (step : ProofStep) → IsSmallStep step → step_of_word (step_word step) ≡ Ok step
+unfolding step_of_word
 step_back step (low, low_via) =
     let none = decimal_has_no_above 58 step.ancestor (omega (arith, low)) (omega arith) in
     rw (
@@ -44,7 +44,7 @@ steps_words (s ∷ ss) (small, rest) =
 
 -- and of a line
 pub line_has_words : (line : Line) → IsSmallLine line →
-    words_of (line_words line) ≡ codes "past" ∷ decimal line.entry ∷ map step_word line.steps
+    words_on (line_words line) ≡ codes "past" ∷ decimal line.entry ∷ map step_word line.steps
 line_has_words line small =
     parts_at 32 (codes "past") (decimal line.entry ++ flat_map step_text line.steps) (has_no_by 32 (codes "past") refl)
     ∙ ap (λ (ws : List (List ℕ)). codes "past" ∷ ws)
@@ -140,12 +140,12 @@ module _ (graph : Graph) where
     -- a line that rises is read
     past_back : (rises : ℕ → Bool) (line : Line) → IsLineOf graph line → rises line.entry ≡ true →
         past_read graph rises (text_line (line_words line) true) ≡ Ok line
-    unfolding past_read entry_read end_read
+    unfolding past_read line_of_entry end_read
     past_back rises line is above =
         let small = small_line line is.begun in
         let low = is.begun.inside line.entry (inl refl) in
         rw (
-          after_back (codes "past") (words_of (line_words line)) line.entry (map step_word line.steps)
+          after_back (codes "past") (words_on (line_words line)) line.entry (map step_word line.steps)
               (omega (arith, low, few)) (line_has_words line small),
           lt-ltb line.entry graph.count low,
           above,

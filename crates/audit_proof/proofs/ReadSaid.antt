@@ -1,17 +1,17 @@
 -- What is read as a proof is one.
 use Rattle.audit_proof.proofs.Imports.{Bool, Contains, Contains-none, Err, Form, Graph, IsBegun, IsLineOf, IsOnLine}
 use Rattle.audit_proof.proofs.Imports.{IsProofOf, IsReached, Line, List, None, NotClosed, NotFalling, NotParent}
-use Rattle.audit_proof.proofs.Imports.{NotReached, NotRising, Ok, OutOfRange, ProofStep, ProofWhy, Read, Result, Some}
+use Rattle.audit_proof.proofs.Imports.{NotReached, NotRising, Ok, OutOfRange, ProofStep, ProofWhy, ProofRead, Result, Some}
 use Rattle.audit_proof.proofs.Imports.{TextLine, [], after_first, all_at, all_from_places, all_pairs_push, and_parts}
-use Rattle.audit_proof.proofs.Imports.{ap, append-nil, append_assoc, arith, at_line, before_first, bytes_eq}
+use Rattle.audit_proof.proofs.Imports.{ap, append-nil, append_assoc, arith, at_number, before_first, bytes_eq}
 use Rattle.audit_proof.proofs.Imports.{bytes_eq-Decides, cases_lt, codes, decimal, decimal_nonempty, drop_all}
-use Rattle.audit_proof.proofs.Imports.{end_read, entry_read, eqb-true, false, flat_map, get_or, if◌then◌else◌, inl}
-use Rattle.audit_proof.proofs.Imports.{inr, is_above, is_closed, is_on_line, length, line_with, line_words, list_all}
-use Rattle.audit_proof.proofs.Imports.{list_all_each, longer, ltb-true, map, member_at, nat_lt, need, number_after}
-use Rattle.audit_proof.proofs.Imports.{number_read, ok_or, passes_at_first, past_read, pasts_read, position_or_len}
-use Rattle.audit_proof.proofs.Imports.{push_cases, refl, slice_get-get_or, split_at_first, step_fits, step_read}
+use Rattle.audit_proof.proofs.Imports.{end_read, line_of_entry, eqb-true, false, flat_map, get_or, if◌then◌else◌, inl}
+use Rattle.audit_proof.proofs.Imports.{inr, is_above, lacks_no_parent, is_on_line, length, line_with, line_words, list_all}
+use Rattle.audit_proof.proofs.Imports.{list_all_each, with_step, ltb-true, map, member_at, nat_lt, need, number_after}
+use Rattle.audit_proof.proofs.Imports.{decimal_read, ok_or, passes_at_first, past_read, pasts_read, position_or_len}
+use Rattle.audit_proof.proofs.Imports.{push_cases, refl, slice_get-get_or, split_at_first, step_fits, step_of_word}
 use Rattle.audit_proof.proofs.Imports.{step_text, step_word, steps_read, subst, sym, text_line, true, value_from}
-use Rattle.audit_proof.proofs.Imports.{words_of, ℕ, ◌&&◌, ◌++◌, ◌+◌, ◌<◌, ◌==◌, ◌>>=◌, ◌^◌, ◌∙◌, ◌∷◌, ◌≡◌}
+use Rattle.audit_proof.proofs.Imports.{words_on, ℕ, ◌&&◌, ◌++◌, ◌+◌, ◌<◌, ◌==◌, ◌>>=◌, ◌^◌, ◌∙◌, ◌∷◌, ◌≡◌}
 use Rattle.audit_proof.proofs.Parts.{words_back}
 use Rattle.audit_proof.proofs.LongerLines.{on_more, push_places, reach_more, reach_new}
 use Rattle.audit_proof.proofs.Tests.{closed_said, found, on_line}
@@ -23,7 +23,7 @@ followed (Ok first) next value e = (first, refl, e)
 followed (Err cause) next value e = cc
 
 -- what is read at a line is read
-pub told : {A : Type 0} (n : ℕ) (read : Read A) (value : A) → at_line n read ≡ Ok value → read ≡ Ok value
+pub told : {A : Type 0} (n : ℕ) (read : ProofRead A) (value : A) → at_number n read ≡ Ok value → read ≡ Ok value
 told n (Ok same) value e = cc
 told n (Err why) value e = cc
 
@@ -37,7 +37,7 @@ pub same_value : {A E : Type 0} (a b : A) → ◌≡◌ {A = Result A E} (Ok a) 
 same_value a b e = cc
 
 -- a word that is read as a number is its decimal
-pub number_said : (word : List ℕ) (number : ℕ) → number_read word ≡ Ok number →
+pub number_said : (word : List ℕ) (number : ℕ) → decimal_read word ≡ Ok number →
     (number < 2 ^ 32) × (word ≡ decimal number)
 number_said word number e =
     by (nat_lt (value_from 0 word) (2 ^ 32)) (bytes_eq word (decimal (value_from 0 word))) refl refl e
@@ -54,11 +54,11 @@ number_said word number e =
     by false b low same e = cc
 
 -- and one that is read as a step is its word
-pub step_said : (word : List ℕ) (step : ProofStep) → step_read word ≡ Ok step → word ≡ step_word step
-unfolding step_read
+pub step_said : (word : List ℕ) (step : ProofStep) → step_of_word word ≡ Ok step → word ≡ step_word step
+unfolding step_of_word
 step_said word step e =
-    let (ancestor, is_ancestor, rest) = followed (number_read (before_first (λ byte. byte == 58) word)) _ step e in
-    let (via, is_via, made) = followed (number_read (after_first (λ byte. byte == 58) word)) _ step rest in
+    let (ancestor, is_ancestor, rest) = followed (decimal_read (before_first (λ byte. byte == 58) word)) _ step e in
+    let (via, is_via, made) = followed (decimal_read (after_first (λ byte. byte == 58) word)) _ step rest in
     let front = (number_said _ ancestor is_ancestor).1 in
     let back = (number_said _ via is_via).1 in
     elim (cases_lt (position_or_len (λ byte. byte == 58) word) (length word)) [
@@ -85,7 +85,7 @@ after_said first [] said e = cc
 after_said first (word ∷ []) said e = cc
 after_said first (word ∷ number ∷ more) said e =
     let (it, is_first, rest) = followed (need (bytes_eq word first) Form) _ said e in
-    let (value, is_value, made) = followed (number_read number) _ said rest in
+    let (value, is_value, made) = followed (decimal_read number) _ said rest in
     let same = same_value (value, more) said made in
     let (low, is) = number_said number value is_value in
     let front : word ≡ first = (bytes_eq-Decides word first).0 (needed _ Form it is_first) in (
@@ -97,7 +97,7 @@ after_said first (word ∷ number ∷ more) said e =
 module _ (graph : Graph) where
   -- what fits goes on
   pub fits_said : (line : Line) (step : ProofStep) → step_fits graph line step ≡ Ok tt → IsBegun graph line →
-      IsBegun graph (longer line step)
+      IsBegun graph (with_step line step)
   unfolding step_fits
   fits_said line step e begun =
       let (_, in_range, rest) = followed (need (nat_lt step.ancestor graph.count && nat_lt step.via graph.count) OutOfRange) _ tt e in
@@ -118,8 +118,8 @@ module _ (graph : Graph) where
         reached = λ k s there. elim (push_places line.steps step k s there) [
           | inl old ↦ reach_more line.entry line.steps step k s.via (begun.reached k s old)
           | inr new ↦
-              subst (λ (t : ProofStep). IsReached (longer line step) k t.via) new.1
-              (subst (λ (n : ℕ). IsReached (longer line step) n step.via) (sym new.0)
+              subst (λ (t : ProofStep). IsReached (with_step line step) k t.via) new.1
+              (subst (λ (n : ℕ). IsReached (with_step line step) n step.via) (sym new.0)
               (reach_new line.entry line.steps step step.via on))
         ];
         arrows = λ k s there. elim (push_places line.steps step k s there) [
@@ -137,9 +137,9 @@ module _ (graph : Graph) where
       let same : line ≡ all = cc in
       ([], sym same ∙ ap (line_with line.entry) (sym (append-nil line.steps)), refl, subst (IsBegun graph) same begun)
   steps_said line (word ∷ words) all e begun =
-      let (step, is_step, rest) = followed (step_read word) _ all e in
+      let (step, is_step, rest) = followed (step_of_word word) _ all e in
       let (it, fits, others) = followed (step_fits graph line step) _ all rest in
-      let (more, are, text, is) = steps_said (longer line step) words all others
+      let (more, are, text, is) = steps_said (with_step line step) words all others
       (fits_said line step fits begun) in (
         step ∷ more,
         are ∙ ap (line_with line.entry) (append_assoc line.steps (step ∷ []) more),
@@ -168,19 +168,19 @@ module _ (graph : Graph) where
   -- what is read as a line is that line, ended
   pub past_said : (rises : ℕ → Bool) (next : TextLine) (line : Line) → past_read graph rises next ≡ Ok line →
       (next ≡ text_line (line_words line) true) × IsLineOf graph line × (rises line.entry ≡ true)
-  unfolding past_read entry_read end_read
+  unfolding past_read line_of_entry end_read
   past_said rises next line e =
-      let (said, is_said, rest) = followed (number_after (codes "past") (words_of next.bytes)) _ line e in
+      let (said, is_said, rest) = followed (number_after (codes "past") (words_on next.bytes)) _ line e in
       let (_, survivor, above) = followed (need (nat_lt said.0 graph.count) OutOfRange) _ line rest in
       let (_, is_above, steps) = followed (need (rises said.0) NotRising) _ line above in
       let (all, are, ends) = followed (steps_read graph (line_with said.0 []) said.1) _ line steps in
       let (_, is_ended, closes) = followed (need next.is_ended Form) _ line ends in
-      let (_, closed, made) = followed (need (is_closed graph all) NotClosed) _ line closes in
+      let (_, closed, made) = followed (need (lacks_no_parent graph all) NotClosed) _ line closes in
       let same : all ≡ line = cc in
       let low : said.0 < graph.count = ltb-true said.0 graph.count (needed _ OutOfRange _ survivor) in
       let (more, is, words, begun) = steps_said (line_with said.0 []) said.1 all are (begun_none said.0 low) in
       let bytes : next.bytes ≡ line_words (line_with said.0 more) =
-      words_back next.bytes (codes "past") (decimal said.0 ∷ said.1) (after_said (codes "past") (words_of next.bytes) said is_said).1
+      words_back next.bytes (codes "past") (decimal said.0 ∷ said.1) (after_said (codes "past") (words_on next.bytes) said is_said).1
       ∙ ap (λ (ws : List (List ℕ)). codes "past " ++ decimal said.0 ++ flat_map (λ (word : List ℕ). 32 ∷ word) ws) words
       ∙ ap (λ (xs : List ℕ). codes "past " ++ decimal said.0 ++ xs) (spaced_back more) in
       let whole : line_with said.0 more ≡ line = sym is ∙ same in (
@@ -198,7 +198,7 @@ module _ (graph : Graph) where
       let same : lines ≡ all = cc in
       ([], sym same ∙ sym (append-nil lines), refl, subst (IsProofOf graph) same proof)
   pasts_said lines (first ∷ next) all e proof =
-      let (line, at, rest) = followed (at_line (length lines + 3) (past_read graph (is_above lines) first)) _ all e in
+      let (line, at, rest) = followed (at_number (length lines + 3) (past_read graph (is_above lines) first)) _ all e in
       let (is_first, own, rises) = past_said (is_above lines) first line (told (length lines + 3) (past_read graph (is_above lines) first) line at) in
       let (more, are, text, is) = pasts_said (lines ++ line ∷ []) next all rest (record {
         rises = all_pairs_push (λ (a b : Line). a.entry < b.entry) lines line proof.rises

@@ -1,11 +1,11 @@
 -- A text is read as a proof exactly if it is the proof's.
 use Rattle.audit_proof.proofs.Imports.{At, Err, Form, Graph, HasNo, IsLineOf, IsProofOf, IsReadAnswer, IsTextFor}
-use Rattle.audit_proof.proofs.Imports.{Line, List, Memory, Ok, ProofFault, Read, Result, Some, TextLine}
+use Rattle.audit_proof.proofs.Imports.{Line, List, Memory, Ok, ProofFault, ProofRead, Result, Some, TextLine}
 use Rattle.audit_proof.proofs.Imports.{TextsOfProofsAreRead, WrongCount, [], after_line, all_at, and_parts, ap}
-use Rattle.audit_proof.proofs.Imports.{append-nil, append_assoc, arith, at_line, bytes_eq, bytes_eq-Decides, codes}
+use Rattle.audit_proof.proofs.Imports.{append-nil, append_assoc, arith, at_number, bytes_eq, bytes_eq-Decides, codes}
 use Rattle.audit_proof.proofs.Imports.{count_read, decimal, eq-eqb, eqb-true, flat_map, form_line, form_read, length}
 use Rattle.audit_proof.proofs.Imports.{line_text, line_words, lines_in, map, need, number_after, proof_of, proof_text}
-use Rattle.audit_proof.proofs.Imports.{refl, slice_get, suc, survivors_line, sym, text_line, true, words_of, zero, ℕ}
+use Rattle.audit_proof.proofs.Imports.{refl, slice_get, suc, survivors_line, sym, text_line, true, words_on, zero, ℕ}
 use Rattle.audit_proof.proofs.Imports.{◌++◌, ◌==◌, ◌∙◌, ◌∷◌, ◌≡◌, ◌≢◌, ◌≤◌}
 use Rattle.audit_proof.proofs.Texts.{AreSmallLines, decimal_has_no, has_no_both, has_no_by, line_has_no}
 use Rattle.audit_proof.proofs.Parts.{line_bytes, lines_at, lines_back, parts_at, parts_last, words_back}
@@ -54,7 +54,7 @@ text_has count few lines small =
 
 -- the words of the second line
 count_words : (count : ℕ) → count ≤ 16384 →
-    words_of (codes "entries " ++ decimal count) ≡ codes "entries" ∷ decimal count ∷ []
+    words_on (codes "entries " ++ decimal count) ≡ codes "entries" ∷ decimal count ∷ []
 count_words count few =
     parts_at 32 (codes "entries") (decimal count) (has_no_by 32 (codes "entries") refl)
     ∙ ap (λ (ws : List (List ℕ)). codes "entries" ∷ ws)
@@ -65,7 +65,7 @@ count_back : (count : ℕ) → count ≤ 16384 → count_read count (full (codes
 unfolding count_read
 count_back count few =
     rw (
-      after_back (codes "entries") (words_of (codes "entries " ++ decimal count)) count [] (omega (arith, few))
+      after_back (codes "entries") (words_on (codes "entries " ++ decimal count)) count [] (omega (arith, few))
           (count_words count few),
       eq-eqb count count refl,
     ) refl
@@ -82,14 +82,14 @@ count_said : (count : ℕ) (line : TextLine) → count_read count line ≡ Ok tt
     line ≡ full (codes "entries " ++ decimal count)
 unfolding count_read
 count_said count line e =
-    let (said, is_said, rest) = followed (number_after (codes "entries") (words_of line.bytes)) _ tt e in
+    let (said, is_said, rest) = followed (number_after (codes "entries") (words_on line.bytes)) _ tt e in
     let (_, right, last) = followed (need (said.0 == count) WrongCount) _ tt rest in
     let (none, ended) = and_parts (length said.1 == 0) line.is_ended (needed _ Form tt last) in
     let same : said.0 ≡ count = eqb-true said.0 count (needed _ WrongCount _ right) in
     let nothing : said.1 ≡ [] = empty said.1 (eqb-true (length said.1) 0 none) in
     ap (λ (xs : List ℕ). text_line xs line.is_ended)
     (words_back line.bytes (codes "entries") (decimal said.0 ∷ said.1)
-    (after_said (codes "entries") (words_of line.bytes) said is_said).1
+    (after_said (codes "entries") (words_on line.bytes) said is_said).1
     ∙ ap (λ (ws : List (List ℕ)). codes "entries " ++ decimal said.0 ++ flat_map (λ (word : List ℕ). 32 ∷ word) ws) nothing
     ∙ ap (λ (xs : List ℕ). codes "entries " ++ xs) (append-nil (decimal said.0) ∙ ap decimal same))
     ∙ ap (text_line (codes "entries " ++ decimal count)) ended
@@ -99,7 +99,7 @@ count_said count line e =
     empty (w ∷ ws) e = absurd (omega (arith, e))
 
 -- what comes after a line that is read
-after_line_said : (read : TextLine → Read (Unit {0})) (lines left : List TextLine) → after_line read lines ≡ Ok left →
+after_line_said : (read : TextLine → ProofRead (Unit {0})) (lines left : List TextLine) → after_line read lines ≡ Ok left →
     (line : TextLine) × (read line ≡ Ok tt) × (lines ≡ line ∷ left)
 after_line_said read [] left e = cc
 after_line_said read (line ∷ lines) left e =
@@ -121,8 +121,8 @@ pub text_said : (graph : Graph) (bytes : List ℕ) (lines : List Line) → proof
     IsTextFor graph bytes lines
 unfolding proof_of
 text_said graph bytes lines e =
-    let (second, first, rest) = followed (at_line 1 (after_line form_read (lines_in bytes))) _ lines e in
-    let (pasts, next, others) = followed (at_line 2 (after_line (count_read graph.count) second)) _ lines rest in
+    let (second, first, rest) = followed (at_number 1 (after_line form_read (lines_in bytes))) _ lines e in
+    let (pasts, next, others) = followed (at_number 2 (after_line (count_read graph.count) second)) _ lines rest in
     let (form, is_form, in_bytes) = after_line_said form_read (lines_in bytes) second (told 1 _ second first) in
     let (count, is_count, in_second) = after_line_said (count_read graph.count) second pasts (told 2 _ pasts next) in
     let (more, are, in_pasts, proof) = pasts_said graph [] pasts lines others (none_proof graph) in

@@ -1,14 +1,14 @@
 -- What graphs with the same arrows have in common.
 use Rattle.audit_proof.proofs.Imports.{Bool, Err, Graph, HaveSameArrows, IsBegun, IsCanonicalText, IsGreatest}
 use Rattle.audit_proof.proofs.Imports.{IsLineOf, IsProofOf, LacksNoParent, Line, List, None, NotRising, Ok, Option}
-use Rattle.audit_proof.proofs.Imports.{OutOfRange, ProofFault, ProofStep, Read, Result, SameArrowsGiveOneValue}
+use Rattle.audit_proof.proofs.Imports.{OutOfRange, ProofFault, ProofStep, ProofRead, Result, SameArrowsGiveOneValue}
 use Rattle.audit_proof.proofs.Imports.{SameArrowsHaveOneText, Some, TextLine, TextsAreReadInOneWay, [], after_line}
-use Rattle.audit_proof.proofs.Imports.{all_at, all_from_places, ap, at_line, before_by, before_on, codes, count_read}
-use Rattle.audit_proof.proofs.Imports.{end_read, entry_read, first_value, form_read, inl, inr, is_above, is_closed}
+use Rattle.audit_proof.proofs.Imports.{all_at, all_from_places, ap, at_number, before_by, before_on, codes, count_read}
+use Rattle.audit_proof.proofs.Imports.{end_read, line_of_entry, first_value, form_read, inl, inr, is_above, lacks_no_parent}
 use Rattle.audit_proof.proofs.Imports.{is_whole_line, length, line_with, lines_in, list_all, list_any, listed_in}
-use Rattle.audit_proof.proofs.Imports.{longer, nat_lt, need, not, number_after, own_line, past_read, pasts_read}
-use Rattle.audit_proof.proofs.Imports.{place_of, proof_of, proof_text, refl, same_values, step_fits, step_read}
-use Rattle.audit_proof.proofs.Imports.{steps_read, subst, sym, unbound, whole_by, words_of, ℕ, ◌&&◌, ◌++◌, ◌+◌, ◌<◌}
+use Rattle.audit_proof.proofs.Imports.{with_step, nat_lt, need, not, number_after, own_line, past_read, pasts_read}
+use Rattle.audit_proof.proofs.Imports.{place_of, proof_of, proof_text, refl, same_values, step_fits, step_of_word}
+use Rattle.audit_proof.proofs.Imports.{steps_read, subst, sym, unbound, whole_by, words_on, ℕ, ◌&&◌, ◌++◌, ◌+◌, ◌<◌}
 use Rattle.audit_proof.proofs.Imports.{◌==◌, ◌>>=◌, ◌∙◌, ◌∷◌, ◌≡◌, ◌≤◌}
 use Rattle.audit_proof.proofs.Ancestries.{same_test}
 use Rattle.audit_proof.proofs.Trusted.{line_found}
@@ -74,37 +74,37 @@ module _ (graph other : Graph) (same : HaveSameArrows graph other) where
   -- and the same words are read
   steps_same : (line : Line) (words : List (List ℕ)) → steps_read graph line words ≡ steps_read other line words
   steps_same line [] = refl
-  steps_same line (word ∷ words) = by (λ step. steps_same (longer line step) words) (step_read word)
+  steps_same line (word ∷ words) = by (λ step. steps_same (with_step line step) words) (step_of_word word)
     where
       by : ((step : ProofStep) →
-          steps_read graph (longer line step) words ≡ steps_read other (longer line step) words) →
-          (read : Read ProofStep) →
-          (read >>= λ step. step_fits graph line step >>= λ it. steps_read graph (longer line step) words)
-          ≡ (read >>= λ step. step_fits other line step >>= λ it. steps_read other (longer line step) words)
+          steps_read graph (with_step line step) words ≡ steps_read other (with_step line step) words) →
+          (read : ProofRead ProofStep) →
+          (read >>= λ step. step_fits graph line step >>= λ it. steps_read graph (with_step line step) words)
+          ≡ (read >>= λ step. step_fits other line step >>= λ it. steps_read other (with_step line step) words)
       by later (Ok step) = rw (fits_same line step, later step) refl
       by later (Err why) = refl
 
   -- the same lines are closed
-  closed_same : (line : Line) → is_closed graph line ≡ is_closed other line
+  closed_same : (line : Line) → lacks_no_parent graph line ≡ lacks_no_parent other line
   closed_same line =
-      same_test (is_closed graph line) (is_closed other line)
+      same_test (lacks_no_parent graph line) (lacks_no_parent other line)
       (λ e. closed_back other line (closed_other line (closed_said graph line e)))
       (λ e. closed_back graph line (λ x p on c. closed_said other line e x p on ((same.parents x p).0 c)))
 
   -- so the same lines are read
   past_same : (rises : ℕ → Bool) (next : TextLine) → past_read graph rises next ≡ past_read other rises next
-  unfolding past_read entry_read end_read
-  past_same rises next = by (number_after (codes "past") (words_of next.bytes))
+  unfolding past_read line_of_entry end_read
+  past_same rises next = by (number_after (codes "past") (words_on next.bytes))
     where
-      by : (said : Read (ℕ × List (List ℕ))) →
-          (said >>= entry_read graph rises next.is_ended) ≡ (said >>= entry_read other rises next.is_ended)
+      by : (said : ProofRead (ℕ × List (List ℕ))) →
+          (said >>= line_of_entry graph rises next.is_ended) ≡ (said >>= line_of_entry other rises next.is_ended)
       by (Err why) = refl
       by (Ok (entry, words)) =
           ap (λ (n : ℕ). need (nat_lt entry n) OutOfRange >>= λ survivor. need (rises entry) NotRising
           >>= λ above. steps_read graph (line_with entry []) words >>= end_read graph next.is_ended) same.count
           ∙ rw (steps_same (line_with entry []) words) (ends (steps_read other (line_with entry []) words))
         where
-          ends : (read : Read Line) →
+          ends : (read : ProofRead Line) →
               (need (nat_lt entry other.count) OutOfRange >>= λ survivor. need (rises entry) NotRising
               >>= λ above. read >>= end_read graph next.is_ended)
               ≡ (need (nat_lt entry other.count) OutOfRange >>= λ survivor. need (rises entry) NotRising
@@ -117,7 +117,7 @@ module _ (graph other : Graph) (same : HaveSameArrows graph other) where
   pasts_same lines (first ∷ next) =
       rw (past_same (is_above lines) first)
       (by (λ line. pasts_same (lines ++ line ∷ []) next)
-      (at_line (length lines + 3) (past_read other (is_above lines) first)))
+      (at_number (length lines + 3) (past_read other (is_above lines) first)))
     where
       by : ((line : Line) →
           pasts_read graph (lines ++ line ∷ []) next ≡ pasts_read other (lines ++ line ∷ []) next) → (read : Result Line ProofFault) →
@@ -130,9 +130,9 @@ module _ (graph other : Graph) (same : HaveSameArrows graph other) where
   proof_same : (bytes : List ℕ) → proof_of graph bytes ≡ proof_of other bytes
   unfolding proof_of
   proof_same bytes =
-      ap (λ (n : ℕ). at_line 1 (after_line form_read (lines_in bytes)) >>= λ second.
-      at_line 2 (after_line (count_read n) second) >>= λ next. pasts_read graph [] next) same.count
-      ∙ by (at_line 1 (after_line form_read (lines_in bytes)))
+      ap (λ (n : ℕ). at_number 1 (after_line form_read (lines_in bytes)) >>= λ second.
+      at_number 2 (after_line (count_read n) second) >>= λ next. pasts_read graph [] next) same.count
+      ∙ by (at_number 1 (after_line form_read (lines_in bytes)))
     where
       pasts : (read : Result (List TextLine) ProofFault) →
           (read >>= λ next. pasts_read graph [] next) ≡ (read >>= λ next. pasts_read other [] next)
@@ -140,11 +140,11 @@ module _ (graph other : Graph) (same : HaveSameArrows graph other) where
       pasts (Err fault) = refl
 
       by : (read : Result (List TextLine) ProofFault) →
-          (read >>= λ second. at_line 2 (after_line (count_read other.count) second)
+          (read >>= λ second. at_number 2 (after_line (count_read other.count) second)
           >>= λ next. pasts_read graph [] next)
-          ≡ (read >>= λ second. at_line 2 (after_line (count_read other.count) second)
+          ≡ (read >>= λ second. at_number 2 (after_line (count_read other.count) second)
           >>= λ next. pasts_read other [] next)
-      by (Ok second) = pasts (at_line 2 (after_line (count_read other.count) second))
+      by (Ok second) = pasts (at_number 2 (after_line (count_read other.count) second))
       by (Err fault) = refl
 
 -- a text has one reading for all graphs with the same arrows

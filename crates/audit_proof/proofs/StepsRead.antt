@@ -6,15 +6,15 @@ use Rattle.audit_proof.proofs.Imports.{arith, cases_eq, drop, drop-drop, drop_al
 use Rattle.audit_proof.proofs.Imports.{get_or-set_other, get_or-set_same, inl, inr, is_on_line, length, length-set}
 use Rattle.audit_proof.proofs.Imports.{line_with, list_all-append, list_any, listed_in, lt-ltb, ltb-true, nat_lt}
 use Rattle.audit_proof.proofs.Imports.{ne_eqb, need, place_of, push_cases, refl, slice_set, spaced, step_fits}
-use Rattle.audit_proof.proofs.Imports.{step_read, step_tests, steps_read, subst, sym, take, true, ℕ, ◌&&◌, ◌++◌, ◌+◌}
-use Rattle.audit_proof.proofs.Imports.{◌-◌, ◌<◌, ◌==◌, ◌||◌, ◌∙◌, ◌∷◌, ◌≡◌, ◌≤◌}
+use Rattle.audit_proof.proofs.Imports.{step_of_word, step_tests, steps_read, subst, sym, take, true, ℕ, ◌&&◌, ◌++◌}
+use Rattle.audit_proof.proofs.Imports.{◌+◌, ◌-◌, ◌<◌, ◌==◌, ◌||◌, ◌∙◌, ◌∷◌, ◌≡◌, ◌≤◌}
 use Rattle.audit_proof.proofs.Ancestries.{same_test}
 use Rattle.audit_proof.proofs.Parts.{words_taken}
 use Rattle.audit_proof.proofs.LongerLines.{listed_new, more_on, on_more}
 use Rattle.audit_proof.proofs.Tests.{found, is_on, on_line}
 use Rattle.audit_proof.proofs.ReadSaid.{followed, needed}
 
-module _ (graph : Graph) (entry : ℕ) (words : List ℕ) (steps : List ProofStep) (reached : List Bool) (bound at : ℕ)
+module _ {graph : Graph} {entry : ℕ} {words : List ℕ} {steps : List ProofStep} {reached : List Bool} {bound at : ℕ}
     (reading : IsReading graph entry words steps reached bound at) where
   -- by the table and the bound a step is tried as by the line
   tests_fit : (step : ProofStep) →
@@ -27,7 +27,15 @@ module _ (graph : Graph) (entry : ℕ) (words : List ℕ) (steps : List ProofSte
       by true low = rw (reading.bounded step.ancestor (ltb-true step.ancestor graph.count low), reading.shows step.via) refl
       by false over = rw over refl
 
-  module _ (end : ℕ) (word : List ℕ) (starts : at < length words) (order : (at + 1 ≤ end) × (end ≤ length words))
+  -- a step that fits is within the table
+  pub fits_below : (step : ProofStep) → step_tests graph reached bound step ≡ Ok tt → step.ancestor < length reached
+  unfolding step_tests
+  fits_below step fits =
+      let (_, in_range, rest) = followed (need (nat_lt step.ancestor graph.count && nat_lt step.via graph.count) OutOfRange) _ tt fits in
+      let low = ltb-true step.ancestor graph.count (and_parts _ _ (needed _ OutOfRange _ in_range)).0 in
+      omega (arith, low, reading.each)
+
+  module _ (end : ℕ) {word : List ℕ} (starts : at < length words) (order : (at + 1 ≤ end) × (end ≤ length words))
       (is : word ≡ take (end - (at + 1)) (drop (at + 1) words)) (whole : HasNo 32 (take (end - (at + 1)) (drop (at + 1) words)))
       (next : Follows 32 (drop end words)) where
     -- this word is the next
@@ -44,25 +52,17 @@ module _ (graph : Graph) (entry : ℕ) (words : List ℕ) (steps : List ProofSte
         ∙ ap (λ (xs : List ℕ). word ∷ spaced xs) rest)
 
     -- it is no step
-    pub word_refused : (why : ProofWhy) → step_read word ≡ Err why →
+    pub word_refused : (why : ProofWhy) → step_of_word word ≡ Err why →
         steps_read graph (line_with entry []) (spaced words) ≡ Err why
     word_refused why e = next_word ∙ rw e refl
 
-    module _ (step : ProofStep) (said : step_read word ≡ Ok step) where
+    module _ (step : ProofStep) (said : step_of_word word ≡ Ok step) where
       -- it is a step that doesn't fit
       pub step_refused : (why : ProofWhy) → step_tests graph reached bound step ≡ Err why →
           steps_read graph (line_with entry []) (spaced words) ≡ Err why
       step_refused why e = next_word ∙ rw (said, sym (tests_fit step) ∙ e) refl
 
       -- it is one that fits
-      pub fits_below : step_tests graph reached bound step ≡ Ok tt → step.ancestor < length reached
-      unfolding step_tests
-      fits_below fits =
-          let (_, in_range, rest) = followed (need (nat_lt step.ancestor graph.count && nat_lt step.via graph.count) OutOfRange) _ tt fits in
-          let low = ltb-true step.ancestor graph.count (and_parts _ _ (needed _ OutOfRange _ in_range)).0 in
-          omega (arith, low, reading.each)
-
-      -- so it is read
       pub reading_more : step_tests graph reached bound step ≡ Ok tt → step.ancestor < step.via →
           IsReading graph entry words (steps ++ step ∷ []) (slice_set reached step.ancestor true) step.ancestor end
       unfolding step_tests

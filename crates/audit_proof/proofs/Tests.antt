@@ -1,7 +1,7 @@
 -- Tests of a line, and what they mean.
 use Rattle.audit_proof.proofs.Imports.{Bool, Contains, Contains-head, Contains-later, Graph, IsOnLine, LacksNoParent}
 use Rattle.audit_proof.proofs.Imports.{Line, List, [], and_from, and_parts, ap, eq-eqb, eqb-true, false, inl, inr}
-use Rattle.audit_proof.proofs.Imports.{is_closed, is_on_line, list_all, list_all_each, list_all_from_each, list_any}
+use Rattle.audit_proof.proofs.Imports.{lacks_no_parent, is_on_line, list_all, list_all_each, list_all_from_each, list_any}
 use Rattle.audit_proof.proofs.Imports.{list_any_of, list_any_some, listed_in, lists_parents, or_cases, refl, subst}
 use Rattle.audit_proof.proofs.Imports.{true, ℕ, ◌&&◌, ◌==◌, ◌||◌, ◌∙◌, ◌∷◌, ◌≡◌}
 
@@ -43,7 +43,7 @@ list_parents graph line x each =
     (λ p c. find_in (listed_in line.steps) p (each p c))
 
 -- a line is closed exactly if it lacks no parent
-pub closed_said : (graph : Graph) (line : Line) → is_closed graph line ≡ true → LacksNoParent graph line
+pub closed_said : (graph : Graph) (line : Line) → lacks_no_parent graph line ≡ true → LacksNoParent graph line
 closed_said graph line e =
     let (own, each) = and_parts (lists_parents graph line line.entry)
     (list_all (lists_parents graph line) (listed_in line.steps)) e in
@@ -54,7 +54,7 @@ closed_said graph line e =
           parents_listed graph line x (list_all_each (lists_parents graph line) (listed_in line.steps) each x listed) p c
     ]
 
-pub closed_back : (graph : Graph) (line : Line) → LacksNoParent graph line → is_closed graph line ≡ true
+pub closed_back : (graph : Graph) (line : Line) → LacksNoParent graph line → lacks_no_parent graph line ≡ true
 closed_back graph line closed =
     and_from (lists_parents graph line line.entry) (list_all (lists_parents graph line) (listed_in line.steps))
     (list_parents graph line line.entry (λ p c. closed line.entry p (inl refl) c))

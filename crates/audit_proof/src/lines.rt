@@ -2,7 +2,7 @@
 ghost use Rattle.std.specs.Prelude.{◌≡◌, ◌<◌, ◌≤◌, nat_le, length, drop, codes, All};
 ghost use Rattle.std.specs.List.{list_all};
 ghost use Rattle.audit_proof.specs.Lines.{IsBegun, listed_in};
-ghost use Rattle.audit_proof.specs.Reading.{end_read, entry_read, past_read};
+ghost use Rattle.audit_proof.specs.Reading.{end_read, lacks_no_parent, line_of_entry, past_read};
 ghost use Rattle.audit_proof.specs.inside.Begun.{
   IsListedTable,
   IsNumbered,
@@ -48,6 +48,21 @@ fn are_closed<A: Arrows>(graph: &A, steps: &[ProofStep], listed: &[bool]) -> boo
     true
 }
 
+/// Whether no parent is missing on the line of an entry with these steps.
+fn lacks_no_parent<A: Arrows>(graph: &A, entry: usize, steps: &[ProofStep], listed: &[bool]) -> bool
+    requires entry { entry < (A.graph graph.now).count }
+    requires each { length listed.now ≡ (A.graph graph.now).count }
+    requires inside { All (λ step. step.ancestor < (A.graph graph.now).count) steps.now }
+    requires table { IsListedTable steps.now listed.now }
+    ensures { result ≡ lacks_no_parent (A.graph graph.now) (line_with entry steps.now) }
+{
+    if !are_listed(graph.parents(entry), listed) {
+        return false;
+    }
+    are_closed(graph, steps, listed)
+}
+
+#[tactic(auto, unfolding(crate::specs::Reading::end_read))]
 /// The line of the entry with these steps, if it is ended and no parent is missing.
 fn finish<A: Arrows>(
     alloc: Global,
@@ -66,10 +81,7 @@ fn finish<A: Arrows>(
     if !is_ended {
         return Err(Unread::Why(ProofWhy::Form));
     }
-    if !are_listed(graph.parents(entry as usize), &read.listed) {
-        return Err(Unread::Why(ProofWhy::NotClosed));
-    }
-    if !are_closed(graph, &read.steps, &read.listed) {
+    if !lacks_no_parent(graph, entry as usize, &read.steps, &read.listed) {
         return Err(Unread::Why(ProofWhy::NotClosed));
     }
     Ok(PackedLine::of(alloc, entry, read.steps)?)
@@ -86,7 +98,7 @@ fn read_entry_line<A: Arrows>(
 ) -> Result<PackedLine, Unread>
     requires few { (A.graph graph.now).count ≤ 16384 }
     requires entry { IsNumbered (codes "past") line.now entry }
-    ensures { Told (entry_read (A.graph graph.now) (nat_le least) is_ended
+    ensures { Told (line_of_entry (A.graph graph.now) (nat_le least) is_ended
         (entry.number, spaced (drop entry.end line.now))) result }
 {
     let number = entry.number as usize;

@@ -16,7 +16,7 @@ ghost use Rattle.std.specs.Prelude.{
 };
 ghost use Rattle.std.specs.List.{list_any};
 ghost use Rattle.std.specs.Str.{bytes_eq};
-ghost use Rattle.audit_proof.specs.Reading.{number_after, step_read, words_of};
+ghost use Rattle.audit_proof.specs.Reading.{number_after, step_of_word, words_on};
 ghost use Rattle.audit_proof.specs.inside.Bytes.{Follows, HasNo};
 ghost use Rattle.audit_proof.specs.inside.Begun.{IsNumbered, IsWordsAnswer, step_tests};
 
@@ -58,7 +58,7 @@ fn after(word: &[u8], place: usize) -> &[u8]
 
 /// The step that a word is.
 pub(crate) fn read_step(word: &[u8]) -> Option<ProofStep>
-    ensures { ok_or result ProofWhy.Form ≡ step_read word.now }
+    ensures { ok_or result ProofWhy.Form ≡ step_of_word word.now }
 {
     let colon = find_byte(word, b':');
     if colon == word.len() {
@@ -152,7 +152,7 @@ pub(crate) struct Numbered {
 /// The number after the first word of a line, which is to be this.
 pub(crate) fn read_number_after(line: &[u8], first: &[u8]) -> Option<Numbered>
     ensures some { IfSome result (IsNumbered first.now line.now) }
-    ensures none { result ≡ None → number_after first.now (words_of line.now) ≡ Err ProofWhy.Form }
+    ensures none { result ≡ None → number_after first.now (words_on line.now) ≡ Err ProofWhy.Form }
 {
     let space = find_byte(line, b' ');
     if space == line.len() {

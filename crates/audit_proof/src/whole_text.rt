@@ -1,10 +1,10 @@
 //! Reading the text of a proof.
-ghost use Rattle.std.specs.Prelude.{◌≡◌, ◌-◌, ◌≤◌, [], length, take, drop};
-ghost use Rattle.audit_proof.specs.Reading.{count_read, form_read, lines_in, pasts_read};
+ghost use Rattle.std.specs.Prelude.{◌≡◌, ◌≢◌, ◌-◌, ◌≤◌, [], length, take, drop, Err};
+ghost use Rattle.audit_proof.specs.Reading.{count_read, form_read, lines_in, pasts_read, proof_of};
 ghost use Rattle.audit_proof.specs.Reads.{IsReadAnswer};
 ghost use Rattle.audit_proof.specs.inside.Begun.{text_line};
 ghost use Rattle.audit_proof.specs.inside.Bytes.{Follows, HasNo};
-ghost use Rattle.audit_proof.specs.inside.Lists.{IsAnswer, IsLineAt, fault_of};
+ghost use Rattle.audit_proof.specs.inside.Lists.{IsLineAt, fault_of};
 
 use crate::fault::{ProofFault, ProofWhy};
 use crate::lines::read_line;
@@ -85,7 +85,8 @@ fn try_count(line: &[u8], is_ended: bool, count: usize) -> Result<(), ProofWhy>
 /// `At` with the first line that has a fault and its first fault, or `Memory`.
 pub fn read_proof<A: Arrows>(alloc: Global, graph: &A, bytes: &[u8]) -> Result<Proof, ProofFault>
     requires { (A.graph graph.now).count ≤ 16384 }
-    ensures { IsReadAnswer (A.graph graph.now) bytes.now result }
+    ensures is { result ≢ Err ProofFault.Memory → result ≡ proof_of (A.graph graph.now) bytes.now }
+    ensures exact { IsReadAnswer (A.graph graph.now) bytes.now result }
 {
     let first = line_at(bytes, 0);
     match try_form(piece(bytes, 0, first.end), first.is_ended) {
@@ -123,7 +124,8 @@ fn read_lines<A: Arrows>(
 ) -> Result<Proof, ProofFault>
     requires few { (A.graph graph.now).count ≤ 16384 }
     requires within { start ≤ length bytes.now }
-    ensures { IsAnswer (pasts_read (A.graph graph.now) [] (lines_in (drop start bytes.now))) result }
+    ensures { result ≢ Err ProofFault.Memory →
+        result ≡ pasts_read (A.graph graph.now) [] (lines_in (drop start bytes.now)) }
 {
     let mut lines = Vec::new(alloc);
     let mut least = 0;

@@ -11,7 +11,7 @@ use Rattle.audit_proof.specs.declared.reading.Unread.TheVariants.{Why, Memory}
 use Rattle.audit_proof.specs.declared.reading.LineSteps.{LineSteps}
 use Rattle.audit_proof.specs.declared.reading.Numbered.{Numbered}
 use Rattle.audit_proof.specs.Lines.{Line, listed_in}
-use Rattle.audit_proof.specs.Reading.{TextLine, Read, ◌>>=◌, need, words_of, number_after, is_on_line, steps_read}
+use Rattle.audit_proof.specs.Reading.{TextLine, ProofRead, ◌>>=◌, need, words_on, number_after, is_on_line, steps_read}
 use Rattle.audit_proof.specs.inside.Bytes.{Follows}
 
 -- the line of an entry with these steps
@@ -25,16 +25,16 @@ text_line bytes ended = record { bytes = bytes; is_ended = ended }
 -- the words of bytes in which each word comes after a space
 abbrev pub spaced : List ℕ → List (List ℕ)
 spaced [] = []
-spaced (space ∷ bytes) = words_of bytes
+spaced (space ∷ bytes) = words_on bytes
 
 -- the line begins with this word and this number, up to its end, and other words follow
 pub record IsNumbered (first line : List ℕ) (found : Numbered) : Type 0 where
   pub within : found.end ≤ length line
   pub next : Follows 32 (drop found.end line)
-  pub is : number_after first (words_of line) ≡ Ok (found.number, spaced (drop found.end line))
+  pub is : number_after first (words_on line) ≡ Ok (found.number, spaced (drop found.end line))
 
 -- whether a step goes on a line, by a table of what is reached there and a bound below which ancestors fall
-unfoldable pub step_tests : Graph → List Bool → ℕ → ProofStep → Read (Unit {0})
+unfoldable pub step_tests : Graph → List Bool → ℕ → ProofStep → ProofRead (Unit {0})
 step_tests graph reached bound step = do
   survivors ← need (nat_lt step.ancestor graph.count && nat_lt step.via graph.count) OutOfRange
   falls ← need (nat_lt step.ancestor bound) NotFalling
@@ -70,7 +70,7 @@ IsWordsAnswer graph entry words (Err (Why why)) =
 IsWordsAnswer graph entry words (Err Memory) = Unit {0}
 
 -- what is read, unless memory runs out
-abbrev pub Told : {A : Type 0} → Read A → Result A Unread → Type 0
+abbrev pub Told : {A : Type 0} → ProofRead A → Result A Unread → Type 0
 Told read (Ok value) = read ≡ Ok value
 Told read (Err (Why why)) = read ≡ Err why
 Told read (Err Memory) = Unit {0}

@@ -1,5 +1,5 @@
 -- The lines of a proof that is being read.
-use Rattle.std.specs.Prelude.{◌≡◌, ℕ, ◌-◌, ◌<◌, ◌≤◌, nat_le, false, List, [], ◌∷◌, length, take, drop, Result, Ok, Err}
+use Rattle.std.specs.Prelude.{◌≡◌, ℕ, ◌-◌, ◌<◌, ◌≤◌, nat_le, false, List, [], ◌∷◌, length, take, drop}
 use Rattle.precedence.specs.Graph.{Graph}
 use Rattle.audit_proof.specs.declared.fault.ProofFault.{ProofFault}
 use Rattle.audit_proof.specs.declared.fault.ProofFault.TheVariants.{At, Memory as OutOfMemory}
@@ -14,12 +14,6 @@ use Rattle.audit_proof.specs.inside.Begun.{text_line}
 abbrev pub fault_of : ℕ → Unread → ProofFault
 fault_of line (Why why) = At line why
 fault_of line Memory = OutOfMemory
-
--- what is read, unless memory runs out
-abbrev pub IsAnswer : {A : Type 0} → Result A ProofFault → Result A ProofFault → Type 0
-IsAnswer read (Ok value) = read ≡ Ok value
-IsAnswer read (Err (At line why)) = read ≡ Err (At line why)
-IsAnswer read (Err OutOfMemory) = Unit {0}
 
 -- the line is in this place, if a byte is left there, and the lines after it begin in the next
 pub record IsLineAt (bytes : List ℕ) (start : ℕ) (found : LineAt) : Type 0 where

@@ -1,5 +1,5 @@
 use Rattle.audit_proof.proofs.lines.read_entry_line.Goals as goal
-use Rattle.audit_proof.proofs.Imports.{Err, Line, List, Ok, Read, Told, [], ap, arith, entry_read}
+use Rattle.audit_proof.proofs.Imports.{Err, Line, List, Ok, ProofRead, Told, [], ap, arith, line_of_entry}
 use Rattle.audit_proof.proofs.Imports.{false_from_ne_true, le-leb, leb-true, line_with, nat_le, spaced}
 use Rattle.audit_proof.proofs.Imports.{steps_read, subst, sym, ℕ, ◌∙◌}
 use Rattle.audit_proof.proofs.LinesRead.{entry_by, not_rising, out_of_range, read_begun, words_refused}
@@ -21,7 +21,7 @@ finish-requires-clause-begun g c =
 pub returns-in-Err : goal.returns-in-Err
 returns-in-Err g c =
     let graph = g.A.Arrows.graph c.args.graph.now in
-    subst (λ (xs : List ℕ). Told (entry_read graph (nat_le c.args.least) c.args.is_ended (c.args.entry.number, spaced xs))
+    subst (λ (xs : List ℕ). Told (line_of_entry graph (nat_le c.args.least) c.args.is_ended (c.args.entry.number, spaced xs))
     (Err c.in-Err.unread)) c.rest_from.ensures
     (words_refused graph (nat_le c.args.least) c.args.is_ended c.args.entry.number c.rest_from.result.now c.in-Err.unread
     (omega (arith, c.if-number-count.false, c.count.ensures)) (le-leb _ _ (omega (arith, c.if-number-least.false)))
@@ -30,7 +30,7 @@ returns-in-Err g c =
 pub returns-in-Ok : goal.returns-in-Ok
 returns-in-Ok g c =
     let graph = g.A.Arrows.graph c.args.graph.now in
-    subst (λ (r : Read Line). Told r c.finish.result)
+    subst (λ (r : ProofRead Line). Told r c.finish.result)
     (sym (entry_by graph (nat_le c.args.least) c.args.is_ended c.args.entry.number _
     (omega (arith, c.if-number-count.false, c.count.ensures)) (le-leb _ _ (omega (arith, c.if-number-least.false)))
     (Ok (line_with c.args.entry.number c.in-Ok.read.steps.items))
