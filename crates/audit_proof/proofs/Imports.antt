@@ -10,7 +10,7 @@ pub use Rattle.audit_proof.specs.ProofText.{form_line, head_text, line_text, lin
 pub use Rattle.audit_proof.specs.ProofText.{step_word, survivors_line}
 pub use Rattle.audit_proof.specs.Reading.{ProofRead, TextLine, after_line, at_number, decimal_read, is_above}
 pub use Rattle.audit_proof.specs.Reading.{is_on_line, lacks_no_parent, lines_between, lines_in, lists_parents, need}
-pub use Rattle.audit_proof.specs.Reading.{number_after, pasts_read, steps_read, with_step, words_on, ◌>>=◌}
+pub use Rattle.audit_proof.specs.Reading.{number_after, lines_read, steps_read, with_step, words_on, ◌>>=◌}
 pub use Rattle.audit_proof.specs.Reads.{IsReadAnswer, IsTextFor, TextsOfProofsAreRead}
 pub use Rattle.audit_proof.specs.Trust.{FullProofsSayAll, LinesListAncestors, ProofsAreRight, ProofsSayNoMore}
 pub use Rattle.audit_proof.specs.Trust.{WrittenProofsSayAll}

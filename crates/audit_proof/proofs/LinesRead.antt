@@ -8,9 +8,9 @@ use Rattle.audit_proof.proofs.Imports.{[], after_line, and_from, and_parts, ap, 
 use Rattle.audit_proof.proofs.Imports.{cases_lt, closed_at, codes, count_read, drop, drop-drop, drop_all, drop_more}
 use Rattle.audit_proof.proofs.Imports.{end_read, false, false_from_ne_true, fault_of, form_read, get_or, inl, inr}
 use Rattle.audit_proof.proofs.Imports.{is_above, lacks_no_parent, le-leb, leb-true, length, length-drop}
-use Rattle.audit_proof.proofs.Imports.{line_of_entry, line_with, lines_in, list_all, list_all-append, list_any}
-use Rattle.audit_proof.proofs.Imports.{listed_in, lists_parents, lt-ltb, ltb-true, nat_le, nat_lt, number_after}
-use Rattle.audit_proof.proofs.Imports.{past_read, pasts_read, proof_of, refl, spaced, steps_read, subst, suc, sym}
+use Rattle.audit_proof.proofs.Imports.{line_of_entry, line_with, lines_in, lines_read, list_all, list_all-append}
+use Rattle.audit_proof.proofs.Imports.{list_any, listed_in, lists_parents, lt-ltb, ltb-true, nat_le, nat_lt}
+use Rattle.audit_proof.proofs.Imports.{number_after, past_read, proof_of, refl, spaced, steps_read, subst, suc, sym}
 use Rattle.audit_proof.proofs.Imports.{take, take-append-drop, text_line, true, words_on, zero, ℕ, ◌&&◌, ◌++◌, ◌+◌}
 use Rattle.audit_proof.proofs.Imports.{◌-◌, ◌<◌, ◌==◌, ◌>>=◌, ◌∙◌, ◌∷◌, ◌≡◌, ◌≢◌, ◌≤◌}
 use Rattle.audit_proof.proofs.Ancestries.{same_test}
@@ -174,12 +174,12 @@ module _ {graph : Graph} {bytes : List ℕ} {start : ℕ} {lines : List Line} {l
     (inside : at < length bytes) {piece : List ℕ} (taken : piece ≡ take (found.end - at) (drop at bytes)) where
   -- this line is the next
   next_line : (read : ProofRead Line) → past_read graph (nat_le least) (text_line piece found.is_ended) ≡ read →
-      pasts_read graph [] (lines_in (drop start bytes))
-      ≡ (at_number (length lines + 3) read >>= λ line. pasts_read graph (lines ++ line ∷ []) (lines_in (drop found.next bytes)))
+      lines_read graph [] (lines_in (drop start bytes))
+      ≡ (at_number (length lines + 3) read >>= λ line. lines_read graph (lines ++ line ∷ []) (lines_in (drop found.next bytes)))
   next_line read e =
-      reading.goes_on ∙ ap (pasts_read graph lines) (is.is inside)
+      reading.goes_on ∙ ap (lines_read graph lines) (is.is inside)
       ∙ ap (λ (r : ProofRead Line). at_number (length lines + 3) r
-      >>= λ line. pasts_read graph (lines ++ line ∷ []) (lines_in (drop found.next bytes)))
+      >>= λ line. lines_read graph (lines ++ line ∷ []) (lines_in (drop found.next bytes)))
       (rises_same graph (is_above lines) (nat_le least) reading.rises
       (text_line (take (found.end - at) (drop at bytes)) found.is_ended)
       ∙ ap (λ (xs : List ℕ). past_read graph (nat_le least) (text_line xs found.is_ended)) (sym taken) ∙ e)
@@ -188,7 +188,7 @@ module _ {graph : Graph} {bytes : List ℕ} {start : ℕ} {lines : List Line} {l
   pub line_refused : (unread : Unread) →
       Told (past_read graph (nat_le least) (text_line piece found.is_ended)) (Err unread) →
       ◌≢◌ {A = Result (List Line) ProofFault} (Err (fault_of (length lines + 3) unread)) (Err OutOfMemory) →
-      Err (fault_of (length lines + 3) unread) ≡ pasts_read graph [] (lines_in (drop start bytes))
+      Err (fault_of (length lines + 3) unread) ≡ lines_read graph [] (lines_in (drop start bytes))
   line_refused (Why why) e some = sym (next_line (Err why) e)
   line_refused Memory e some = absurd (some refl)
 
@@ -228,7 +228,7 @@ module _ (graph : Graph) {bytes : List ℕ} {first : LineAt} (is_first : IsLineA
   -- a text by what is read of its first line
   pub by_form : (form : ProofRead (Unit {0})) → form ≡ form_read (text_line line first.is_ended) → proof_of graph bytes
       ≡ (at_number 1 (form >>= λ it. Ok (lines_in (drop first.next bytes)))
-      >>= λ second. at_number 2 (after_line (count_read graph.count) second) >>= λ pasts. pasts_read graph [] pasts)
+      >>= λ second. at_number 2 (after_line (count_read graph.count) second) >>= λ pasts. lines_read graph [] pasts)
   unfolding proof_of
   by_form form is =
       rw (
@@ -243,10 +243,10 @@ module _ (graph : Graph) {bytes : List ℕ} {first : LineAt} (is_first : IsLineA
     -- and of its second
     pub by_count : (head : ProofRead (Unit {0})) → head ≡ count_read count (text_line other second.is_ended) →
         proof_of graph bytes ≡ (at_number 2 (head >>= λ it. Ok (lines_in (drop second.next bytes)))
-        >>= λ pasts. pasts_read graph [] pasts)
+        >>= λ pasts. lines_read graph [] pasts)
     by_count head is =
         by_form (Ok tt) form
-        ∙ ap (λ (r : ProofRead (List TextLine)). at_number 2 r >>= λ pasts. pasts_read graph [] pasts)
+        ∙ ap (λ (r : ProofRead (List TextLine)). at_number 2 r >>= λ pasts. lines_read graph [] pasts)
         (first_line bytes first.next second is_second (count_read graph.count) (no_count graph.count)
         ∙ ap (λ (xs : List ℕ). count_read graph.count (text_line xs second.is_ended)
         >>= λ it. Ok (lines_in (drop second.next bytes))) (sym is_other)

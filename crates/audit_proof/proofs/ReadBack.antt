@@ -1,13 +1,13 @@
 -- A proof's text is read as the proof.
 use Rattle.audit_proof.proofs.Imports.{AllPairs, Bool, Contains, Form, Graph, IsBegun, IsLineOf, IsOnLine, IsProofOf}
 use Rattle.audit_proof.proofs.Imports.{IsReached, Line, List, Ok, Option, ProofStep, Some, [], all_at, ap, append-nil}
-use Rattle.audit_proof.proofs.Imports.{append_assoc, arith, bytes_eq, bytes_eq-Decides, codes, decimal, end_read}
-use Rattle.audit_proof.proofs.Imports.{line_of_entry, flat_map, inl, inr, is_above, length, line_with, line_words}
-use Rattle.audit_proof.proofs.Imports.{list_all_from_each, lt-ltb, map, nat_lt, number-found, number_after}
-use Rattle.audit_proof.proofs.Imports.{decimal_read, ok_or, past_read, pasts_read, place_of, refl, slice_get}
-use Rattle.audit_proof.proofs.Imports.{slice_get_within, spaced, step_fits, step_of_word, step_text, step_word}
-use Rattle.audit_proof.proofs.Imports.{steps_read, subst, suc, sym, text_line, true, words_on, zero, ℕ, ◌++◌}
-use Rattle.audit_proof.proofs.Imports.{◌<◌, ◌^◌, ◌∙◌, ◌∷◌, ◌≡◌, ◌≤◌}
+use Rattle.audit_proof.proofs.Imports.{append_assoc, arith, bytes_eq, bytes_eq-Decides, codes, decimal, decimal_read}
+use Rattle.audit_proof.proofs.Imports.{end_read, flat_map, inl, inr, is_above, length, line_of_entry, line_with}
+use Rattle.audit_proof.proofs.Imports.{line_words, lines_read, list_all_from_each, lt-ltb, map, nat_lt, number-found}
+use Rattle.audit_proof.proofs.Imports.{number_after, ok_or, past_read, place_of, refl, slice_get, slice_get_within}
+use Rattle.audit_proof.proofs.Imports.{spaced, step_fits, step_of_word, step_text, step_word, steps_read, subst, suc}
+use Rattle.audit_proof.proofs.Imports.{sym, text_line, true, words_on, zero, ℕ, ◌++◌, ◌<◌, ◌^◌, ◌∙◌, ◌∷◌}
+use Rattle.audit_proof.proofs.Imports.{◌≡◌, ◌≤◌}
 use Rattle.audit_proof.proofs.Listings.{pair_at}
 use Rattle.audit_proof.proofs.Texts.{AreSmall, IsSmallLine, IsSmallStep, decimal_has_no, decimal_has_no_above, has_no_by, step_has_no, steps_follow}
 use Rattle.audit_proof.proofs.Parts.{part_after, part_before, parts_at, words_at}
@@ -155,7 +155,7 @@ module _ (graph : Graph) where
 
     -- so are the lines of a proof
     pub pasts_back : (lines more : List Line) → IsProofOf graph (lines ++ more) →
-        pasts_read graph lines (map (λ line. text_line (line_words line) true) more) ≡ Ok (lines ++ more)
+        lines_read graph lines (map (λ line. text_line (line_words line) true) more) ≡ Ok (lines ++ more)
     pasts_back lines [] is = ap (λ (ls : List Line). Ok ls) (sym (append-nil lines))
     pasts_back lines (l ∷ ls) is =
         let same : lines ++ l ∷ ls ≡ (lines ++ l ∷ []) ++ ls = sym (append_assoc lines (l ∷ []) ls) in
@@ -163,8 +163,8 @@ module _ (graph : Graph) where
         let above : is_above lines l.entry ≡ true =
         list_all_from_each (λ (k : Line). nat_lt k.entry l.entry) lines
         (λ k c. lt-ltb k.entry l.entry (seam_related (λ (a b : Line). a.entry < b.entry) lines ls l k is.rises c)) in
-        let next : pasts_read graph lines (map (λ line. text_line (line_words line) true) (l ∷ ls))
-        ≡ pasts_read graph (lines ++ l ∷ []) (map (λ line. text_line (line_words line) true) ls) =
+        let next : lines_read graph lines (map (λ line. text_line (line_words line) true) (l ∷ ls))
+        ≡ lines_read graph (lines ++ l ∷ []) (map (λ line. text_line (line_words line) true) ls) =
         rw (past_back (is_above lines) l own above) refl in
         next ∙ pasts_back (lines ++ l ∷ []) ls (subst (IsProofOf graph) same is)
         ∙ ap (λ (ls : List Line). Ok ls) (sym same)

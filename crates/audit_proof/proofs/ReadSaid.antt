@@ -1,17 +1,18 @@
 -- What is read as a proof is one.
 use Rattle.audit_proof.proofs.Imports.{Bool, Contains, Contains-none, Err, Form, Graph, IsBegun, IsLineOf, IsOnLine}
 use Rattle.audit_proof.proofs.Imports.{IsProofOf, IsReached, Line, List, None, NotClosed, NotFalling, NotParent}
-use Rattle.audit_proof.proofs.Imports.{NotReached, NotRising, Ok, OutOfRange, ProofStep, ProofWhy, ProofRead, Result, Some}
-use Rattle.audit_proof.proofs.Imports.{TextLine, [], after_first, all_at, all_from_places, all_pairs_push, and_parts}
-use Rattle.audit_proof.proofs.Imports.{ap, append-nil, append_assoc, arith, at_number, before_first, bytes_eq}
-use Rattle.audit_proof.proofs.Imports.{bytes_eq-Decides, cases_lt, codes, decimal, decimal_nonempty, drop_all}
-use Rattle.audit_proof.proofs.Imports.{end_read, line_of_entry, eqb-true, false, flat_map, get_or, if◌then◌else◌, inl}
-use Rattle.audit_proof.proofs.Imports.{inr, is_above, lacks_no_parent, is_on_line, length, line_with, line_words, list_all}
-use Rattle.audit_proof.proofs.Imports.{list_all_each, with_step, ltb-true, map, member_at, nat_lt, need, number_after}
-use Rattle.audit_proof.proofs.Imports.{decimal_read, ok_or, passes_at_first, past_read, pasts_read, position_or_len}
+use Rattle.audit_proof.proofs.Imports.{NotReached, NotRising, Ok, OutOfRange, ProofRead, ProofStep, ProofWhy, Result}
+use Rattle.audit_proof.proofs.Imports.{Some, TextLine, [], after_first, all_at, all_from_places, all_pairs_push}
+use Rattle.audit_proof.proofs.Imports.{and_parts, ap, append-nil, append_assoc, arith, at_number, before_first}
+use Rattle.audit_proof.proofs.Imports.{bytes_eq, bytes_eq-Decides, cases_lt, codes, decimal, decimal_nonempty}
+use Rattle.audit_proof.proofs.Imports.{decimal_read, drop_all, end_read, eqb-true, false, flat_map, get_or}
+use Rattle.audit_proof.proofs.Imports.{if◌then◌else◌, inl, inr, is_above, length, line_of_entry, line_with}
+use Rattle.audit_proof.proofs.Imports.{line_words, lines_read, list_all, list_all_each, ltb-true, map, member_at}
+use Rattle.audit_proof.proofs.Imports.{nat_lt, need, number_after, ok_or, passes_at_first, past_read, position_or_len}
 use Rattle.audit_proof.proofs.Imports.{push_cases, refl, slice_get-get_or, split_at_first, step_fits, step_of_word}
 use Rattle.audit_proof.proofs.Imports.{step_text, step_word, steps_read, subst, sym, text_line, true, value_from}
-use Rattle.audit_proof.proofs.Imports.{words_on, ℕ, ◌&&◌, ◌++◌, ◌+◌, ◌<◌, ◌==◌, ◌>>=◌, ◌^◌, ◌∙◌, ◌∷◌, ◌≡◌}
+use Rattle.audit_proof.proofs.Imports.{with_step, words_on, ℕ, ◌&&◌, ◌++◌, ◌+◌, ◌<◌, ◌==◌, ◌>>=◌, ◌^◌, ◌∙◌, ◌∷◌}
+use Rattle.audit_proof.proofs.Imports.{◌≡◌}
 use Rattle.audit_proof.proofs.Parts.{words_back}
 use Rattle.audit_proof.proofs.LongerLines.{on_more, push_places, reach_more, reach_new}
 use Rattle.audit_proof.proofs.Tests.{closed_said, found, on_line}
@@ -31,6 +32,12 @@ told n (Err why) value e = cc
 pub needed : (test : Bool) (why : ProofWhy) (it : Unit {0}) → need test why ≡ Ok it → test ≡ true
 needed true why it e = refl
 needed false why it e = cc
+
+-- a chain that gives a value holds what it needs first
+pub needs : {B : Type 0} (test : Bool) (why : ProofWhy) (next : Unit {0} → ProofRead B) (value : B) →
+    (need test why >>= next) ≡ Ok value → (test ≡ true) × (next tt ≡ Ok value)
+needs true why next value e = (refl, e)
+needs false why next value e = cc
 
 -- values that are read as one are one
 pub same_value : {A E : Type 0} (a b : A) → ◌≡◌ {A = Result A E} (Ok a) (Ok b) → a ≡ b
@@ -84,32 +91,42 @@ pub after_said : (first : List ℕ) (words : List (List ℕ)) (said : ℕ × Lis
 after_said first [] said e = cc
 after_said first (word ∷ []) said e = cc
 after_said first (word ∷ number ∷ more) said e =
-    let (it, is_first, rest) = followed (need (bytes_eq word first) Form) _ said e in
+    let (is_first, rest) = needs _ Form _ said e in
     let (value, is_value, made) = followed (decimal_read number) _ said rest in
     let same = same_value (value, more) said made in
     let (low, is) = number_said number value is_value in
-    let front : word ≡ first = (bytes_eq-Decides word first).0 (needed _ Form it is_first) in (
+    let front : word ≡ first = (bytes_eq-Decides word first).0 is_first in (
       subst (λ (n : ℕ). n < 2 ^ 32) (ap (λ (s : ℕ × List (List ℕ)). s.0) same) low,
       ap (λ (w : List ℕ). w ∷ number ∷ more) front ∙ ap (λ (w : List ℕ). first ∷ w ∷ more) is
           ∙ ap (λ (s : ℕ × List (List ℕ)). first ∷ decimal s.0 ∷ s.1) same,
     )
 
 module _ (graph : Graph) where
+  -- the tests of a step that fits
+  pub fits_are : (line : Line) (step : ProofStep) → step_fits graph line step ≡ Ok tt →
+      (step.ancestor < graph.count)
+      × (list_all (λ earlier. nat_lt step.ancestor earlier.ancestor) line.steps ≡ true) × IsOnLine line step.via
+      × Contains (graph.parents step.via) step.ancestor
+  unfolding step_fits
+  fits_are line step e =
+      let (in_range, rest) = needs _ OutOfRange _ tt e in
+      let (falls, others) = needs _ NotFalling _ tt rest in
+      let (reached, arrow) = needs _ NotReached _ tt others in (
+        ltb-true step.ancestor graph.count (and_parts _ _ in_range).0,
+        falls,
+        on_line line step.via reached,
+        found (graph.parents step.via) step.ancestor (needed _ NotParent tt arrow),
+      )
+
   -- what fits goes on
   pub fits_said : (line : Line) (step : ProofStep) → step_fits graph line step ≡ Ok tt → IsBegun graph line →
       IsBegun graph (with_step line step)
-  unfolding step_fits
   fits_said line step e begun =
-      let (_, in_range, rest) = followed (need (nat_lt step.ancestor graph.count && nat_lt step.via graph.count) OutOfRange) _ tt e in
-      let (_, falls, others) = followed (need (list_all (λ earlier. nat_lt step.ancestor earlier.ancestor) line.steps) NotFalling) _ tt rest in
-      let (_, reached, arrow) = followed (need (is_on_line line step.via) NotReached) _ tt others in
-      let (low, low_via) = and_parts _ _ (needed _ OutOfRange _ in_range) in
-      let on : IsOnLine line step.via = on_line line step.via (needed _ NotReached _ reached) in
-      let below = needed _ NotFalling _ falls in
+      let (low, below, on, arrow) = fits_are line step e in
       record {
         inside = λ x on_it. elim (on_more line.entry line.steps step x on_it) [
           | inl old ↦ begun.inside x old
-          | inr new ↦ subst (λ (z : ℕ). z < graph.count) new (ltb-true step.ancestor graph.count low)
+          | inr new ↦ subst (λ (z : ℕ). z < graph.count) new low
         ];
         falls = all_pairs_push (λ (a b : ProofStep). b.ancestor < a.ancestor) line.steps step begun.falls
             (λ k d inside. ltb-true step.ancestor (get_or line.steps k d).ancestor
@@ -124,8 +141,7 @@ module _ (graph : Graph) where
         ];
         arrows = λ k s there. elim (push_places line.steps step k s there) [
           | inl old ↦ begun.arrows k s old
-          | inr new ↦ subst (λ (t : ProofStep). Contains (graph.parents t.via) t.ancestor) new.1
-              (found (graph.parents step.via) step.ancestor (needed _ NotParent tt arrow))
+          | inr new ↦ subst (λ (t : ProofStep). Contains (graph.parents t.via) t.ancestor) new.1 arrow
         ];
       }
 
@@ -171,13 +187,13 @@ module _ (graph : Graph) where
   unfolding past_read line_of_entry end_read
   past_said rises next line e =
       let (said, is_said, rest) = followed (number_after (codes "past") (words_on next.bytes)) _ line e in
-      let (_, survivor, above) = followed (need (nat_lt said.0 graph.count) OutOfRange) _ line rest in
-      let (_, is_above, steps) = followed (need (rises said.0) NotRising) _ line above in
+      let (survivor, above) = needs _ OutOfRange _ line rest in
+      let (is_above, steps) = needs _ NotRising _ line above in
       let (all, are, ends) = followed (steps_read graph (line_with said.0 []) said.1) _ line steps in
-      let (_, is_ended, closes) = followed (need next.is_ended Form) _ line ends in
-      let (_, closed, made) = followed (need (lacks_no_parent graph all) NotClosed) _ line closes in
+      let (is_ended, closes) = needs _ Form _ line ends in
+      let (closed, made) = needs _ NotClosed _ line closes in
       let same : all ≡ line = cc in
-      let low : said.0 < graph.count = ltb-true said.0 graph.count (needed _ OutOfRange _ survivor) in
+      let low : said.0 < graph.count = ltb-true said.0 graph.count survivor in
       let (more, is, words, begun) = steps_said (line_with said.0 []) said.1 all are (begun_none said.0 low) in
       let bytes : next.bytes ≡ line_words (line_with said.0 more) =
       words_back next.bytes (codes "past") (decimal said.0 ∷ said.1) (after_said (codes "past") (words_on next.bytes) said is_said).1
@@ -185,13 +201,13 @@ module _ (graph : Graph) where
       ∙ ap (λ (xs : List ℕ). codes "past " ++ decimal said.0 ++ xs) (spaced_back more) in
       let whole : line_with said.0 more ≡ line = sym is ∙ same in (
         ap (λ (xs : List ℕ). text_line xs next.is_ended) (bytes ∙ ap line_words whole)
-            ∙ ap (text_line (line_words line)) (needed next.is_ended Form _ is_ended),
-        subst (IsLineOf graph) same (record { begun = begun; closed = closed_said graph all (needed _ NotClosed _ closed) }),
-        subst (λ (l : Line). rises l.entry ≡ true) whole (needed (rises said.0) NotRising _ is_above),
+            ∙ ap (text_line (line_words line)) is_ended,
+        subst (IsLineOf graph) same (record { begun = begun; closed = closed_said graph all closed }),
+        subst (λ (l : Line). rises l.entry ≡ true) whole is_above,
       )
 
   -- lines that are read are those of the proof
-  pub pasts_said : (lines : List Line) (next : List TextLine) (all : List Line) → pasts_read graph lines next ≡ Ok all →
+  pub pasts_said : (lines : List Line) (next : List TextLine) (all : List Line) → lines_read graph lines next ≡ Ok all →
       IsProofOf graph lines → (more : List Line) × (all ≡ lines ++ more)
       × (next ≡ map (λ line. text_line (line_words line) true) more) × IsProofOf graph all
   pasts_said lines [] all e proof =

@@ -4,12 +4,12 @@ use Rattle.audit_proof.proofs.Imports.{Line, List, Memory, Ok, ProofFault, Proof
 use Rattle.audit_proof.proofs.Imports.{TextsOfProofsAreRead, WrongCount, [], after_line, all_at, and_parts, ap}
 use Rattle.audit_proof.proofs.Imports.{append-nil, append_assoc, arith, at_number, bytes_eq, bytes_eq-Decides, codes}
 use Rattle.audit_proof.proofs.Imports.{count_read, decimal, eq-eqb, eqb-true, flat_map, form_line, form_read, length}
-use Rattle.audit_proof.proofs.Imports.{line_text, line_words, lines_in, map, need, number_after, proof_of, proof_text}
-use Rattle.audit_proof.proofs.Imports.{refl, slice_get, suc, survivors_line, sym, text_line, true, words_on, zero, ℕ}
-use Rattle.audit_proof.proofs.Imports.{◌++◌, ◌==◌, ◌∙◌, ◌∷◌, ◌≡◌, ◌≢◌, ◌≤◌}
+use Rattle.audit_proof.proofs.Imports.{line_text, line_words, lines_in, map, number_after, proof_of, proof_text, refl}
+use Rattle.audit_proof.proofs.Imports.{slice_get, suc, survivors_line, sym, text_line, true, words_on, zero, ℕ, ◌++◌}
+use Rattle.audit_proof.proofs.Imports.{◌==◌, ◌∙◌, ◌∷◌, ◌≡◌, ◌≢◌, ◌≤◌}
 use Rattle.audit_proof.proofs.Texts.{AreSmallLines, decimal_has_no, has_no_both, has_no_by, line_has_no}
 use Rattle.audit_proof.proofs.Parts.{line_bytes, lines_at, lines_back, parts_at, parts_last, words_back}
-use Rattle.audit_proof.proofs.ReadSaid.{after_said, followed, needed, pasts_said, told}
+use Rattle.audit_proof.proofs.ReadSaid.{after_said, followed, needed, needs, pasts_said, told}
 use Rattle.audit_proof.proofs.ReadBack.{after_back, pasts_back, small_line}
 
 -- the lines of a proof's text
@@ -83,9 +83,9 @@ count_said : (count : ℕ) (line : TextLine) → count_read count line ≡ Ok tt
 unfolding count_read
 count_said count line e =
     let (said, is_said, rest) = followed (number_after (codes "entries") (words_on line.bytes)) _ tt e in
-    let (_, right, last) = followed (need (said.0 == count) WrongCount) _ tt rest in
+    let (right, last) = needs _ WrongCount _ tt rest in
     let (none, ended) = and_parts (length said.1 == 0) line.is_ended (needed _ Form tt last) in
-    let same : said.0 ≡ count = eqb-true said.0 count (needed _ WrongCount _ right) in
+    let same : said.0 ≡ count = eqb-true said.0 count right in
     let nothing : said.1 ≡ [] = empty said.1 (eqb-true (length said.1) 0 none) in
     ap (λ (xs : List ℕ). text_line xs line.is_ended)
     (words_back line.bytes (codes "entries") (decimal said.0 ∷ said.1)

@@ -1,15 +1,15 @@
 -- What graphs with the same arrows have in common.
 use Rattle.audit_proof.proofs.Imports.{Bool, Err, Graph, HaveSameArrows, IsBegun, IsCanonicalText, IsGreatest}
 use Rattle.audit_proof.proofs.Imports.{IsLineOf, IsProofOf, LacksNoParent, Line, List, None, NotRising, Ok, Option}
-use Rattle.audit_proof.proofs.Imports.{OutOfRange, ProofFault, ProofStep, ProofRead, Result, SameArrowsGiveOneValue}
+use Rattle.audit_proof.proofs.Imports.{OutOfRange, ProofFault, ProofRead, ProofStep, Result, SameArrowsGiveOneValue}
 use Rattle.audit_proof.proofs.Imports.{SameArrowsHaveOneText, Some, TextLine, TextsAreReadInOneWay, [], after_line}
-use Rattle.audit_proof.proofs.Imports.{all_at, all_from_places, ap, at_number, before_by, before_on, codes, count_read}
-use Rattle.audit_proof.proofs.Imports.{end_read, line_of_entry, first_value, form_read, inl, inr, is_above, lacks_no_parent}
-use Rattle.audit_proof.proofs.Imports.{is_whole_line, length, line_with, lines_in, list_all, list_any, listed_in}
-use Rattle.audit_proof.proofs.Imports.{with_step, nat_lt, need, not, number_after, own_line, past_read, pasts_read}
-use Rattle.audit_proof.proofs.Imports.{place_of, proof_of, proof_text, refl, same_values, step_fits, step_of_word}
-use Rattle.audit_proof.proofs.Imports.{steps_read, subst, sym, unbound, whole_by, words_on, ℕ, ◌&&◌, ◌++◌, ◌+◌, ◌<◌}
-use Rattle.audit_proof.proofs.Imports.{◌==◌, ◌>>=◌, ◌∙◌, ◌∷◌, ◌≡◌, ◌≤◌}
+use Rattle.audit_proof.proofs.Imports.{all_at, all_from_places, ap, at_number, before_by, before_on, codes}
+use Rattle.audit_proof.proofs.Imports.{count_read, end_read, first_value, form_read, inl, inr, is_above}
+use Rattle.audit_proof.proofs.Imports.{is_whole_line, lacks_no_parent, length, line_of_entry, line_with, lines_in}
+use Rattle.audit_proof.proofs.Imports.{lines_read, list_all, list_any, listed_in, nat_lt, need, not, number_after}
+use Rattle.audit_proof.proofs.Imports.{own_line, past_read, place_of, proof_of, proof_text, refl, same_values}
+use Rattle.audit_proof.proofs.Imports.{step_fits, step_of_word, steps_read, subst, sym, unbound, whole_by, with_step}
+use Rattle.audit_proof.proofs.Imports.{words_on, ℕ, ◌&&◌, ◌++◌, ◌+◌, ◌<◌, ◌==◌, ◌>>=◌, ◌∙◌, ◌∷◌, ◌≡◌, ◌≤◌}
 use Rattle.audit_proof.proofs.Ancestries.{same_test}
 use Rattle.audit_proof.proofs.Trusted.{line_found}
 use Rattle.audit_proof.proofs.Tests.{all_same, closed_back, closed_said, find_in, found}
@@ -112,7 +112,7 @@ module _ (graph other : Graph) (same : HaveSameArrows graph other) where
           ends (Ok line) = rw (closed_same line) refl
           ends (Err why) = refl
 
-  pasts_same : (lines : List Line) (next : List TextLine) → pasts_read graph lines next ≡ pasts_read other lines next
+  pasts_same : (lines : List Line) (next : List TextLine) → lines_read graph lines next ≡ lines_read other lines next
   pasts_same lines [] = refl
   pasts_same lines (first ∷ next) =
       rw (past_same (is_above lines) first)
@@ -120,9 +120,9 @@ module _ (graph other : Graph) (same : HaveSameArrows graph other) where
       (at_number (length lines + 3) (past_read other (is_above lines) first)))
     where
       by : ((line : Line) →
-          pasts_read graph (lines ++ line ∷ []) next ≡ pasts_read other (lines ++ line ∷ []) next) → (read : Result Line ProofFault) →
-          (read >>= λ line. pasts_read graph (lines ++ line ∷ []) next)
-          ≡ (read >>= λ line. pasts_read other (lines ++ line ∷ []) next)
+          lines_read graph (lines ++ line ∷ []) next ≡ lines_read other (lines ++ line ∷ []) next) → (read : Result Line ProofFault) →
+          (read >>= λ line. lines_read graph (lines ++ line ∷ []) next)
+          ≡ (read >>= λ line. lines_read other (lines ++ line ∷ []) next)
       by later (Ok line) = later line
       by later (Err fault) = refl
 
@@ -131,19 +131,19 @@ module _ (graph other : Graph) (same : HaveSameArrows graph other) where
   unfolding proof_of
   proof_same bytes =
       ap (λ (n : ℕ). at_number 1 (after_line form_read (lines_in bytes)) >>= λ second.
-      at_number 2 (after_line (count_read n) second) >>= λ next. pasts_read graph [] next) same.count
+      at_number 2 (after_line (count_read n) second) >>= λ next. lines_read graph [] next) same.count
       ∙ by (at_number 1 (after_line form_read (lines_in bytes)))
     where
       pasts : (read : Result (List TextLine) ProofFault) →
-          (read >>= λ next. pasts_read graph [] next) ≡ (read >>= λ next. pasts_read other [] next)
+          (read >>= λ next. lines_read graph [] next) ≡ (read >>= λ next. lines_read other [] next)
       pasts (Ok next) = pasts_same [] next
       pasts (Err fault) = refl
 
       by : (read : Result (List TextLine) ProofFault) →
           (read >>= λ second. at_number 2 (after_line (count_read other.count) second)
-          >>= λ next. pasts_read graph [] next)
+          >>= λ next. lines_read graph [] next)
           ≡ (read >>= λ second. at_number 2 (after_line (count_read other.count) second)
-          >>= λ next. pasts_read other [] next)
+          >>= λ next. lines_read other [] next)
       by (Ok second) = pasts (at_number 2 (after_line (count_read other.count) second))
       by (Err fault) = refl
 

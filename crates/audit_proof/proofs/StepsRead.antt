@@ -1,18 +1,17 @@
 -- A line's words, read one by one: what is reached stands in a table.
 use Rattle.audit_proof.proofs.Imports.{Bool, Contains, Contains-map_cases, Err, Follows, Graph, HasNo, IsListedTable}
-use Rattle.audit_proof.proofs.Imports.{IsOnLine, IsReading, Line, List, NotFalling, NotReached, Ok, OutOfRange}
-use Rattle.audit_proof.proofs.Imports.{ProofStep, ProofWhy, [], all_at, all_from_places, and_from, and_parts, ap}
-use Rattle.audit_proof.proofs.Imports.{arith, cases_eq, drop, drop-drop, drop_all, drop_more, false, get_or}
-use Rattle.audit_proof.proofs.Imports.{get_or-set_other, get_or-set_same, inl, inr, is_on_line, length, length-set}
-use Rattle.audit_proof.proofs.Imports.{line_with, list_all-append, list_any, listed_in, lt-ltb, ltb-true, nat_lt}
-use Rattle.audit_proof.proofs.Imports.{ne_eqb, need, place_of, push_cases, refl, slice_set, spaced, step_fits}
-use Rattle.audit_proof.proofs.Imports.{step_of_word, step_tests, steps_read, subst, sym, take, true, ℕ, ◌&&◌, ◌++◌}
-use Rattle.audit_proof.proofs.Imports.{◌+◌, ◌-◌, ◌<◌, ◌==◌, ◌||◌, ◌∙◌, ◌∷◌, ◌≡◌, ◌≤◌}
+use Rattle.audit_proof.proofs.Imports.{IsOnLine, IsReading, Line, List, Ok, ProofStep, ProofWhy, [], all_at}
+use Rattle.audit_proof.proofs.Imports.{all_from_places, and_from, and_parts, ap, arith, cases_eq, drop, drop-drop}
+use Rattle.audit_proof.proofs.Imports.{drop_all, drop_more, false, get_or, get_or-set_other, get_or-set_same, inl}
+use Rattle.audit_proof.proofs.Imports.{inr, is_on_line, length, length-set, line_with, list_all-append, list_any}
+use Rattle.audit_proof.proofs.Imports.{listed_in, lt-ltb, ltb-true, nat_lt, ne_eqb, place_of, push_cases, refl}
+use Rattle.audit_proof.proofs.Imports.{slice_set, spaced, step_fits, step_of_word, step_tests, steps_read, subst, sym}
+use Rattle.audit_proof.proofs.Imports.{take, true, ℕ, ◌++◌, ◌+◌, ◌-◌, ◌<◌, ◌==◌, ◌||◌, ◌∙◌, ◌∷◌, ◌≡◌, ◌≤◌}
 use Rattle.audit_proof.proofs.Ancestries.{same_test}
 use Rattle.audit_proof.proofs.Parts.{words_taken}
 use Rattle.audit_proof.proofs.LongerLines.{listed_new, more_on, on_more}
 use Rattle.audit_proof.proofs.Tests.{found, is_on, on_line}
-use Rattle.audit_proof.proofs.ReadSaid.{followed, needed}
+use Rattle.audit_proof.proofs.ReadSaid.{fits_are}
 
 module _ {graph : Graph} {entry : ℕ} {words : List ℕ} {steps : List ProofStep} {reached : List Bool} {bound at : ℕ}
     (reading : IsReading graph entry words steps reached bound at) where
@@ -29,10 +28,8 @@ module _ {graph : Graph} {entry : ℕ} {words : List ℕ} {steps : List ProofSte
 
   -- a step that fits is within the table
   pub fits_below : (step : ProofStep) → step_tests graph reached bound step ≡ Ok tt → step.ancestor < length reached
-  unfolding step_tests
   fits_below step fits =
-      let (_, in_range, rest) = followed (need (nat_lt step.ancestor graph.count && nat_lt step.via graph.count) OutOfRange) _ tt fits in
-      let low = ltb-true step.ancestor graph.count (and_parts _ _ (needed _ OutOfRange _ in_range)).0 in
+      let (low, _, _, _) = fits_are graph (line_with entry steps) step (sym (tests_fit step) ∙ fits) in
       omega (arith, low, reading.each)
 
   module _ (end : ℕ) {word : List ℕ} (starts : at < length words) (order : (at + 1 ≤ end) × (end ≤ length words))
@@ -65,15 +62,9 @@ module _ {graph : Graph} {entry : ℕ} {words : List ℕ} {steps : List ProofSte
       -- it is one that fits
       pub reading_more : step_tests graph reached bound step ≡ Ok tt → step.ancestor < step.via →
           IsReading graph entry words (steps ++ step ∷ []) (slice_set reached step.ancestor true) step.ancestor end
-      unfolding step_tests
       reading_more fits lower =
-          let (_, in_range, rest) = followed (need (nat_lt step.ancestor graph.count && nat_lt step.via graph.count) OutOfRange) _ tt fits in
-          let (_, falls, others) = followed (need (nat_lt step.ancestor bound) NotFalling) _ tt rest in
-          let (_, met, _) = followed (need (get_or reached step.via false) NotReached) _ tt others in
-          let low = ltb-true step.ancestor graph.count (and_parts _ _ (needed _ OutOfRange _ in_range)).0 in
-          let under = ltb-true step.ancestor bound (needed _ NotFalling _ falls) in
-          let on : IsOnLine (line_with entry steps) step.via =
-          on_line (line_with entry steps) step.via (sym (reading.shows step.via) ∙ needed _ NotReached _ met) in
+          let (low, falls, on, _) = fits_are graph (line_with entry steps) step (sym (tests_fit step) ∙ fits) in
+          let under = ltb-true step.ancestor bound (sym (reading.bounded step.ancestor low) ∙ falls) in
           record {
             within = order.1;
             follows = next;

@@ -164,15 +164,15 @@ abbrev pub is_above : List Line → ℕ → Bool
 is_above lines entry = list_all (λ line. nat_lt line.entry entry) lines
 
 -- these lines of survivors, and those that follow them
-abbrev pub pasts_read : Graph → List Line → List TextLine → Result (List Line) ProofFault
-pasts_read graph lines [] = Ok lines
-pasts_read graph lines (next ∷ more) = do
+abbrev pub lines_read : Graph → List Line → List TextLine → Result (List Line) ProofFault
+lines_read graph lines [] = Ok lines
+lines_read graph lines (next ∷ more) = do
   line ← at_number (length lines + 3) (past_read graph (is_above lines) next)
-  pasts_read graph (lines ++ line ∷ []) more
+  lines_read graph (lines ++ line ∷ []) more
 
 -- the proof that a text is of, or the text's first fault
 unfoldable pub proof_of : Graph → List ℕ → Result (List Line) ProofFault
 proof_of graph text = do
   second ← at_number 1 (after_line form_read (lines_in text))
   pasts ← at_number 2 (after_line (count_read graph.count) second)
-  pasts_read graph [] pasts
+  lines_read graph [] pasts

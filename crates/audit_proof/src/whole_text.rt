@@ -1,6 +1,6 @@
 //! Reading the text of a proof.
 ghost use Rattle.std.specs.Prelude.{◌≡◌, ◌≢◌, ◌-◌, ◌≤◌, [], length, take, drop, Err};
-ghost use Rattle.audit_proof.specs.Reading.{count_read, form_read, lines_in, pasts_read, proof_of};
+ghost use Rattle.audit_proof.specs.Reading.{count_read, form_read, lines_in, lines_read, proof_of};
 ghost use Rattle.audit_proof.specs.Reads.{IsReadAnswer};
 ghost use Rattle.audit_proof.specs.inside.Begun.{text_line};
 ghost use Rattle.audit_proof.specs.inside.Bytes.{Follows, HasNo};
@@ -125,7 +125,7 @@ fn read_lines<A: Arrows>(
     requires few { (A.graph graph.now).count ≤ 16384 }
     requires within { start ≤ length bytes.now }
     ensures { result ≢ Err ProofFault.Memory →
-        result ≡ pasts_read (A.graph graph.now) [] (lines_in (drop start bytes.now)) }
+        result ≡ lines_read (A.graph graph.now) [] (lines_in (drop start bytes.now)) }
 {
     let mut lines = Vec::new(alloc);
     let mut least = 0;

@@ -7,7 +7,7 @@ use Rattle.audit_proof.specs.declared.reading.Unread.{Unread}
 use Rattle.audit_proof.specs.declared.reading.Unread.TheVariants.{Why, Memory}
 use Rattle.audit_proof.specs.declared.whole_text.LineAt.{LineAt}
 use Rattle.audit_proof.specs.Lines.{Line}
-use Rattle.audit_proof.specs.Reading.{lines_in, is_above, pasts_read}
+use Rattle.audit_proof.specs.Reading.{lines_in, is_above, lines_read}
 use Rattle.audit_proof.specs.inside.Begun.{text_line}
 
 -- the fault of a text by why a line of it isn't read
@@ -29,5 +29,5 @@ pub record IsLineAt (bytes : List ℕ) (start : ℕ) (found : LineAt) : Type 0 w
 pub record IsReadingLines (graph : Graph) (bytes : List ℕ) (start : ℕ) (lines : List Line) (least at : ℕ)
     : Type 0 where
   pub within : at ≤ length bytes
-  pub goes_on : pasts_read graph [] (lines_in (drop start bytes)) ≡ pasts_read graph lines (lines_in (drop at bytes))
+  pub goes_on : lines_read graph [] (lines_in (drop start bytes)) ≡ lines_read graph lines (lines_in (drop at bytes))
   pub rises : (x : ℕ) → is_above lines x ≡ nat_le least x
