@@ -46,7 +46,8 @@ module _ (bytes : List ℕ) (start end : ℕ) (order : start ≤ end) (within : 
         ap lines_in (left_is ∙ ap (λ (xs : List ℕ). take (end - start) (drop start bytes) ++ xs)
         (front ∙ ap (λ (b : ℕ). b ∷ drop (end + 1) bytes) byte))
         ∙ lines_at (take (end - start) (drop start bytes)) (drop (end + 1) bytes) whole
-        ∙ ap (λ (b : Bool). text_line (take (end - start) (drop start bytes)) b ∷ lines_in (drop (end + 1) bytes)) (sym is);
+        ∙ ap (λ (b : Bool). text_line (take (end - start) (drop start bytes)) b ∷ lines_in (drop (end + 1) bytes))
+        (sym is);
   }
 
   -- a line that the text ends
@@ -72,7 +73,8 @@ module _ (bytes : List ℕ) (start end : ℕ) (order : start ≤ end) (within : 
 
 -- one of the first two lines, by its place: no line is as little one as a line of nothing
 pub first_line : (bytes : List ℕ) (start : ℕ) (at : LineAt) → IsLineAt bytes start at →
-    (read : TextLine → ProofRead (Unit {0})) → read (text_line [] false) ≡ Err Form → after_line read (lines_in (drop start bytes))
+    (read : TextLine → ProofRead (Unit {0})) → read (text_line [] false) ≡ Err Form →
+    after_line read (lines_in (drop start bytes))
     ≡ (read (text_line (take (at.end - start) (drop start bytes)) at.is_ended)
     >>= λ it. Ok (lines_in (drop at.next bytes)))
 first_line bytes start at is read nothing = elim (cases_lt start (length bytes)) [
@@ -175,7 +177,8 @@ module _ {graph : Graph} {bytes : List ℕ} {start : ℕ} {lines : List Line} {l
   -- this line is the next
   next_line : (read : ProofRead Line) → past_read graph (nat_le least) (text_line piece found.is_ended) ≡ read →
       lines_read graph [] (lines_in (drop start bytes))
-      ≡ (at_number (length lines + 3) read >>= λ line. lines_read graph (lines ++ line ∷ []) (lines_in (drop found.next bytes)))
+      ≡
+      (at_number (length lines + 3) read >>= λ line. lines_read graph (lines ++ line ∷ []) (lines_in (drop found.next bytes)))
   next_line read e =
       reading.goes_on ∙ ap (lines_read graph lines) (is.is inside)
       ∙ ap (λ (r : ProofRead Line). at_number (length lines + 3) r
@@ -200,7 +203,8 @@ module _ {graph : Graph} {bytes : List ℕ} {start : ℕ} {lines : List Line} {l
     goes_on = next_line (Ok line) e;
     rises = λ x.
         list_all-append (λ (l : Line). nat_lt l.entry x) lines (line ∷ [])
-        ∙ same_test _ _ (λ a. let under = ltb-true line.entry x (and_parts (nat_lt line.entry x) true (and_parts _ _ a).1).0 in
+        ∙ same_test _ _
+        (λ a. let under = ltb-true line.entry x (and_parts (nat_lt line.entry x) true (and_parts _ _ a).1).0 in
         le-leb (line.entry + 1) x (omega (arith, under)))
         (λ a. let over = leb-true (line.entry + 1) x a in
         and_from _ _ (reading.rises x ∙ le-leb least x (omega (arith, over, low)))

@@ -48,7 +48,8 @@ pub line_has_words : (line : Line) → IsSmallLine line →
 line_has_words line small =
     parts_at 32 (codes "past") (decimal line.entry ++ flat_map step_text line.steps) (has_no_by 32 (codes "past") refl)
     ∙ ap (λ (ws : List (List ℕ)). codes "past" ∷ ws)
-    (words_at (decimal line.entry) (flat_map step_text line.steps) (decimal_has_no 32 line.entry small.entry (omega arith))
+    (words_at (decimal line.entry) (flat_map step_text line.steps)
+    (decimal_has_no 32 line.entry small.entry (omega arith))
     (steps_follow line.steps)
     ∙ ap (λ (ws : List (List ℕ)). decimal line.entry ∷ ws) (steps_words line.steps small.steps))
 
@@ -71,7 +72,8 @@ at_seam [] ys x = refl
 at_seam (y ∷ xs) ys x = at_seam xs ys x
 
 -- it is related to all before it
-seam_related : {X : Type 0} (R : X → X → Type 0) (xs ys : List X) (x y : X) → AllPairs R (xs ++ x ∷ ys) → Contains xs y →
+seam_related : {X : Type 0} (R : X → X → Type 0) (xs ys : List X) (x y : X) → AllPairs R (xs ++ x ∷ ys) →
+    Contains xs y →
     R y x
 seam_related R xs ys x y all c =
     let (k, at) = place_of xs y c in
@@ -106,7 +108,8 @@ module _ (graph : Graph) where
           (step_on_line (line_with entry steps) j earlier (in_front steps (t ∷ ts) j earlier low there))
 
   -- so do all that follow
-  steps_back : (entry : ℕ) (steps more : List ProofStep) → AreSmall more → IsBegun graph (line_with entry (steps ++ more)) →
+  steps_back : (entry : ℕ) (steps more : List ProofStep) → AreSmall more →
+      IsBegun graph (line_with entry (steps ++ more)) →
       steps_read graph (line_with entry steps) (map step_word more) ≡ Ok (line_with entry (steps ++ more))
   steps_back entry steps [] small is =
       ap (λ (ss : List ProofStep). Ok (line_with entry ss)) (sym (append-nil steps))

@@ -159,7 +159,8 @@ module _ (graph : Graph) where
       (fits_said line step fits begun) in (
         step ∷ more,
         are ∙ ap (line_with line.entry) (append_assoc line.steps (step ∷ []) more),
-        ap (λ (w : List ℕ). w ∷ words) (step_said word step is_step) ∙ ap (λ (ws : List (List ℕ)). step_word step ∷ ws) text,
+        ap (λ (w : List ℕ). w ∷ words) (step_said word step is_step)
+            ∙ ap (λ (ws : List (List ℕ)). step_word step ∷ ws) text,
         is,
       )
 
@@ -196,7 +197,8 @@ module _ (graph : Graph) where
       let low : said.0 < graph.count = ltb-true said.0 graph.count survivor in
       let (more, is, words, begun) = steps_said (line_with said.0 []) said.1 all are (begun_none said.0 low) in
       let bytes : next.bytes ≡ line_words (line_with said.0 more) =
-      words_back next.bytes (codes "past") (decimal said.0 ∷ said.1) (after_said (codes "past") (words_on next.bytes) said is_said).1
+      words_back next.bytes (codes "past") (decimal said.0 ∷ said.1)
+      (after_said (codes "past") (words_on next.bytes) said is_said).1
       ∙ ap (λ (ws : List (List ℕ)). codes "past " ++ decimal said.0 ++ flat_map (λ (word : List ℕ). 32 ∷ word) ws) words
       ∙ ap (λ (xs : List ℕ). codes "past " ++ decimal said.0 ++ xs) (spaced_back more) in
       let whole : line_with said.0 more ≡ line = sym is ∙ same in (
@@ -215,7 +217,8 @@ module _ (graph : Graph) where
       ([], sym same ∙ sym (append-nil lines), refl, subst (IsProofOf graph) same proof)
   pasts_said lines (first ∷ next) all e proof =
       let (line, at, rest) = followed (at_number (length lines + 3) (past_read graph (is_above lines) first)) _ all e in
-      let (is_first, own, rises) = past_said (is_above lines) first line (told (length lines + 3) (past_read graph (is_above lines) first) line at) in
+      let (is_first, own, rises) =
+      past_said (is_above lines) first line (told (length lines + 3) (past_read graph (is_above lines) first) line at) in
       let (more, are, text, is) = pasts_said (lines ++ line ∷ []) next all rest (record {
         rises = all_pairs_push (λ (a b : Line). a.entry < b.entry) lines line proof.rises
             (λ k d low. ltb-true (get_or lines k d).entry line.entry
@@ -229,6 +232,7 @@ module _ (graph : Graph) where
       }) in (
         line ∷ more,
         are ∙ append_assoc lines (line ∷ []) more,
-        ap (λ (t : TextLine). t ∷ next) is_first ∙ ap (λ (ts : List TextLine). text_line (line_words line) true ∷ ts) text,
+        ap (λ (t : TextLine). t ∷ next) is_first
+            ∙ ap (λ (ts : List TextLine). text_line (line_words line) true ∷ ts) text,
         is,
       )

@@ -46,7 +46,8 @@ text_has : (count : ℕ) → count ≤ 16384 → (lines : List Line) → AreSmal
     ≡ full (codes "proof 1") ∷ full (codes "entries " ++ decimal count) ∷ lines_of lines
 text_has count few lines small =
     ap lines_in (append_assoc form_line (survivors_line count) (flat_map line_text lines))
-    ∙ lines_at (codes "proof 1") (survivors_line count ++ flat_map line_text lines) (has_no_by 10 (codes "proof 1") refl)
+    ∙ lines_at (codes "proof 1") (survivors_line count ++ flat_map line_text lines)
+    (has_no_by 10 (codes "proof 1") refl)
     ∙ ap (λ (ts : List TextLine). full (codes "proof 1") ∷ ts)
     (ap lines_in (append_assoc (codes "entries " ++ decimal count) (10 ∷ []) (flat_map line_text lines))
     ∙ lines_at (codes "entries " ++ decimal count) (flat_map line_text lines) (count_has_no count few)
@@ -90,7 +91,8 @@ count_said count line e =
     ap (λ (xs : List ℕ). text_line xs line.is_ended)
     (words_back line.bytes (codes "entries") (decimal said.0 ∷ said.1)
     (after_said (codes "entries") (words_on line.bytes) said is_said).1
-    ∙ ap (λ (ws : List (List ℕ)). codes "entries " ++ decimal said.0 ++ flat_map (λ (word : List ℕ). 32 ∷ word) ws) nothing
+    ∙ ap (λ (ws : List (List ℕ)). codes "entries " ++ decimal said.0 ++ flat_map (λ (word : List ℕ). 32 ∷ word) ws)
+    nothing
     ∙ ap (λ (xs : List ℕ). codes "entries " ++ xs) (append-nil (decimal said.0) ∙ ap decimal same))
     ∙ ap (text_line (codes "entries " ++ decimal count)) ended
   where
@@ -99,7 +101,8 @@ count_said count line e =
     empty (w ∷ ws) e = absurd (omega (arith, e))
 
 -- what comes after a line that is read
-after_line_said : (read : TextLine → ProofRead (Unit {0})) (lines left : List TextLine) → after_line read lines ≡ Ok left →
+after_line_said : (read : TextLine → ProofRead (Unit {0})) (lines left : List TextLine) →
+    after_line read lines ≡ Ok left →
     (line : TextLine) × (read line ≡ Ok tt) × (lines ≡ line ∷ left)
 after_line_said read [] left e = cc
 after_line_said read (line ∷ lines) left e =
@@ -132,7 +135,8 @@ text_said graph bytes lines e =
     (in_second ∙ ap (λ (t : TextLine). t ∷ pasts) (count_said graph.count count is_count)
     ∙ ap (λ (ts : List TextLine). full (codes "entries " ++ decimal graph.count) ∷ ts) in_pasts) in (
       sym (lines_back bytes) ∙ ap (flat_map line_bytes) all
-          ∙ ap (λ (xs : List ℕ). form_line ++ ((codes "entries " ++ decimal graph.count) ++ 10 ∷ []) ++ xs) (lines_bytes more)
+          ∙ ap (λ (xs : List ℕ). form_line ++ ((codes "entries " ++ decimal graph.count) ++ 10 ∷ []) ++ xs)
+          (lines_bytes more)
           ∙ sym (append_assoc form_line (survivors_line graph.count) (flat_map line_text more))
           ∙ ap (proof_text graph.count) (sym are),
       proof,

@@ -120,7 +120,8 @@ module _ (graph other : Graph) (same : HaveSameArrows graph other) where
       (at_number (length lines + 3) (past_read other (is_above lines) first)))
     where
       by : ((line : Line) →
-          lines_read graph (lines ++ line ∷ []) next ≡ lines_read other (lines ++ line ∷ []) next) → (read : Result Line ProofFault) →
+          lines_read graph (lines ++ line ∷ []) next ≡ lines_read other (lines ++ line ∷ []) next) →
+          (read : Result Line ProofFault) →
           (read >>= λ line. lines_read graph (lines ++ line ∷ []) next)
           ≡ (read >>= λ line. lines_read other (lines ++ line ∷ []) next)
       by later (Ok line) = later line
@@ -157,7 +158,8 @@ texts_are_read_in_one_way graph other same few bytes answer again is some also o
 pub same_arrows_have_one_text : SameArrowsHaveOneText
 same_arrows_have_one_text graph other same bytes is = canonical_other graph other same bytes is
 
-module _ (graph other : Graph) (same : HaveSameArrows graph other) (lines : List Line) (is : IsProofOf graph lines) where
+module _ (graph other : Graph) (same : HaveSameArrows graph other) (lines : List Line)
+    (is : IsProofOf graph lines) where
   -- a line is whole by both
   whole_line : (line : Line) → IsLineOf graph line →
       is_whole_line graph.ragged (Some line) ≡ is_whole_line other.ragged (Some line)

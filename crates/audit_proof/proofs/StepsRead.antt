@@ -23,7 +23,8 @@ module _ {graph : Graph} {entry : ℕ} {words : List ℕ} {steps : List ProofSte
     where
       by : (low : Bool) → nat_lt step.ancestor graph.count ≡ low →
           step_tests graph reached bound step ≡ step_fits graph (line_with entry steps) step
-      by true low = rw (reading.bounded step.ancestor (ltb-true step.ancestor graph.count low), reading.shows step.via) refl
+      by true low =
+          rw (reading.bounded step.ancestor (ltb-true step.ancestor graph.count low), reading.shows step.via) refl
       by false over = rw over refl
 
   -- a step that fits is within the table
@@ -33,7 +34,8 @@ module _ {graph : Graph} {entry : ℕ} {words : List ℕ} {steps : List ProofSte
       omega (arith, low, reading.each)
 
   module _ (end : ℕ) {word : List ℕ} (starts : at < length words) (order : (at + 1 ≤ end) × (end ≤ length words))
-      (is : word ≡ take (end - (at + 1)) (drop (at + 1) words)) (whole : HasNo 32 (take (end - (at + 1)) (drop (at + 1) words)))
+      (is : word ≡ take (end - (at + 1)) (drop (at + 1) words))
+      (whole : HasNo 32 (take (end - (at + 1)) (drop (at + 1) words)))
       (next : Follows 32 (drop end words)) where
     -- this word is the next
     next_word : steps_read graph (line_with entry []) (spaced words)
@@ -74,7 +76,8 @@ module _ {graph : Graph} {entry : ℕ} {words : List ℕ} {steps : List ProofSte
             bounded = λ x inside.
                 list_all-append (λ earlier. nat_lt x earlier.ancestor) steps (step ∷ [])
                 ∙ same_test _ _ (λ e. (and_parts (nat_lt x step.ancestor) true (and_parts _ _ e).1).0)
-                (λ e. and_from _ _ (reading.bounded x inside ∙ lt-ltb x bound (omega (arith, ltb-true x step.ancestor e, under)))
+                (λ e. and_from _ _
+                (reading.bounded x inside ∙ lt-ltb x bound (omega (arith, ltb-true x step.ancestor e, under)))
                 (and_from (nat_lt x step.ancestor) true e refl));
             below = all_from_places (λ (s : ProofStep). s.ancestor < entry) (steps ++ step ∷ []) (λ k s there.
                 elim (push_cases steps step k s there) [
@@ -124,7 +127,8 @@ module _ {graph : Graph} {entry : ℕ} {words : List ℕ} {steps : List ProofSte
     | inl same ↦
         ap (λ (z : ℕ). get_or (slice_set reached entry false) z false) same
         ∙ get_or-set_same reached entry false false (subst (λ (n : ℕ). entry < n) (sym reading.each) inside)
-        ∙ same_test false (list_any (λ z. z == x) (listed_in steps)) (λ e. cc) (λ e. absurd (apart same (found (listed_in steps) x e)))
+        ∙ same_test false (list_any (λ z. z == x) (listed_in steps)) (λ e. cc)
+        (λ e. absurd (apart same (found (listed_in steps) x e)))
     | inr other ↦
         get_or-set_other reached entry x false false other ∙ reading.shows x
         ∙ ap (λ (b : Bool). b || list_any (λ z. z == x) (listed_in steps)) (ne_eqb x entry other)
@@ -140,4 +144,5 @@ module _ {graph : Graph} {entry : ℕ} {words : List ℕ} {steps : List ProofSte
   -- after the last word all are read
   pub words_end : length words ≤ at →
       steps_read graph (line_with entry []) (spaced words) ≡ Ok (line_with entry steps)
-  words_end over = reading.goes_on ∙ ap (λ (xs : List ℕ). steps_read graph (line_with entry steps) (spaced xs)) (drop_all at words over)
+  words_end over = reading.goes_on
+      ∙ ap (λ (xs : List ℕ). steps_read graph (line_with entry steps) (spaced xs)) (drop_all at words over)

@@ -21,7 +21,8 @@ on_line line x e = elim (or_cases (x == line.entry) (list_any (λ z. z == x) (li
 ]
 
 pub is_on : (line : Line) (x : ℕ) → IsOnLine line x → is_on_line line x ≡ true
-is_on line x (inl same) = ap (λ (b : Bool). b || list_any (λ z. z == x) (listed_in line.steps)) (eq-eqb x line.entry same)
+is_on line x (inl same) =
+    ap (λ (b : Bool). b || list_any (λ z. z == x) (listed_in line.steps)) (eq-eqb x line.entry same)
 is_on line x (inr c) = either (x == line.entry) (find_in (listed_in line.steps) x c)
   where
     either : (a : Bool) → list_any (λ z. z == x) (listed_in line.steps) ≡ true →
@@ -51,7 +52,8 @@ closed_said graph line e =
       | inl same ↦
           parents_listed graph line line.entry own p (subst (λ (z : ℕ). Contains (graph.parents z) p) same c)
       | inr listed ↦
-          parents_listed graph line x (list_all_each (lists_parents graph line) (listed_in line.steps) each x listed) p c
+          parents_listed graph line x
+          (list_all_each (lists_parents graph line) (listed_in line.steps) each x listed) p c
     ]
 
 pub closed_back : (graph : Graph) (line : Line) → LacksNoParent graph line → lacks_no_parent graph line ≡ true

@@ -75,8 +75,10 @@ AreSmallLines (l ∷ ls) = IsSmallLine l × AreSmallLines ls
 -- one step's word has no other byte than digits and the colon
 pub step_has_no : (s : ℕ) (step : ProofStep) → IsSmallStep step → s < 48 → HasNo s (step_word step)
 step_has_no s step small low =
-    has_no_both s (decimal step.ancestor) (58 ∷ decimal step.via) (decimal_has_no s step.ancestor (omega (arith, small.0)) low)
-    (has_no_more s 58 (decimal step.via) (λ e. absurd (omega (arith, low, e))) (decimal_has_no s step.via (omega (arith, small.1)) low))
+    has_no_both s (decimal step.ancestor) (58 ∷ decimal step.via)
+    (decimal_has_no s step.ancestor (omega (arith, small.0)) low)
+    (has_no_more s 58 (decimal step.via) (λ e. absurd (omega (arith, low, e)))
+    (decimal_has_no s step.via (omega (arith, small.1)) low))
 
 -- steps are followed by a space, or by nothing
 pub steps_follow : (ss : List ProofStep) → Follows 32 (flat_map step_text ss)

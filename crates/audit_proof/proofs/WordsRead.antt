@@ -36,7 +36,8 @@ module _ (word : List ℕ) (colon : ℕ) (within : colon ≤ length word) (befor
       by : (first : Option ℕ) → first ≡ number_in (take colon word) → step_of_word word ≡ Err Form
       by None is = step_by None _ is refl
       by (Some a) is =
-          step_by (Some a) None is (sym no_number ∙ ap number_in (sym (drop_all (colon + 1) word (omega (arith, over)))))
+          step_by (Some a) None is
+          (sym no_number ∙ ap number_in (sym (drop_all (colon + 1) word (omega (arith, over)))))
 
 module _ (first line : List ℕ) (space : ℕ) (within : space ≤ length line) (before : HasNo 32 (take space line))
     (at : Follows 32 (drop space line)) where

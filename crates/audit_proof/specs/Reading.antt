@@ -125,7 +125,8 @@ lists_parents graph line x =
 
 -- whether it lists the parents of its entry and of all that it lists
 abbrev pub lacks_no_parent : Graph → Line → Bool
-lacks_no_parent graph line = lists_parents graph line line.entry && list_all (lists_parents graph line) (listed_in line.steps)
+lacks_no_parent graph line =
+    lists_parents graph line line.entry && list_all (lists_parents graph line) (listed_in line.steps)
 
 -- the end of a line: nothing is missing
 unfoldable pub end_read : Graph → Bool → Line → ProofRead Line

@@ -76,7 +76,8 @@ fn finish<A: Arrows>(
     requires begun { IsBegun (A.graph graph.now) (line_with entry read.steps.items) }
     requires each { length read.listed.items ≡ (A.graph graph.now).count }
     requires table { IsListedTable read.steps.items read.listed.items }
-    ensures { Told (end_read (A.graph graph.now) is_ended (line_with entry read.steps.items)) result }
+    ensures { Told (end_read (A.graph graph.now) is_ended (line_with entry read.steps.items))
+        result }
 {
     if !is_ended {
         return Err(Unread::Why(ProofWhy::Form));

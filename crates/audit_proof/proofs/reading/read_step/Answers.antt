@@ -17,10 +17,12 @@ pub returns-in-None-decimal : goal.returns-in-None-decimal
 returns-in-None-decimal c =
     sym (step_by c.args.word.now c.find_byte-colon.result c.find_byte-colon.ensures.within
     c.find_byte-colon.ensures.before c.find_byte-colon.ensures.at _ _
-    (c.in-Some.ensures.value ∙ ap number_in c.front.ensures) (c.in-None-decimal.ensures.value ∙ ap number_in c.after.ensures))
+    (c.in-Some.ensures.value ∙ ap number_in c.front.ensures)
+    (c.in-None-decimal.ensures.value ∙ ap number_in c.after.ensures))
 
 pub returns-in-Some-decimal : goal.returns-in-Some-decimal
 returns-in-Some-decimal c =
     sym (step_by c.args.word.now c.find_byte-colon.result c.find_byte-colon.ensures.within
     c.find_byte-colon.ensures.before c.find_byte-colon.ensures.at _ _
-    (c.in-Some.ensures.value ∙ ap number_in c.front.ensures) (c.in-Some-decimal.ensures.value ∙ ap number_in c.after.ensures))
+    (c.in-Some.ensures.value ∙ ap number_in c.front.ensures)
+    (c.in-Some-decimal.ensures.value ∙ ap number_in c.after.ensures))

@@ -22,7 +22,8 @@ returns-in-Err g c =
 
 pub index_mut-requires-in-words : goal.index_mut-requires-in-words
 index_mut-requires-in-words g c =
-    let low = fits_below c.words.invariant c.in-Some.step (tried _ _ _ _ _ _ c.deref.ensures.value c.in-Ok.ensures.is) in
+    let low =
+    fits_below c.words.invariant c.in-Some.step (tried _ _ _ _ _ _ c.deref.ensures.value c.in-Ok.ensures.is) in
     let size = ap (λ (bs : List Bool). length bs) c.deref.ensures.value in
     omega (arith, low, size, c.deref.ensures.len)
 
