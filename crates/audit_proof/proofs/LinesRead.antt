@@ -107,6 +107,7 @@ closed_by graph entry steps listed table =
     (all_same (lists_parents graph (line_with entry steps)) (λ y. closed_at listed (graph.parents y)) (listed_in steps)
     (λ y c. one y))
   where
+    -- of one survivor
     one : (x : ℕ) → lists_parents graph (line_with entry steps) x ≡ closed_at listed (graph.parents x)
     one x =
         all_same (λ parent. list_any (λ z. z == parent) (listed_in steps)) (λ number. get_or listed number false)
@@ -176,9 +177,8 @@ module _ {graph : Graph} {bytes : List ℕ} {start : ℕ} {lines : List Line} {l
     (inside : at < length bytes) {piece : List ℕ} (taken : piece ≡ take (found.end - at) (drop at bytes)) where
   -- this line is the next
   next_line : (read : ProofRead Line) → past_read graph (nat_le least) (text_line piece found.is_ended) ≡ read →
-      lines_read graph [] (lines_in (drop start bytes))
-      ≡
-      (at_number (length lines + 3) read >>= λ line. lines_read graph (lines ++ line ∷ []) (lines_in (drop found.next bytes)))
+      lines_read graph [] (lines_in (drop start bytes)) ≡ (at_number (length lines + 3) read
+      >>= λ line. lines_read graph (lines ++ line ∷ []) (lines_in (drop found.next bytes)))
   next_line read e =
       reading.goes_on ∙ ap (lines_read graph lines) (is.is inside)
       ∙ ap (λ (r : ProofRead Line). at_number (length lines + 3) r
@@ -218,11 +218,12 @@ read_rises graph least next line e = leb-true least line.entry (past_said graph 
 
 -- ---- the entire text
 
--- nothing is none of the first two lines
+-- nothing has not the form of the first line
 no_form : form_read (text_line [] false) ≡ Err Form
 unfolding form_read
 no_form = refl
 
+-- and not of the second
 no_count : (count : ℕ) → count_read count (text_line [] false) ≡ Err Form
 unfolding count_read
 no_count count = refl
