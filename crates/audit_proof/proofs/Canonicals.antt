@@ -1,19 +1,17 @@
 -- A graph has one canonical proof.
-use Rattle.audit_proof.proofs.Imports.{◌≡◌, ℕ, zero, suc, ◌<◌, ◌≤◌, List, [], ◌∷◌, ◌++◌, refl, sym, ap, ◌∙◌, subst}
-use Rattle.audit_proof.proofs.Imports.{inl, inr, arith, length, Some, slice_get, Ok, Err, Contains, flat_map, IsWalk}
-use Rattle.audit_proof.proofs.Imports.{Contains-none, Contains-head, Contains-later, Contains-cons_cases}
-use Rattle.audit_proof.proofs.Imports.{Contains-map, Contains-map_cases, all_at, place_of, element_at, member_at}
-use Rattle.audit_proof.proofs.Imports.{Graph, ProofStep, Line, listed_in, IsOnLine, IsLineOf, HasEachLine, At}
-use Rattle.audit_proof.proofs.Imports.{line_text, head_text, proof_text, IsTextFor, WrittenProofsSayAll, IsGreatest}
-use Rattle.audit_proof.proofs.Imports.{IsCanonicalProof, OneTextIsCanonical, Falls}
-use Rattle.std.proofs.Common.{append-nil}
 use Rattle.audit_proof.specs.declared.fault.ProofFault.TheVariants.{Memory}
-use Rattle.audit_proof.proofs.Ancestries.{listed_ancestor, ancestor_listed}
+use Rattle.audit_proof.proofs.Imports.{At, Contains, Contains-cons_cases, Contains-head, Contains-later, Contains-map}
+use Rattle.audit_proof.proofs.Imports.{Contains-map_cases, Contains-none, Err, Falls, Graph, HasEachLine}
+use Rattle.audit_proof.proofs.Imports.{IsCanonicalProof, IsGreatest, IsLineOf, IsOnLine, IsTextFor, IsWalk, Line}
+use Rattle.audit_proof.proofs.Imports.{List, Ok, OneTextIsCanonical, ProofStep, Some, WrittenProofsSayAll, [], all_at}
+use Rattle.audit_proof.proofs.Imports.{ap, arith, element_at, head_text, inl, inr, length, listed_in, member_at}
+use Rattle.audit_proof.proofs.Imports.{place_of, proof_text, refl, slice_get, subst, suc, sym, zero, ℕ, ◌++◌}
+use Rattle.audit_proof.proofs.Imports.{◌<◌, ◌∙◌, ◌∷◌, ◌≡◌}
+use Rattle.audit_proof.proofs.Ancestries.{ancestor_listed, listed_ancestor}
 use Rattle.audit_proof.proofs.Listings.{pair_at}
-use Rattle.audit_proof.proofs.LongerLines.{reached_on_line}
-use Rattle.audit_proof.proofs.Texts.{prefix_lines}
-use Rattle.audit_proof.proofs.TextFacts.{same_rest, proof_small}
 use Rattle.audit_proof.proofs.Trusted.{full_proofs_say_all}
+use Rattle.audit_proof.proofs.LongerLines.{reached_on_line}
+use Rattle.audit_proof.proofs.ReadTexts.{one_proof, read_as}
 use Rattle.audit_proof.proofs.Writing.{writing_none, writing_rest}
 
 -- lists of one length that agree place by place are one
@@ -155,21 +153,6 @@ one_text_is_canonical graph descends = (
       text_x ∙ ap (proof_text graph.count) (same_canonical graph xs ys is_x is_y) ∙ sym text_y,
 )
 
--- steps without a line's text are none
-no_lines : (ls : List Line) → flat_map line_text ls ≡ [] → ls ≡ []
-no_lines [] is = refl
-no_lines (l ∷ ls) is = cc
-
--- a text is of one proof
-pub one_proof : (graph : Graph) → graph.count ≤ 16384 → (bytes : List ℕ) (xs ys : List Line) →
-    IsTextFor graph bytes xs → IsTextFor graph bytes ys → xs ≡ ys
-one_proof graph few bytes xs ys of_x of_y =
-    let rest : flat_map line_text xs ≡ flat_map line_text ys =
-    same_rest (head_text graph.count) (flat_map line_text xs) (flat_map line_text ys) (sym of_x.0 ∙ of_y.0) in
-    let (more, are, left) = prefix_lines ys xs [] (proof_small graph few ys of_y.1) (proof_small graph few xs of_x.1)
-    (rest ∙ sym (append-nil (flat_map line_text ys))) in
-    are ∙ ap (λ (ls : List Line). ys ++ ls) (no_lines more left) ∙ append-nil ys
-
 -- what is written is read, and says all
 pub written_proofs_say_all : WrittenProofsSayAll
 written_proofs_say_all rows graph bytes (Ok lines) size few descends (made, is, text) answer there =
@@ -182,5 +165,5 @@ written_proofs_say_all rows graph bytes (Ok lines) size few descends (made, is, 
           (subst (HasEachLine graph) (sym same) (canonical_full graph made is)),
     )
 written_proofs_say_all rows graph bytes (Err (At line why)) size few descends (made, is, text) answer there =
-    absurd (answer.1 made (text, is.proof))
+    let read = sym answer ∙ read_as graph few bytes (Ok made) (text, is.proof) (λ e. cc) in cc
 written_proofs_say_all rows graph bytes (Err Memory) size few descends canonical answer there = absurd (there refl)

@@ -1,6 +1,6 @@
 -- A rule has the same value by a table of a proof's lines.
 use Rattle.std.proofs.Common.{Bool}
-use Rattle.audit_proof.proofs.Imports.{◌≡◌, ℕ, ◌<◌, List, length, get_or, sym, ap, ◌∙◌, subst, Option, Some, slice_get}
+use Rattle.audit_proof.proofs.Imports.{◌≡◌, ℕ, ◌<◌, List, length, get_or, ap, ◌∙◌, subst, Option, Some, slice_get}
 use Rattle.audit_proof.proofs.Imports.{slice_get-get_or, Graph, Trees, first_value, values, Row, Kind, has_kind, unbound}
 use Rattle.audit_proof.proofs.Imports.{same_values, Listing, Line, own_line, before_on, before_by, whole_by, three_by}
 use Rattle.audit_proof.proofs.Imports.{IsListingOf, listing_before, listing_whole}

@@ -1,432 +1,267 @@
--- A line's words, read one by one.
-use Rattle.std.proofs.Common.{Bool, false}
-use Rattle.audit_proof.proofs.Imports.{◌≡◌, ℕ, zero, suc, ◌+◌, ◌-◌, ◌<◌, ◌≤◌, ◌^◌, true, List, [], ◌∷◌, ◌++◌, refl}
-use Rattle.audit_proof.proofs.Imports.{sym, ap, ◌∙◌, subst, inl, inr, arith, take, drop, length, get_or, Some}
-use Rattle.audit_proof.proofs.Imports.{append_assoc, slice_get, slice_set, ◌⊎◌, ◌==◌, Err, Contains, flat_map}
-use Rattle.audit_proof.proofs.Imports.{list_any, cases_eq, cases_lt, false≢true, eqb-true, eq-eqb, take-append-drop}
-use Rattle.audit_proof.proofs.Imports.{drop_more, drop-drop, length-set, get_or-set_same, get_or-set_other}
-use Rattle.audit_proof.proofs.Imports.{get_or_past, flat_map-append, all_pairs_push, slice_get-get_or}
-use Rattle.audit_proof.proofs.Imports.{slice_get_within, Contains-map_cases, list_any_some, list_any_of, place_of}
-use Rattle.audit_proof.proofs.Imports.{last_at, all_at, all_from_places, IsFirstOf, Graph, ProofStep, ProofWhy, Form}
-use Rattle.audit_proof.proofs.Imports.{OutOfRange, NotFalling, NotReached, NotParent, Line, listed_in, IsOnLine}
-use Rattle.audit_proof.proofs.Imports.{IsReached, IsBegun, IsLineOf, step_word, step_text, ProofCauses, SaysStep}
-use Rattle.audit_proof.proofs.Imports.{ancestor_causes, HasNo, Follows, IsWordStep, GoesOn, IsReading, IsNextWord}
-use Rattle.audit_proof.proofs.Imports.{IsListedTable, step_tests, line_with, IsWordFault}
-use Rattle.std.proofs.Common.{append-nil}
-use Rattle.std.specs.Prelude.{All}
-use Rattle.audit_proof.proofs.LongerLines.{step_on_line, reached_on_line, on_more, listed_new, more_on, reach_more}
-use Rattle.audit_proof.proofs.LongerLines.{reach_new}
-use Rattle.audit_proof.proofs.LongerLines.{push_places}
-use Rattle.audit_proof.proofs.FirstFaults.{NoneApplies, same_first, part_before, says_step, said_step}
-use Rattle.audit_proof.proofs.Listings.{pair_at}
+-- The lines of a text, read by their places.
+use Rattle.audit_proof.specs.declared.fault.ProofFault.TheVariants.{Memory as OutOfMemory}
+use Rattle.audit_proof.specs.declared.reading.Unread.TheVariants.{Why, Memory}
+use Rattle.audit_proof.proofs.Imports.{At, Bool, Err, Follows, Form, Graph, HasNo, IsBegun, IsLineAt, IsListedTable}
+use Rattle.audit_proof.proofs.Imports.{IsReadAnswer, IsReadingLines, IsWordsAnswer, Line, LineAt, List, NotRising, Ok}
+use Rattle.audit_proof.proofs.Imports.{OutOfRange, ProofFault, ProofRead, ProofStep, Result, TextLine, Told, Unread}
+use Rattle.audit_proof.proofs.Imports.{[], after_line, and_from, and_parts, ap, append-nil, arith, at_number}
+use Rattle.audit_proof.proofs.Imports.{cases_lt, closed_at, codes, count_read, drop, drop-drop, drop_all, drop_more}
+use Rattle.audit_proof.proofs.Imports.{end_read, false, false_from_ne_true, fault_of, form_read, get_or, inl, inr}
+use Rattle.audit_proof.proofs.Imports.{is_above, lacks_no_parent, le-leb, leb-true, length, length-drop}
+use Rattle.audit_proof.proofs.Imports.{line_of_entry, line_with, lines_in, lines_read, list_all, list_all-append}
+use Rattle.audit_proof.proofs.Imports.{list_any, listed_in, lists_parents, lt-ltb, ltb-true, nat_le, nat_lt}
+use Rattle.audit_proof.proofs.Imports.{number_after, past_read, proof_of, refl, spaced, steps_read, subst, suc, sym}
+use Rattle.audit_proof.proofs.Imports.{take, take-append-drop, text_line, true, words_on, zero, ℕ, ◌&&◌, ◌++◌, ◌+◌}
+use Rattle.audit_proof.proofs.Imports.{◌-◌, ◌<◌, ◌==◌, ◌>>=◌, ◌∙◌, ◌∷◌, ◌≡◌, ◌≢◌, ◌≤◌}
 use Rattle.audit_proof.proofs.Ancestries.{same_test}
-use Rattle.audit_proof.proofs.Texts.{AreSmall, prefix_steps, same_word, step_has_no}
+use Rattle.audit_proof.proofs.Parts.{lines_at, lines_last}
+use Rattle.audit_proof.proofs.Tests.{all_same}
+use Rattle.audit_proof.proofs.ReadSaid.{begun_none, past_said, steps_said}
+use Rattle.audit_proof.proofs.ReadTexts.{text_said}
 
--- what is at a place of the first of two lists is there in both together
-pub at_front : (xs ys : List ProofStep) (k : ℕ) (x : ProofStep) → slice_get xs k ≡ Some x →
-    slice_get (xs ++ ys) k ≡ Some x
-at_front [] ys k x at = cc
-at_front (y ∷ xs) ys zero x at = at
-at_front (y ∷ xs) ys (suc k) x at = at_front xs ys k x at
+-- ---- one line
 
--- what is in two lists together before the first one's end is in the first
-pub in_front : (xs ys : List ProofStep) (k : ℕ) (x : ProofStep) → k < length xs → slice_get (xs ++ ys) k ≡ Some x →
-    slice_get xs k ≡ Some x
-in_front [] ys k x low at = absurd (omega (arith, low))
-in_front (y ∷ xs) ys zero x low at = at
-in_front (y ∷ xs) ys (suc k) x low at = in_front xs ys k x (omega (arith, low)) at
+module _ (bytes : List ℕ) (start end : ℕ) (order : start ≤ end) (within : end ≤ length bytes)
+    (whole : HasNo 10 (take (end - start) (drop start bytes))) (next : Follows 10 (drop end bytes)) where
+  -- what is left is the line and what follows it
+  left_is : drop start bytes ≡ take (end - start) (drop start bytes) ++ drop end bytes
+  left_is =
+      let sum : start + (end - start) ≡ end = omega (arith, order) in
+      sym (take-append-drop (end - start) (drop start bytes))
+      ∙ ap (λ (xs : List ℕ). take (end - start) (drop start bytes) ++ xs)
+      (drop-drop (end - start) start bytes ∙ ap (λ (n : ℕ). drop n bytes) sum)
 
--- the first element of the second list comes right after the first list
-pub at_seam : (xs ys : List ProofStep) (x : ProofStep) → slice_get (xs ++ x ∷ ys) (length xs) ≡ Some x
-at_seam [] ys x = refl
-at_seam (y ∷ xs) ys x = at_seam xs ys x
+  -- a line that a newline ends
+  pub line_ended : (ended : Bool) → ended ≡ true → end < length bytes →
+      IsLineAt bytes start (record { end = end; is_ended = ended; next = end + 1 })
+  line_ended ended is inside = record {
+    order = order;
+    within = omega arith;
+    inside = omega (arith, inside);
+    on = λ _. omega (arith, order);
+    past = λ over. absurd (omega (arith, over, order, inside));
+    is = λ _.
+        let front = drop_more bytes end 0 inside in
+        let byte : get_or bytes end 0 ≡ 10 = subst (Follows 10) front next in
+        ap lines_in (left_is ∙ ap (λ (xs : List ℕ). take (end - start) (drop start bytes) ++ xs)
+        (front ∙ ap (λ (b : ℕ). b ∷ drop (end + 1) bytes) byte))
+        ∙ lines_at (take (end - start) (drop start bytes)) (drop (end + 1) bytes) whole
+        ∙ ap (λ (b : Bool). text_line (take (end - start) (drop start bytes)) b ∷ lines_in (drop (end + 1) bytes))
+        (sym is);
+  }
 
--- steps whose numbers are all below some are small
-pub small_steps : (n : ℕ) → n < 2 ^ 64 → (ss : List ProofStep) →
-    ((k : ℕ) (s : ProofStep) → slice_get ss k ≡ Some s → (s.ancestor < n) × (s.via < n)) → AreSmall ss
-small_steps n few [] each = tt
-small_steps n few (s ∷ ss) each =
-    let here = each zero s refl in
-    ((omega (arith, here.0, few), omega (arith, here.1, few)), small_steps n few ss (λ k t at. each (suc k) t at))
-
--- where a step goes on no test applies
-pub tests_fail : (graph : Graph) (reached : List Bool) (bound : ℕ) (step : ProofStep) →
-    GoesOn graph reached bound step → NoneApplies (step_tests graph reached bound step)
-tests_fail graph reached bound step good = (
-  λ over. elim over [
-    | inl high ↦ let low = good.ancestor in omega (arith, high, low)
-    | inr high ↦ let low = good.via in omega (arith, high, low)
-  ],
-  (
-    λ high. let low = good.falls in omega (arith, high, low),
-    (λ lost. false≢true (sym lost ∙ good.met), (λ apart. apart good.arrow, tt)),
-  ),
-)
-
--- a word that is taken up to the next space
-pub next_word : (words : List ℕ) (at end : ℕ) (word : List ℕ) → at < length words →
-    (at + 1 ≤ end) × (end ≤ length words) → word ≡ take (end - (at + 1)) (drop (at + 1) words) →
-    HasNo 32 (take (end - (at + 1)) (drop (at + 1) words)) → Follows 32 (drop end words) → IsNextWord words at end word
-next_word words at end word starts within is none follows = record {
-  starts = starts;
-  order = omega (arith, within.0);
-  within = within.1;
-  is = is;
-  whole = subst (HasNo 32) (sym is) none;
-  next = follows;
-}
-
-module _ (graph : Graph) (few : graph.count ≤ 16384) (entry : ℕ) where
-  -- the steps of a line that has begun are small
-  pub begun_small : (steps : List ProofStep) → IsBegun graph (line_with entry steps) → AreSmall steps
-  begun_small steps begun =
-      small_steps graph.count (omega (arith, few)) steps
-      (λ k s at. (
-        begun.inside s.ancestor (step_on_line (line_with entry steps) k s at),
-        begun.inside s.via (reached_on_line (line_with entry steps) k s.via (begun.reached k s at)),
-      ))
-
-  -- a complete line has begun
-  pub line_begun : (steps : List ProofStep) → IsLineOf graph (line_with entry steps) →
-      IsBegun graph (line_with entry steps)
-  line_begun steps is = is.begun
-
-  module _ (words : List ℕ) (steps : List ProofStep) (reached : List Bool) (bound at : ℕ)
-      (reading : IsReading graph entry words steps reached bound at) (end : ℕ) (word : List ℕ)
-      (next : IsNextWord words at end word) where
-    -- what is left is a space, the word, and what follows it
-    left_is : drop at words ≡ 32 ∷ (word ++ drop end words)
-    left_is =
-        let front = drop_more words at 0 next.starts in
-        let byte : get_or words at 0 ≡ 32 = subst (Follows 32) front reading.follows in
-        let sum : (at + 1) + (end - (at + 1)) ≡ end = omega (arith, next.order) in
-        let rest : drop (at + 1) words ≡ word ++ drop end words =
-        sym (take-append-drop (end - (at + 1)) (drop (at + 1) words))
-        ∙ ap (λ (xs : List ℕ). xs ++ drop (end - (at + 1)) (drop (at + 1) words)) (sym next.is)
-        ∙ ap (λ (xs : List ℕ). word ++ xs) (drop-drop (end - (at + 1)) (at + 1) words
-        ∙ ap (λ (n : ℕ). drop n words) sum) in
-        front ∙ ap (λ (b : ℕ). b ∷ drop (at + 1) words) byte ∙ ap (λ (xs : List ℕ). 32 ∷ xs) rest
-
-    -- each line of these words goes on with a step of this word
-    pub goes_on : (all : List ProofStep) → words ≡ flat_map step_text all → IsLineOf graph (line_with entry all) →
-        (step : ProofStep) × IsWordStep step × (word ≡ step_word step) × GoesOn graph reached bound step
-    goes_on all is line =
-        let small = begun_small all (line_begun all line) in
-        let (more, are, text) = prefix_steps steps all (drop at words)
-        (begun_small steps reading.begun) small reading.follows
-        (sym is ∙ reading.text) in
-        by more are (text ∙ left_is) small
-      where
-        -- by cases: the steps that follow
-        by : (more : List ProofStep) → all ≡ steps ++ more → flat_map step_text more ≡ 32 ∷ (word ++ drop end words) →
-            AreSmall all →
-            (step : ProofStep) × IsWordStep step × (word ≡ step_word step) × GoesOn graph reached bound step
-        by [] are text small = cc
-        by (step ∷ later) are text small =
-            let at_step : slice_get all (length steps) ≡ Some step =
-            ap (λ (ss : List ProofStep). slice_get ss (length steps)) are ∙ at_seam steps later step in
-            let via_met = line.begun.reached (length steps) step at_step in
-            let a_inside : step.ancestor < graph.count =
-            line.begun.inside step.ancestor (step_on_line (line_with entry all) (length steps) step at_step) in
-            let v_inside : step.via < graph.count =
-            line.begun.inside step.via (reached_on_line (line_with entry all) (length steps) step.via via_met) in
-            let tail : step_word step ++ flat_map step_text later ≡ word ++ drop end words = cc in
-            let (same, _) = same_word 32 (step_word step) word (flat_map step_text later) (drop end words)
-            (step_has_no 32 step (omega (arith, a_inside, few), omega (arith, v_inside, few)) (omega arith)) next.whole
-            (follow later) next.next tail in (
-              step,
-              (omega (arith, a_inside, few), omega (arith, v_inside, few)),
-              sym same,
-              record {
-                ancestor = a_inside;
-                via = v_inside;
-                falls = below step later are at_step a_inside reading.bounded.stands;
-                met = met step later are via_met v_inside;
-                arrow = line.begun.arrows (length steps) step at_step;
-              },
-            )
-          where
-            follow : (ss : List ProofStep) → Follows 32 (flat_map step_text ss)
-            follow [] = tt
-            follow (s ∷ ss) = refl
-
-            below : (step : ProofStep) (later : List ProofStep) → all ≡ steps ++ step ∷ later →
-                slice_get all (length steps) ≡ Some step → step.ancestor < graph.count →
-                ((bound ≡ graph.count) ⊎ ((k : ℕ) × (s : ProofStep) × (slice_get steps k ≡ Some s) ×
-                (s.ancestor ≡ bound))) →
-                step.ancestor < bound
-            below step later are at_step inside (inl same) = omega (arith, inside, same)
-            below step later are at_step inside (inr (k, s, at_k, same)) =
-                let less = pair_at (λ (a b : ProofStep). b.ancestor < a.ancestor) all k
-                (length steps) s step line.begun.falls
-                (slice_get_within steps k s at_k)
-                (subst (λ (ss : List ProofStep). slice_get ss k ≡ Some s) (sym are) (at_front steps
-                (step ∷ later) k s at_k))
-                at_step in
-                omega (arith, less, same)
-
-            met : (step : ProofStep) (later : List ProofStep) → all ≡ steps ++ step ∷ later →
-                IsReached (line_with entry all) (length steps) step.via → step.via < graph.count →
-                get_or reached step.via false ≡ true
-            met step later are (inl same) inside = reading.table.shows step.via inside (inl same)
-            met step later are (inr (j, earlier, low, there, same)) inside =
-                reading.table.shows step.via inside
-                (subst (IsOnLine (line_with entry steps)) same
-                (step_on_line (line_with entry steps) j earlier
-                (in_front steps (step ∷ later) j earlier low
-                (subst (λ (ss : List ProofStep). slice_get ss j ≡ Some earlier) are there))))
-
-    -- the first cause of this word is the fault of the words
-    pub word_fault : (why : ProofWhy) → IsFirstOf (ancestor_causes graph (line_with entry steps) word) (Err why) →
-        IsWordFault graph entry words why
-    word_fault why first = (
-      steps,
-      word ++ drop end words,
-      reading.text ∙ ap (λ (xs : List ℕ). flat_map step_text steps ++ xs) left_is,
-      reading.begun,
-      subst (λ (xs : List ℕ). IsFirstOf (ancestor_causes graph (line_with entry steps) xs) (Err why))
-          (sym (part_before 32 word (drop end words) next.whole next.next)) first,
-    )
-
-    -- a word that is no step is of no form
-    pub form_fault : ((step : ProofStep) → IsWordStep step × (word ≡ step_word step) → ⊥) →
-        IsWordFault graph entry words Form
-    form_fault none =
-        word_fault Form (inl (λ says. none says.0 ((says.1, says.2), says.3), refl))
-
-    -- a step's first cause by the tables is that of its word
-    pub step_fault : (step : ProofStep) → IsWordStep step → word ≡ step_word step → (why : ProofWhy) →
-        IsFirstOf (step_tests graph reached bound step) (Err why) → IsWordFault graph entry words why
-    step_fault step small is why first =
-        word_fault why (inr (
-          λ lacks. lacks (says_step (λ s. Unit {0}) word step small is tt),
-          same_first (step_tests graph reached bound step) causes (
-            refl,
-            over_says,
-            says_over,
-            λ inside. (
-              refl,
-              high_says (in_range inside).0,
-              says_high,
-              λ _. (
-                refl,
-                lost_says (in_range inside).1,
-                says_lost (in_range inside).1,
-                λ _. (refl, apart_says, says_apart, λ _. tt),
-              ),
-            ),
-          )
-              (Err why) first,
-        ))
-      where
-        line : Line
-        line = line_with entry steps
-
-        InRange : ProofStep → Type 0
-        InRange s = (s.ancestor < graph.count) × (s.via < graph.count)
-
-        IsBelow : ProofStep → Type 0
-        IsBelow s = All (λ earlier. s.ancestor < earlier.ancestor) steps
-
-        Meets : ProofStep → Type 0
-        Meets s = IsOnLine line s.via
-
-        HasArrow : ProofStep → Type 0
-        HasArrow s = Contains (graph.parents s.via) s.ancestor
-
-        causes : ProofCauses
-        causes =
-            (¬ SaysStep InRange word, OutOfRange) ∷ (¬ SaysStep IsBelow word, NotFalling)
-            ∷ (¬ SaysStep Meets word, NotReached) ∷ (¬ SaysStep HasArrow word, NotParent) ∷ []
-
-        IsOver : Type 0
-        IsOver = (graph.count ≤ step.ancestor) ⊎ (graph.count ≤ step.via)
-
-        in_range : (IsOver → ⊥) → InRange step
-        in_range inside = elim (cases_lt step.ancestor graph.count) [
-          | inl low ↦ elim (cases_lt step.via graph.count) [
-            | inl low_via ↦ (low, low_via)
-            | inr over ↦ absurd (inside (inr over))
-          ]
-          | inr over ↦ absurd (inside (inl over))
-        ]
-
-        over_says : IsOver → ¬ SaysStep InRange word
-        over_says over says =
-            let inside = said_step InRange word step small is says in
-            elim over [ inl high ↦ omega (arith, high, inside.0) | inr high ↦ omega (arith, high, inside.1) ]
-
-        says_over : ¬ SaysStep InRange word → IsOver
-        says_over lacks = elim (cases_lt step.ancestor graph.count) [
-          | inl low ↦ elim (cases_lt step.via graph.count) [
-            | inl low_via ↦ absurd (lacks (says_step InRange word step small is (low, low_via)))
-            | inr over ↦ inr over
-          ]
-          | inr over ↦ inl over
-        ]
-
-        high_says : step.ancestor < graph.count → bound ≤ step.ancestor → ¬ SaysStep IsBelow word
-        high_says low high says = elim reading.bounded.stands [
-          | inl same ↦ omega (arith, low, high, same)
-          | inr (k, last, at_k, same) ↦
-              let under = all_at (λ (earlier : ProofStep). step.ancestor < earlier.ancestor) steps k last
-              (said_step IsBelow word step small is says) at_k in
-              omega (arith, under, high, same)
-        ]
-
-        says_high : ¬ SaysStep IsBelow word → bound ≤ step.ancestor
-        says_high lacks = elim (cases_lt step.ancestor bound) [
-          | inl low ↦
-              absurd (lacks (says_step IsBelow word step small is
-              (all_from_places (λ (earlier : ProofStep). step.ancestor < earlier.ancestor) steps
-              (λ k earlier at_k. let least = reading.bounded.least k earlier at_k in omega (arith, low, least)))))
-          | inr high ↦ high
-        ]
-
-        lost_says : step.via < graph.count → get_or reached step.via false ≡ false → ¬ SaysStep Meets word
-        lost_says inside lost says =
-            let shown = reading.table.shows step.via inside (said_step Meets word step small is says) in
-            false≢true (sym lost ∙ shown)
-
-        says_lost : step.via < graph.count → ¬ SaysStep Meets word → get_or reached step.via false ≡ false
-        says_lost inside lacks = by (get_or reached step.via false) refl
-          where
-            by : (b : Bool) → get_or reached step.via false ≡ b → b ≡ false
-            by false shown = refl
-            by true shown =
-                absurd (lacks (says_step Meets word step small is (reading.table.shown step.via inside shown)))
-
-        apart_says : ¬ HasArrow step → ¬ SaysStep HasArrow word
-        apart_says none says = none (said_step HasArrow word step small is says)
-
-        says_apart : ¬ SaysStep HasArrow word → ¬ HasArrow step
-        says_apart lacks arrow = lacks (says_step HasArrow word step small is arrow)
-
-    module _ (step : ProofStep) (is_word : word ≡ step_word step) (good : GoesOn graph reached bound step)
-        (lower : step.ancestor < step.via) where
-      -- with the step more is read
-      pub reading_more : IsReading graph entry words (steps ++ step ∷ []) (slice_set reached step.ancestor true)
-          step.ancestor end
-      reading_more = record {
-        within = next.within;
-        text =
-            reading.text ∙ ap (λ (xs : List ℕ). flat_map step_text steps ++ xs) (left_is
-            ∙ ap (λ (xs : List ℕ). 32 ∷ (xs ++ drop end words)) is_word)
-            ∙ sym (append_assoc (flat_map step_text steps) (step_text step) (drop end words))
-            ∙ ap (λ (xs : List ℕ). (flat_map step_text steps ++ xs) ++ drop end words) (sym (append-nil
-            (step_text step)))
-            ∙ ap (λ (xs : List ℕ). xs ++ drop end words) (sym (flat_map-append step_text steps (step ∷ [])));
-        follows = next.next;
-        begun = record {
-          inside = λ x on. elim (on_more entry steps step x on) [
-            | inl old ↦ reading.begun.inside x old
-            | inr new ↦ subst (λ (z : ℕ). z < graph.count) new good.ancestor
-          ];
-          falls = all_pairs_push (λ (a b : ProofStep). b.ancestor < a.ancestor) steps step reading.begun.falls
-              (λ k d low. let least = reading.bounded.least k (get_or steps k d) (slice_get-get_or steps k d low) in
-              omega (arith, least, good.falls));
-          reached = λ k s there. elim (push_places steps step k s there) [
-            | inl old ↦ reach_more entry steps step k s.via (reading.begun.reached k s old)
-            | inr new ↦
-                subst (λ (t : ProofStep). IsReached (line_with entry (steps ++ step ∷ [])) k t.via) new.1
-                (subst (λ (n : ℕ). IsReached (line_with entry (steps ++ step ∷ [])) n step.via) (sym new.0)
-                (reach_new entry steps step step.via (reading.table.shown step.via good.via good.met)))
-          ];
-          arrows = λ k s there. elim (push_places steps step k s there) [
-            | inl old ↦ reading.begun.arrows k s old
-            | inr new ↦ subst (λ (t : ProofStep). Contains (graph.parents t.via) t.ancestor) new.1 good.arrow
-          ];
-        };
-        table = record {
-          each = length-set reached step.ancestor true ∙ reading.table.each;
-          shown = λ x inside t. elim (cases_eq x step.ancestor) [
-            | inl same ↦ subst (IsOnLine (line_with entry (steps ++ step ∷ []))) (sym same) (inr
-                (listed_new entry steps step))
-            | inr apart ↦
-                more_on entry steps step x (reading.table.shown x inside
-                (sym (get_or-set_other reached step.ancestor x true false apart) ∙ t))
-          ];
-          shows = λ x inside on. elim (cases_eq x step.ancestor) [
-            | inl same ↦
-                ap (λ (z : ℕ). get_or (slice_set reached step.ancestor true) z false) same
-                ∙ get_or-set_same reached step.ancestor true false
-                (subst (λ (n : ℕ). step.ancestor < n) (sym reading.table.each) good.ancestor)
-            | inr apart ↦
-                elim (on_more entry steps step x on) [
-                  | inl old ↦
-                      get_or-set_other reached step.ancestor x true false apart ∙ reading.table.shows x inside old
-                  | inr new ↦ absurd (apart (sym new))
-                ]
-          ];
-        };
-        below = λ k s there. elim (push_places steps step k s there) [
-          | inl old ↦ reading.below k s old
-          | inr new ↦
-              subst (λ (t : ProofStep). t.ancestor < entry) new.1
-              (elim (reading.table.shown step.via good.via good.met) [
-                | inl same ↦ omega (arith, lower, same)
-                | inr c ↦
-                    let (earlier, among, same) = Contains-map_cases (λ (t : ProofStep). t.ancestor) steps step.via c in
-                    let (j, at_j) = place_of steps earlier among in
-                    let under = reading.below j earlier at_j in
-                    omega (arith, lower, same, under)
-              ])
-        ];
-        bounded = record {
-          least = λ k s there. elim (push_places steps step k s there) [
-            | inl old ↦ let least = reading.bounded.least k s old in omega (arith, least, good.falls)
-            | inr new ↦ subst (λ (t : ProofStep). step.ancestor ≤ t.ancestor) new.1 (omega arith)
-          ];
-          stands = inr (length steps, step, last_at steps step, refl);
-        };
+  -- a line that the text ends
+  pub line_cut : (ended : Bool) → ended ≡ false → length bytes ≤ end →
+      IsLineAt bytes start (record { end = end; is_ended = ended; next = end })
+  line_cut ended is over =
+      let none : drop end bytes ≡ [] = drop_all end bytes over in
+      record {
+        order = order;
+        within = omega arith;
+        inside = within;
+        on = λ inside. omega (arith, inside, over);
+        past = λ past. (omega (arith, past, order, within), is);
+        is = λ inside.
+            let all = left_is ∙ ap (λ (xs : List ℕ). take (end - start) (drop start bytes) ++ xs) none
+            ∙ append-nil (take (end - start) (drop start bytes)) in
+            let size = ap (λ (xs : List ℕ). length xs) (sym all) ∙ length-drop start bytes in
+            ap lines_in all
+            ∙ lines_last (take (end - start) (drop start bytes)) whole (omega (arith, size, inside))
+            ∙ ap (λ (b : Bool). text_line (take (end - start) (drop start bytes)) b ∷ []) (sym is)
+            ∙ ap (λ (xs : List ℕ). text_line (take (end - start) (drop start bytes)) ended ∷ lines_in xs) (sym none);
       }
 
--- without the entry the table of what is reached shows what is listed
-pub listed_table : (graph : Graph) (entry : ℕ) (words : List ℕ) (steps : List ProofStep) (reached : List Bool)
-    (bound at : ℕ) → IsReading graph entry words steps reached bound at → entry < graph.count →
-    IsListedTable steps (slice_set reached entry false)
-listed_table graph entry words steps reached bound at reading inside x =
-    elim (cases_eq x entry) [
-      | inl same ↦
-          ap (λ (z : ℕ). get_or (slice_set reached entry false) z false) same
-          ∙ get_or-set_same reached entry false false
-          (subst (λ (n : ℕ). entry < n) (sym reading.table.each) inside)
-          ∙ sym (unlisted (list_any (λ z. z == x) (listed_in steps)) refl (λ found.
-          let (k, step, at_k, same_x) = found_step found in let under = reading.below k step at_k in
-          omega (arith, under, same_x, same)))
-      | inr apart ↦
-          get_or-set_other reached entry x false false apart
-          ∙ same_test (get_or reached x false) (list_any (λ z. z == x) (listed_in steps)) (to apart) from
-    ]
+-- one of the first two lines, by its place: no line is as little one as a line of nothing
+pub first_line : (bytes : List ℕ) (start : ℕ) (at : LineAt) → IsLineAt bytes start at →
+    (read : TextLine → ProofRead (Unit {0})) → read (text_line [] false) ≡ Err Form →
+    after_line read (lines_in (drop start bytes))
+    ≡ (read (text_line (take (at.end - start) (drop start bytes)) at.is_ended)
+    >>= λ it. Ok (lines_in (drop at.next bytes)))
+first_line bytes start at is read nothing = elim (cases_lt start (length bytes)) [
+  | inl inside ↦ ap (after_line read) (is.is inside)
+  | inr over ↦
+      let none : drop start bytes ≡ [] = drop_all start bytes over in
+      let (same, open_end) = is.past over in
+      let empty : take (at.end - start) (drop start bytes) ≡ [] =
+      ap (take (at.end - start)) none ∙ take-nil (at.end - start) in
+      ap (λ (xs : List ℕ). after_line read (lines_in xs)) none
+      ∙ sym (ap (λ (xs : List ℕ). read (text_line xs at.is_ended) >>= λ it. Ok (lines_in (drop at.next bytes))) empty
+      ∙ ap (λ (b : Bool). read (text_line [] b) >>= λ it. Ok (lines_in (drop at.next bytes))) open_end
+      ∙ ap (λ (r : ProofRead (Unit {0})). r >>= λ it. Ok (lines_in (drop at.next bytes))) nothing)
+]
   where
-    -- a test that can't be true is false
-    unlisted : (b : Bool) → list_any (λ z. z == x) (listed_in steps) ≡ b → (b ≡ true → ⊥) → b ≡ false
-    unlisted false is none = refl
-    unlisted true is none = absurd (none refl)
+    -- of nothing nothing is taken
+    take-nil : (n : ℕ) → take {A = ℕ} n [] ≡ []
+    take-nil zero = refl
+    take-nil (suc n) = refl
 
-    -- the step that lists x
-    found_step : list_any (λ z. z == x) (listed_in steps) ≡ true →
-        (k : ℕ) × (step : ProofStep) × (slice_get steps k ≡ Some step) × (step.ancestor ≡ x)
-    found_step found =
-        let (z, c, test) = list_any_some (λ z. z == x) (listed_in steps) found in
-        let (step, among, same) = Contains-map_cases (λ (t : ProofStep). t.ancestor) steps z c in
-        let (k, at_k) = place_of steps step among in
-        (k, step, at_k, same ∙ eqb-true z x test)
+-- ---- the end of a line
 
-    listed : Contains (listed_in steps) x → list_any (λ z. z == x) (listed_in steps) ≡ true
-    listed c = list_any_of (λ z. z == x) (listed_in steps) x c (eq-eqb x x refl)
+-- a table of what is listed shows whether a parent is missing
+pub closed_by : (graph : Graph) (entry : ℕ) (steps : List ProofStep) (listed : List Bool) → IsListedTable steps listed →
+    lacks_no_parent graph (line_with entry steps)
+    ≡ (closed_at listed (graph.parents entry) && list_all (λ y. closed_at listed (graph.parents y)) (listed_in steps))
+closed_by graph entry steps listed table =
+    ap (λ (b : Bool). b && list_all (lists_parents graph (line_with entry steps)) (listed_in steps)) (one entry)
+    ∙ ap (λ (b : Bool). closed_at listed (graph.parents entry) && b)
+    (all_same (lists_parents graph (line_with entry steps)) (λ y. closed_at listed (graph.parents y)) (listed_in steps)
+    (λ y c. one y))
+  where
+    -- of one survivor
+    one : (x : ℕ) → lists_parents graph (line_with entry steps) x ≡ closed_at listed (graph.parents x)
+    one x =
+        all_same (λ parent. list_any (λ z. z == parent) (listed_in steps)) (λ number. get_or listed number false)
+        (graph.parents x) (λ p c. sym (table p))
 
-    to : (x ≡ entry → ⊥) → get_or reached x false ≡ true → list_any (λ z. z == x) (listed_in steps) ≡ true
-    to apart shown = elim (cases_lt x graph.count) [
-      | inl low ↦ elim (reading.table.shown x low shown) [ inl same ↦ absurd (apart same) | inr c ↦ listed c ]
-      | inr over ↦
-          absurd (false≢true
-          (sym (get_or_past reached x false (subst (λ (n : ℕ). n ≤ x) (sym reading.table.each) over)) ∙ shown))
-    ]
+-- ---- the line of an entry
 
-    from : list_any (λ z. z == x) (listed_in steps) ≡ true → get_or reached x false ≡ true
-    from found =
-        let (z, c, test) = list_any_some (λ z. z == x) (listed_in steps) found in
-        let on : IsOnLine (line_with entry steps) x =
-        inr (subst (Contains (listed_in steps)) (eqb-true z x test) c) in
-        reading.table.shows x (reading.begun.inside x on) on
+module _ (graph : Graph) (rises : ℕ → Bool) (ended : Bool) (entry : ℕ) (words : List (List ℕ)) where
+  -- an entry that is no survivor
+  pub out_of_range : graph.count ≤ entry → line_of_entry graph rises ended (entry, words) ≡ Err OutOfRange
+  unfolding line_of_entry
+  out_of_range over =
+      let test : nat_lt entry graph.count ≡ false =
+      false_from_ne_true (nat_lt entry graph.count) (λ low. let less = ltb-true entry graph.count low in
+      omega (arith, less, over)) in
+      rw test refl
+
+  module _ (low : entry < graph.count) where
+    -- one that doesn't rise
+    pub not_rising : rises entry ≡ false → line_of_entry graph rises ended (entry, words) ≡ Err NotRising
+    unfolding line_of_entry
+    not_rising falls = rw (lt-ltb entry graph.count low, falls) refl
+
+    -- one that rises, by what is read of its words
+    pub entry_by : rises entry ≡ true → (read : ProofRead Line) → steps_read graph (line_with entry []) words ≡ read →
+        line_of_entry graph rises ended (entry, words) ≡ (read >>= end_read graph ended)
+    unfolding line_of_entry
+    entry_by above read is = rw (lt-ltb entry graph.count low, above, is) refl
+
+-- a line whose words are read has begun
+pub read_begun : (graph : Graph) (entry : ℕ) (words : List (List ℕ)) (line : Line) →
+    steps_read graph (line_with entry []) words ≡ Ok line → entry < graph.count → IsBegun graph line
+read_begun graph entry words line e low =
+    (steps_said graph (line_with entry []) words line e (begun_none graph entry low)).3
+
+-- a line by its number
+pub past_by : (graph : Graph) (rises : ℕ → Bool) (line : List ℕ) (ended : Bool) (first : List ℕ) →
+    first ≡ codes "past" → (said : ProofRead (ℕ × List (List ℕ))) → number_after first (words_on line) ≡ said →
+    past_read graph rises (text_line line ended) ≡ (said >>= line_of_entry graph rises ended)
+unfolding past_read
+past_by graph rises line ended first same said is =
+    ap (λ (xs : List ℕ). number_after xs (words_on line) >>= line_of_entry graph rises ended) (sym same) ∙ rw is refl
+
+-- what is read of words that are refused
+pub words_refused : (graph : Graph) (rises : ℕ → Bool) (ended : Bool) (entry : ℕ) (bytes : List ℕ) (unread : Unread) →
+    entry < graph.count → rises entry ≡ true → IsWordsAnswer graph entry bytes (Err unread) →
+    Told (line_of_entry graph rises ended (entry, spaced bytes)) (Err unread)
+words_refused graph rises ended entry bytes (Why why) low above is =
+    entry_by graph rises ended entry (spaced bytes) low above (Err why) is
+words_refused graph rises ended entry bytes Memory low above is = tt
+
+-- ---- the lines of survivors
+
+-- a line is read as well where the same entries rise
+rises_same : (graph : Graph) (rises above : ℕ → Bool) → ((x : ℕ) → rises x ≡ above x) → (next : TextLine) →
+    past_read graph rises next ≡ past_read graph above next
+unfolding past_read line_of_entry
+rises_same graph rises above same next = by (number_after (codes "past") (words_on next.bytes))
+  where
+    by : (said : ProofRead (ℕ × List (List ℕ))) →
+        (said >>= line_of_entry graph rises next.is_ended) ≡ (said >>= line_of_entry graph above next.is_ended)
+    by (Ok (entry, words)) = rw (same entry) refl
+    by (Err why) = refl
+
+module _ {graph : Graph} {bytes : List ℕ} {start : ℕ} {lines : List Line} {least at : ℕ}
+    (reading : IsReadingLines graph bytes start lines least at) {found : LineAt} (is : IsLineAt bytes at found)
+    (inside : at < length bytes) {piece : List ℕ} (taken : piece ≡ take (found.end - at) (drop at bytes)) where
+  -- this line is the next
+  next_line : (read : ProofRead Line) → past_read graph (nat_le least) (text_line piece found.is_ended) ≡ read →
+      lines_read graph [] (lines_in (drop start bytes)) ≡ (at_number (length lines + 3) read
+      >>= λ line. lines_read graph (lines ++ line ∷ []) (lines_in (drop found.next bytes)))
+  next_line read e =
+      reading.goes_on ∙ ap (lines_read graph lines) (is.is inside)
+      ∙ ap (λ (r : ProofRead Line). at_number (length lines + 3) r
+      >>= λ line. lines_read graph (lines ++ line ∷ []) (lines_in (drop found.next bytes)))
+      (rises_same graph (is_above lines) (nat_le least) reading.rises
+      (text_line (take (found.end - at) (drop at bytes)) found.is_ended)
+      ∙ ap (λ (xs : List ℕ). past_read graph (nat_le least) (text_line xs found.is_ended)) (sym taken) ∙ e)
+
+  -- it is refused
+  pub line_refused : (unread : Unread) →
+      Told (past_read graph (nat_le least) (text_line piece found.is_ended)) (Err unread) →
+      ◌≢◌ {A = Result (List Line) ProofFault} (Err (fault_of (length lines + 3) unread)) (Err OutOfMemory) →
+      Err (fault_of (length lines + 3) unread) ≡ lines_read graph [] (lines_in (drop start bytes))
+  line_refused (Why why) e some = sym (next_line (Err why) e)
+  line_refused Memory e some = absurd (some refl)
+
+  -- it is read
+  pub lines_more : (line : Line) → past_read graph (nat_le least) (text_line piece found.is_ended) ≡ Ok line →
+      least ≤ line.entry → IsReadingLines graph bytes start (lines ++ line ∷ []) (line.entry + 1) found.next
+  lines_more line e low = record {
+    within = is.inside;
+    goes_on = next_line (Ok line) e;
+    rises = λ x.
+        list_all-append (λ (l : Line). nat_lt l.entry x) lines (line ∷ [])
+        ∙ same_test _ _
+        (λ a. let under = ltb-true line.entry x (and_parts (nat_lt line.entry x) true (and_parts _ _ a).1).0 in
+        le-leb (line.entry + 1) x (omega (arith, under)))
+        (λ a. let over = leb-true (line.entry + 1) x a in
+        and_from _ _ (reading.rises x ∙ le-leb least x (omega (arith, over, low)))
+        (and_from (nat_lt line.entry x) true (lt-ltb line.entry x (omega (arith, over))) refl));
+  }
+
+-- a line that is read rises
+pub read_rises : (graph : Graph) (least : ℕ) (next : TextLine) (line : Line) →
+    past_read graph (nat_le least) next ≡ Ok line → least ≤ line.entry
+read_rises graph least next line e = leb-true least line.entry (past_said graph (nat_le least) next line e).2
+
+-- ---- the entire text
+
+-- nothing has not the form of the first line
+no_form : form_read (text_line [] false) ≡ Err Form
+unfolding form_read
+no_form = refl
+
+-- and not of the second
+no_count : (count : ℕ) → count_read count (text_line [] false) ≡ Err Form
+unfolding count_read
+no_count count = refl
+
+module _ (graph : Graph) {bytes : List ℕ} {first : LineAt} (is_first : IsLineAt bytes 0 first) {line : List ℕ}
+    (is_line : line ≡ take (first.end - 0) bytes) where
+  -- a text by what is read of its first line
+  pub by_form : (form : ProofRead (Unit {0})) → form ≡ form_read (text_line line first.is_ended) → proof_of graph bytes
+      ≡ (at_number 1 (form >>= λ it. Ok (lines_in (drop first.next bytes)))
+      >>= λ second. at_number 2 (after_line (count_read graph.count) second) >>= λ pasts. lines_read graph [] pasts)
+  unfolding proof_of
+  by_form form is =
+      rw (
+        first_line bytes 0 first is_first form_read no_form,
+        ap (λ (xs : List ℕ). form_read (text_line xs first.is_ended)) (sym is_line) ∙ sym is,
+      ) refl
+
+  module _ (form : Ok tt ≡ form_read (text_line line first.is_ended)) {second : LineAt}
+      (is_second : IsLineAt bytes first.next second) {other : List ℕ}
+      (is_other : other ≡ take (second.end - first.next) (drop first.next bytes)) {count : ℕ}
+      (same : count ≡ graph.count) where
+    -- and of its second
+    pub by_count : (head : ProofRead (Unit {0})) → head ≡ count_read count (text_line other second.is_ended) →
+        proof_of graph bytes ≡ (at_number 2 (head >>= λ it. Ok (lines_in (drop second.next bytes)))
+        >>= λ pasts. lines_read graph [] pasts)
+    by_count head is =
+        by_form (Ok tt) form
+        ∙ ap (λ (r : ProofRead (List TextLine)). at_number 2 r >>= λ pasts. lines_read graph [] pasts)
+        (first_line bytes first.next second is_second (count_read graph.count) (no_count graph.count)
+        ∙ ap (λ (xs : List ℕ). count_read graph.count (text_line xs second.is_ended)
+        >>= λ it. Ok (lines_in (drop second.next bytes))) (sym is_other)
+        ∙ ap (λ (n : ℕ). count_read n (text_line other second.is_ended)
+        >>= λ it. Ok (lines_in (drop second.next bytes))) (sym same)
+        ∙ ap (λ (r : ProofRead (Unit {0})). r >>= λ it. Ok (lines_in (drop second.next bytes))) (sym is))
+
+-- the answer to a text is right if it is what the text is read as
+pub answered : (graph : Graph) (bytes : List ℕ) (answer : Result (List Line) ProofFault) →
+    (answer ≢ Err OutOfMemory → answer ≡ proof_of graph bytes) → IsReadAnswer graph bytes answer
+answered graph bytes (Ok lines) is = text_said graph bytes lines (sym (is (λ e. cc)))
+answered graph bytes (Err (At line why)) is = sym (is (λ e. cc))
+answered graph bytes (Err OutOfMemory) is = tt

@@ -2,9 +2,9 @@
 use Rattle.std.proofs.Common.{Bool, false}
 use Rattle.audit_proof.proofs.Imports.{◌≡◌, ◌∙◌, ℕ, zero, suc, ◌+◌, ◌<◌, ◌≤◌, true, cond, List, [], ◌∷◌, ◌++◌, length}
 use Rattle.audit_proof.proofs.Imports.{get_or, take, drop, replicate, refl, sym, ap, subst, inl, inr, Some, ◌||◌}
-use Rattle.audit_proof.proofs.Imports.{arith, ◌-◌, append_assoc, slice_get, slice_set, not, ◌==◌, ◌&&◌, list_any}
+use Rattle.audit_proof.proofs.Imports.{arith, ◌-◌, slice_get, slice_set, not, ◌==◌, ◌&&◌, list_any}
 use Rattle.audit_proof.proofs.Imports.{list_all, drop_more, map-append, get_or-set_other, length-set}
-use Rattle.audit_proof.proofs.Imports.{length-replicate, get_or-replicate, take_more, length-take-le, length-append}
+use Rattle.audit_proof.proofs.Imports.{length-replicate, get_or-replicate, length-append}
 use Rattle.audit_proof.proofs.Imports.{get_or_append_left, get_or-append-add, list_any-append, list_all-append}
 use Rattle.audit_proof.proofs.Imports.{slice_get_within, get_or_from_slice_get, slice_get-get_or, eq-eqb, ne_eqb}
 use Rattle.audit_proof.proofs.Imports.{eqb-true, cases_eq, Contains-map_cases, list_any_some, all_at, place_of}

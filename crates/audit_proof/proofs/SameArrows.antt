@@ -1,27 +1,19 @@
 -- What graphs with the same arrows have in common.
-use Rattle.std.proofs.Common.{Bool}
-use Rattle.audit_proof.proofs.Imports.{◌≡◌, ◌≢◌, ℕ, ◌<◌, ◌≤◌, List, [], ◌∷◌, ◌++◌, refl, sym, ap, ◌∙◌, subst, inl}
-use Rattle.audit_proof.proofs.Imports.{inr, Option, Some, None, ◌&&◌, not, Result, Ok, Err, Contains, list_all}
-use Rattle.audit_proof.proofs.Imports.{Contains-head, Contains-later, all_at, all_from_places, place_of, IsFirstOf}
-use Rattle.audit_proof.proofs.Imports.{Graph, Row, Trees, unbound, first_value, same_values, ProofWhy, ProofFault, At}
-use Rattle.audit_proof.proofs.Imports.{Line, listed_in, LacksNoParent, IsBegun, IsLineOf, IsProofOf, proof_text}
-use Rattle.audit_proof.proofs.Imports.{own_line, is_whole_line, before_on, before_by, whole_by, three_by, word_in}
-use Rattle.audit_proof.proofs.Imports.{count_causes, past_causes, ancestor_causes, end_causes, IsLineFault}
-use Rattle.audit_proof.proofs.Imports.{IsFirstFault, IsTextFor, IsReadAnswer, IsGreatest, IsCanonicalProof}
-use Rattle.audit_proof.proofs.Imports.{IsCanonicalText, HaveSameArrows, TextsAreReadInOneWay, SameArrowsHaveOneText}
-use Rattle.audit_proof.proofs.Imports.{SameArrowsGiveOneValue}
-use Rattle.audit_proof.specs.declared.fault.ProofFault.TheVariants.{Memory}
-use Rattle.audit_proof.proofs.FirstFaults.{same_first}
-use Rattle.audit_proof.proofs.OneReading.{one_reading}
+use Rattle.audit_proof.proofs.Imports.{Bool, Err, Graph, HaveSameArrows, IsBegun, IsCanonicalText, IsGreatest}
+use Rattle.audit_proof.proofs.Imports.{IsLineOf, IsProofOf, LacksNoParent, Line, List, None, NotRising, Ok, Option}
+use Rattle.audit_proof.proofs.Imports.{OutOfRange, ProofFault, ProofRead, ProofStep, Result, SameArrowsGiveOneValue}
+use Rattle.audit_proof.proofs.Imports.{SameArrowsHaveOneText, Some, TextLine, TextsAreReadInOneWay, [], after_line}
+use Rattle.audit_proof.proofs.Imports.{all_at, all_from_places, ap, at_number, before_by, before_on, codes}
+use Rattle.audit_proof.proofs.Imports.{count_read, end_read, first_value, form_read, inl, inr, is_above}
+use Rattle.audit_proof.proofs.Imports.{is_whole_line, lacks_no_parent, length, line_of_entry, line_with, lines_in}
+use Rattle.audit_proof.proofs.Imports.{lines_read, list_all, list_any, listed_in, nat_lt, need, not, number_after}
+use Rattle.audit_proof.proofs.Imports.{own_line, past_read, place_of, proof_of, proof_text, refl, same_values}
+use Rattle.audit_proof.proofs.Imports.{step_fits, step_of_word, steps_read, subst, sym, unbound, whole_by, with_step}
+use Rattle.audit_proof.proofs.Imports.{words_on, ℕ, ◌&&◌, ◌++◌, ◌+◌, ◌<◌, ◌==◌, ◌>>=◌, ◌∙◌, ◌∷◌, ◌≡◌, ◌≤◌}
+use Rattle.audit_proof.proofs.Ancestries.{same_test}
 use Rattle.audit_proof.proofs.Trusted.{line_found}
-
--- the other way round
-same_back : (graph other : Graph) → HaveSameArrows graph other → HaveSameArrows other graph
-same_back graph other same = record {
-  count = sym same.count;
-  parents = λ x p. ((same.parents x p).1, (same.parents x p).0);
-  ragged = λ x l. sym (same.ragged x (subst (λ (n : ℕ). x < n) (sym same.count) l));
-}
+use Rattle.audit_proof.proofs.Tests.{all_same, closed_back, closed_said, find_in, found}
+use Rattle.audit_proof.proofs.ReadTexts.{read_as}
 
 module _ (graph other : Graph) (same : HaveSameArrows graph other) where
   -- a line of the one is one of the other, as far as it goes
@@ -48,13 +40,6 @@ module _ (graph other : Graph) (same : HaveSameArrows graph other) where
         (λ k line at. line_other line (all_at (IsLineOf graph) lines k line is.each at));
   }
 
-  -- and its text
-  text_other : (bytes : List ℕ) (lines : List Line) → IsTextFor graph bytes lines → IsTextFor other bytes lines
-  text_other bytes lines (text, is) = (
-    subst (λ (n : ℕ). bytes ≡ proof_text n lines) same.count text,
-    proof_other lines is,
-  )
-
   -- the greatest vias are the greatest
   greatest_other : (line : Line) → IsGreatest graph line → IsGreatest other line
   greatest_other line greatest k step at v on c = greatest k step at v on ((same.parents v step.ancestor).1 c)
@@ -73,173 +58,108 @@ module _ (graph other : Graph) (same : HaveSameArrows graph other) where
     subst (λ (n : ℕ). bytes ≡ proof_text n lines) same.count text,
   )
 
-  -- a line's beginning has the same first cause
-  past_other : (Rises : ℕ → Type 0) (line : List ℕ) (why : ProofWhy) →
-      IsFirstOf (past_causes graph Rises line) (Err why) → IsFirstOf (past_causes other Rises line) (Err why)
-  past_other Rises line why first =
-      same_first (past_causes graph Rises line) (past_causes other Rises line) (
-        refl,
-        λ f. f,
-        λ f. f,
-        λ _. (
-          refl,
-          λ f. f,
-          λ f. f,
-          λ _. (
-            refl,
-            λ lacks says. lacks (says.0, says.1, says.2, subst (λ (n : ℕ). says.0 < n) (sym same.count) says.3),
-            λ lacks says. lacks (says.0, says.1, says.2, subst (λ (n : ℕ). says.0 < n) same.count says.3),
-            λ _. (refl, λ f. f, λ f. f, λ _. tt),
-          ),
-        ),
-      ) (Err why) first
+  -- the entries that name an ancestor
+  arrow_same : (via ancestor : ℕ) →
+      list_any (λ p. p == ancestor) (graph.parents via) ≡ list_any (λ p. p == ancestor) (other.parents via)
+  arrow_same via ancestor =
+      same_test (list_any (λ p. p == ancestor) (graph.parents via)) (list_any (λ p. p == ancestor) (other.parents via))
+      (λ e. find_in (other.parents via) ancestor ((same.parents via ancestor).0 (found (graph.parents via) ancestor e)))
+      (λ e. find_in (graph.parents via) ancestor ((same.parents via ancestor).1 (found (other.parents via) ancestor e)))
 
-  -- so has a word
-  word_other : (begun : Line) (word : List ℕ) (why : ProofWhy) →
-      IsFirstOf (ancestor_causes graph begun word) (Err why) → IsFirstOf (ancestor_causes other begun word) (Err why)
-  word_other begun word why first =
-      same_first (ancestor_causes graph begun word) (ancestor_causes other begun word) (
-        refl,
-        λ f. f,
-        λ f. f,
-        λ _. (
-          refl,
-          λ lacks says. lacks (
-            says.0,
-            says.1,
-            says.2,
-            says.3,
-            (
-              subst (λ (n : ℕ). says.0.ancestor < n) (sym same.count) says.4.0,
-              subst (λ (n : ℕ). says.0.via < n) (sym same.count) says.4.1,
-            ),
-          ),
-          λ lacks says. lacks (
-            says.0,
-            says.1,
-            says.2,
-            says.3,
-            (
-              subst (λ (n : ℕ). says.0.ancestor < n) same.count says.4.0,
-              subst (λ (n : ℕ). says.0.via < n) same.count says.4.1,
-            ),
-          ),
-          λ _. (
-            refl,
-            λ f. f,
-            λ f. f,
-            λ _. (
-              refl,
-              λ f. f,
-              λ f. f,
-              λ _. (
-                refl,
-                λ lacks says. lacks (
-                  says.0,
-                  says.1,
-                  says.2,
-                  says.3,
-                  (same.parents says.0.via says.0.ancestor).1 says.4,
-                ),
-                λ lacks says. lacks (
-                  says.0,
-                  says.1,
-                  says.2,
-                  says.3,
-                  (same.parents says.0.via says.0.ancestor).0 says.4,
-                ),
-                λ _. tt,
-              ),
-            ),
-          ),
-        ),
-      ) (Err why) first
+  -- so the same steps fit
+  fits_same : (line : Line) (step : ProofStep) → step_fits graph line step ≡ step_fits other line step
+  unfolding step_fits
+  fits_same line step = rw (same.count, arrow_same step.via step.ancestor) refl
 
-  -- a line's end is refused by both for the same cause, where what is missing in the other is
-  -- missing in the one
-  end_other : (begun : Line) (IsEnded : Type 0) (why : ProofWhy) →
-      (LacksNoParent other begun → LacksNoParent graph begun) →
-      IsFirstOf (end_causes graph begun IsEnded) (Err why) → IsFirstOf (end_causes other begun IsEnded) (Err why)
-  end_other begun IsEnded why back first =
-      same_first (end_causes graph begun IsEnded) (end_causes other begun IsEnded) (
-        refl,
-        λ f. f,
-        λ f. f,
-        λ _. (
-          refl,
-          λ lacks closed. lacks (back closed),
-          λ lacks closed. lacks (closed_other begun closed),
-          λ _. tt,
-        ),
-      ) (Err why) first
+  -- and the same words are read
+  steps_same : (line : Line) (words : List (List ℕ)) → steps_read graph line words ≡ steps_read other line words
+  steps_same line [] = refl
+  steps_same line (word ∷ words) = by (λ step. steps_same (with_step line step) words) (step_of_word word)
+    where
+      by : ((step : ProofStep) →
+          steps_read graph (with_step line step) words ≡ steps_read other (with_step line step) words) →
+          (read : ProofRead ProofStep) →
+          (read >>= λ step. step_fits graph line step >>= λ it. steps_read graph (with_step line step) words)
+          ≡ (read >>= λ step. step_fits other line step >>= λ it. steps_read other (with_step line step) words)
+      by later (Ok step) = rw (fits_same line step, later step) refl
+      by later (Err why) = refl
 
-  -- so the line has the same fault
-  line_fault_other : (Rises : ℕ → Type 0) (line : List ℕ) (IsEnded : Type 0) (why : ProofWhy) →
-      IsLineFault graph Rises line IsEnded why → IsLineFault other Rises line IsEnded why
-  line_fault_other Rises line IsEnded why (inl first) = inl (past_other Rises line why first)
-  line_fault_other Rises line IsEnded why (inr (begun, is, rises, inl (more, text, first))) =
-      inr (begun, begun_other begun is, rises, inl (more, text, word_other begun (word_in more) why first))
-  line_fault_other Rises line IsEnded why (inr (begun, is, rises, inr (text, first))) =
-      inr (
-        begun,
-        begun_other begun is,
-        rises,
-        inr (
-          text,
-          end_other begun IsEnded why (λ closed x p on c. closed x p on ((same.parents x p).0 c)) first,
-        ),
-      )
+  -- the same lines are closed
+  closed_same : (line : Line) → lacks_no_parent graph line ≡ lacks_no_parent other line
+  closed_same line =
+      same_test (lacks_no_parent graph line) (lacks_no_parent other line)
+      (λ e. closed_back other line (closed_other line (closed_said graph line e)))
+      (λ e. closed_back graph line (λ x p on c. closed_said other line e x p on ((same.parents x p).0 c)))
 
-  -- and the text
-  fault_other : (bytes : List ℕ) (n : ℕ) (why : ProofWhy) → IsFirstFault graph bytes n why →
-      IsFirstFault other bytes n why
-  fault_other bytes n why (inl first) = inl first
-  fault_other bytes n why (inr (inl (at, rest, text, first))) =
-      inr (inl (
-        at,
-        rest,
-        text,
-        subst (λ (m : ℕ). IsFirstOf (count_causes m rest) (Err why)) same.count first,
-      ))
-  fault_other bytes n why (inr (inr (lines, rest, at, text, is, some, fault))) =
-      inr (inr (
-        lines,
-        rest,
-        at,
-        subst (λ (m : ℕ). bytes ≡ proof_text m lines ++ rest) same.count text,
-        proof_other lines is,
-        some,
-        line_fault_other _ _ _ why fault,
-      ))
+  -- so the same lines are read
+  past_same : (rises : ℕ → Bool) (next : TextLine) → past_read graph rises next ≡ past_read other rises next
+  unfolding past_read line_of_entry end_read
+  past_same rises next = by (number_after (codes "past") (words_on next.bytes))
+    where
+      by : (said : ProofRead (ℕ × List (List ℕ))) →
+          (said >>= line_of_entry graph rises next.is_ended) ≡ (said >>= line_of_entry other rises next.is_ended)
+      by (Err why) = refl
+      by (Ok (entry, words)) =
+          ap (λ (n : ℕ). need (nat_lt entry n) OutOfRange >>= λ survivor. need (rises entry) NotRising
+          >>= λ above. steps_read graph (line_with entry []) words >>= end_read graph next.is_ended) same.count
+          ∙ rw (steps_same (line_with entry []) words) (ends (steps_read other (line_with entry []) words))
+        where
+          ends : (read : ProofRead Line) →
+              (need (nat_lt entry other.count) OutOfRange >>= λ survivor. need (rises entry) NotRising
+              >>= λ above. read >>= end_read graph next.is_ended)
+              ≡ (need (nat_lt entry other.count) OutOfRange >>= λ survivor. need (rises entry) NotRising
+              >>= λ above. read >>= end_read other next.is_ended)
+          ends (Ok line) = rw (closed_same line) refl
+          ends (Err why) = refl
 
--- what is answered of a text for the one graph is right for the other
-answer_other : (graph other : Graph) → HaveSameArrows graph other → (bytes : List ℕ)
-    (answer : Result (List Line) ProofFault) → IsReadAnswer graph bytes answer → IsReadAnswer other bytes answer
-answer_other graph other same bytes (Ok lines) is = text_other graph other same bytes lines is
-answer_other graph other same bytes (Err (At n why)) (fault, none) = (
-  fault_other graph other same bytes n why fault,
-  λ lines is. none lines (text_other other graph (same_back graph other same) bytes lines is),
-)
-answer_other graph other same bytes (Err Memory) is = tt
+  pasts_same : (lines : List Line) (next : List TextLine) → lines_read graph lines next ≡ lines_read other lines next
+  pasts_same lines [] = refl
+  pasts_same lines (first ∷ next) =
+      rw (past_same (is_above lines) first)
+      (by (λ line. pasts_same (lines ++ line ∷ []) next)
+      (at_number (length lines + 3) (past_read other (is_above lines) first)))
+    where
+      by : ((line : Line) →
+          lines_read graph (lines ++ line ∷ []) next ≡ lines_read other (lines ++ line ∷ []) next) →
+          (read : Result Line ProofFault) →
+          (read >>= λ line. lines_read graph (lines ++ line ∷ []) next)
+          ≡ (read >>= λ line. lines_read other (lines ++ line ∷ []) next)
+      by later (Ok line) = later line
+      by later (Err fault) = refl
+
+  -- so a text is read as the same
+  proof_same : (bytes : List ℕ) → proof_of graph bytes ≡ proof_of other bytes
+  unfolding proof_of
+  proof_same bytes =
+      ap (λ (n : ℕ). at_number 1 (after_line form_read (lines_in bytes)) >>= λ second.
+      at_number 2 (after_line (count_read n) second) >>= λ next. lines_read graph [] next) same.count
+      ∙ by (at_number 1 (after_line form_read (lines_in bytes)))
+    where
+      pasts : (read : Result (List TextLine) ProofFault) →
+          (read >>= λ next. lines_read graph [] next) ≡ (read >>= λ next. lines_read other [] next)
+      pasts (Ok next) = pasts_same [] next
+      pasts (Err fault) = refl
+
+      by : (read : Result (List TextLine) ProofFault) →
+          (read >>= λ second. at_number 2 (after_line (count_read other.count) second)
+          >>= λ next. lines_read graph [] next)
+          ≡ (read >>= λ second. at_number 2 (after_line (count_read other.count) second)
+          >>= λ next. lines_read other [] next)
+      by (Ok second) = pasts (at_number 2 (after_line (count_read other.count) second))
+      by (Err fault) = refl
 
 -- a text has one reading for all graphs with the same arrows
 pub texts_are_read_in_one_way : TextsAreReadInOneWay
 texts_are_read_in_one_way graph other same few bytes answer again is some also others =
-    one_reading graph few bytes answer again is some
-    (answer_other other graph (same_back graph other same) bytes again also) others
+    sym (read_as graph few bytes answer is some) ∙ proof_same graph other same bytes
+    ∙ read_as other (subst (λ (n : ℕ). n ≤ 16384) same.count few) bytes again also others
 
 -- the graphs have one canonical text
 pub same_arrows_have_one_text : SameArrowsHaveOneText
 same_arrows_have_one_text graph other same bytes is = canonical_other graph other same bytes is
 
--- tests that agree on each member agree on the list
-all_same : (p q : ℕ → Bool) (xs : List ℕ) → ((x : ℕ) → Contains xs x → p x ≡ q x) → list_all p xs ≡ list_all q xs
-all_same p q [] each = refl
-all_same p q (x ∷ xs) each =
-    ap (λ (b : Bool). b && list_all p xs) (each x (Contains-head x xs))
-    ∙ ap (λ (b : Bool). q x && b) (all_same p q xs (λ y c. each y (Contains-later x xs y c)))
-
-module _ (graph other : Graph) (same : HaveSameArrows graph other) (lines : List Line) (is : IsProofOf graph lines) where
+module _ (graph other : Graph) (same : HaveSameArrows graph other) (lines : List Line)
+    (is : IsProofOf graph lines) where
   -- a line is whole by both
   whole_line : (line : Line) → IsLineOf graph line →
       is_whole_line graph.ragged (Some line) ≡ is_whole_line other.ragged (Some line)

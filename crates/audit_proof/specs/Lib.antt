@@ -3,7 +3,7 @@ pub mod Lines
 pub mod ProofText
 pub mod KnownBy
 pub mod Answers
-pub mod Faults
+pub mod Reading
 pub mod Reads
 pub mod Canonical
 pub mod Proves

@@ -7,6 +7,7 @@ ghost use Rattle.audit_proof.specs.OneReading.{
   SameArrowsHaveOneText,
   TextsAreReadInOneWay,
 };
+ghost use Rattle.audit_proof.specs.Reads.{TextsOfProofsAreRead};
 ghost use Rattle.audit_proof.specs.Trust.{
   FullProofsSayAll,
   LinesListAncestors,
@@ -28,6 +29,12 @@ pub fn proofs_say_no_more()
 /// Every graph has one canonical text, which `prove` writes where it isn't too long.
 pub fn one_text_is_canonical()
     ensures { OneTextIsCanonical }
+{}
+
+/// A text is read as a proof exactly if it is the text of that proof: its head, and a line for each
+/// of the proof's.
+pub fn texts_of_proofs_are_read()
+    ensures { TextsOfProofsAreRead }
 {}
 
 /// Of a text there is one answer, also for another graph with the same arrows, which has the same

@@ -22,7 +22,7 @@ pub use by_proof::check;
 pub use fault::{CheckFault, ProofFault, ProofWhy, Verdict};
 pub use laws::{
     one_text_is_canonical, proofs_are_read_in_one_way, proofs_are_right, proofs_say_no_more,
-    written_proofs_say_all,
+    texts_of_proofs_are_read, written_proofs_say_all,
 };
 pub use line::ProofLine;
 pub use proof::Proof;

@@ -1,22 +1,22 @@
 //! Reading the lines of a proof's text.
-ghost use Rattle.std.specs.Prelude.{◌≡◌, ◌<◌, ◌≤◌, ◌↔◌, IsTrue, length, codes, All, IfSome};
+ghost use Rattle.std.specs.Prelude.{◌≡◌, ◌<◌, ◌≤◌, nat_le, length, drop, codes, All};
 ghost use Rattle.std.specs.List.{list_all};
 ghost use Rattle.audit_proof.specs.Lines.{IsBegun, listed_in};
-ghost use Rattle.audit_proof.specs.inside.Begun.{IsListedTable};
-ghost use Rattle.audit_proof.specs.inside.Closed.{closed_at};
-ghost use Rattle.audit_proof.specs.inside.LineAnswers.{
-  IsEntryOf,
-  IsFinished,
-  IsLineAnswer,
-  IsNoEntry,
+ghost use Rattle.audit_proof.specs.Reading.{end_read, lacks_no_parent, line_of_entry, past_read};
+ghost use Rattle.audit_proof.specs.inside.Begun.{
+  IsListedTable,
+  IsNumbered,
+  Told,
+  line_with,
+  spaced,
+  text_line,
 };
-ghost use Rattle.audit_proof.specs.inside.Unread.{line_with};
+ghost use Rattle.audit_proof.specs.inside.Closed.{closed_at};
 
 use crate::fault::ProofWhy;
 use crate::packed::PackedLine;
-use crate::reading::{LineSteps, Unread, front, piece, read_words, rest_from, word_end};
+use crate::reading::{LineSteps, Numbered, Unread, read_number_after, read_words, rest_from};
 use crate::step::ProofStep;
-use canonical_sexp::number_of;
 use precedence::Arrows;
 use std::alloc::Global;
 
@@ -48,38 +48,21 @@ fn are_closed<A: Arrows>(graph: &A, steps: &[ProofStep], listed: &[bool]) -> boo
     true
 }
 
-/// The entry's number, and where it ends.
-#[derive(Clone, Copy)]
-pub(crate) struct Entry {
-    pub(crate) number: u32,
-    pub(crate) end: usize,
-}
-
-/// Whether the bytes are `past` and a space.
-fn is_past(bytes: &[u8]) -> bool
-    ensures { IsTrue result ↔ (bytes.now ≡ codes "past ") }
+/// Whether no parent is missing on the line of an entry with these steps.
+fn lacks_no_parent<A: Arrows>(graph: &A, entry: usize, steps: &[ProofStep], listed: &[bool]) -> bool
+    requires entry { entry < (A.graph graph.now).count }
+    requires each { length listed.now ≡ (A.graph graph.now).count }
+    requires inside { All (λ step. step.ancestor < (A.graph graph.now).count) steps.now }
+    requires table { IsListedTable steps.now listed.now }
+    ensures { result ≡ lacks_no_parent (A.graph graph.now) (line_with entry steps.now) }
 {
-    bytes == b"past ".as_slice()
+    if !are_listed(graph.parents(entry), listed) {
+        return false;
+    }
+    are_closed(graph, steps, listed)
 }
 
-/// The entry with which the line begins.
-fn read_entry(line: &[u8]) -> Option<Entry>
-    ensures some { IfSome result (IsEntryOf line.now) }
-    ensures none { result ≡ None → IsNoEntry line.now }
-{
-    if line.len() < 5 {
-        return None;
-    }
-    if !is_past(front(line, 5)) {
-        return None;
-    }
-    let end = word_end(line, 5);
-    match number_of(piece(line, 5, end)) {
-        None => None,
-        Some(number) => Some(Entry { number, end }),
-    }
-}
-
+#[tactic(auto, unfolding(crate::specs::Reading::end_read))]
 /// The line of the entry with these steps, if it is ended and no parent is missing.
 fn finish<A: Arrows>(
     alloc: Global,
@@ -93,15 +76,13 @@ fn finish<A: Arrows>(
     requires begun { IsBegun (A.graph graph.now) (line_with entry read.steps.items) }
     requires each { length read.listed.items ≡ (A.graph graph.now).count }
     requires table { IsListedTable read.steps.items read.listed.items }
-    ensures { IsFinished (A.graph graph.now) entry read.steps.items is_ended result }
+    ensures { Told (end_read (A.graph graph.now) is_ended (line_with entry read.steps.items))
+        result }
 {
     if !is_ended {
         return Err(Unread::Why(ProofWhy::Form));
     }
-    if !are_listed(graph.parents(entry as usize), &read.listed) {
-        return Err(Unread::Why(ProofWhy::NotClosed));
-    }
-    if !are_closed(graph, &read.steps, &read.listed) {
+    if !lacks_no_parent(graph, entry as usize, &read.steps, &read.listed) {
         return Err(Unread::Why(ProofWhy::NotClosed));
     }
     Ok(PackedLine::of(alloc, entry, read.steps)?)
@@ -112,13 +93,14 @@ fn read_entry_line<A: Arrows>(
     alloc: Global,
     graph: &A,
     line: &[u8],
-    entry: Entry,
+    entry: Numbered,
     is_ended: bool,
     least: usize,
 ) -> Result<PackedLine, Unread>
     requires few { (A.graph graph.now).count ≤ 16384 }
-    requires entry { IsEntryOf line.now entry }
-    ensures { IsLineAnswer (A.graph graph.now) line.now is_ended least result }
+    requires entry { IsNumbered (codes "past") line.now entry }
+    ensures { Told (line_of_entry (A.graph graph.now) (nat_le least) is_ended
+        (entry.number, spaced (drop entry.end line.now))) result }
 {
     let number = entry.number as usize;
     if number >= graph.count() {
@@ -142,9 +124,10 @@ pub(crate) fn read_line<A: Arrows>(
     least: usize,
 ) -> Result<PackedLine, Unread>
     requires { (A.graph graph.now).count ≤ 16384 }
-    ensures { IsLineAnswer (A.graph graph.now) line.now is_ended least result }
+    ensures { Told (past_read (A.graph graph.now) (nat_le least) (text_line line.now is_ended))
+        result }
 {
-    match read_entry(line) {
+    match read_number_after(line, b"past".as_slice()) {
         None => Err(Unread::Why(ProofWhy::Form)),
         Some(entry) => read_entry_line(alloc, graph, line, entry, is_ended, least),
     }

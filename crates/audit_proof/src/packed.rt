@@ -15,7 +15,7 @@ ghost use Rattle.std.specs.List.{list_all, list_any};
 ghost use Rattle.audit_proof.specs.Lines.{listed_in};
 ghost use Rattle.audit_proof.specs.inside.Falls.{Falls};
 ghost use Rattle.audit_proof.specs.inside.Packing.{unpacked};
-ghost use Rattle.audit_proof.specs.inside.Unread.{line_with};
+ghost use Rattle.audit_proof.specs.inside.Begun.{line_with};
 
 use crate::step::ProofStep;
 use crate::steps::{are_even, is_listed};

@@ -5,24 +5,24 @@ ghost use Rattle.std.specs.Prelude.{
   ◌-◌,
   ◌<◌,
   ◌≤◌,
-  ◌↔◌,
+  ◌==◌,
   length,
   take,
   drop,
-  IsTrue,
+  ok_or,
+  IfSome,
   Ok,
+  Err,
 };
-ghost use Rattle.std.specs.List.{Contains};
-ghost use Rattle.canonical_sexp.specs.Forms.{Finds};
-ghost use Rattle.item_list.specs.Causes.{IsFirstOf};
+ghost use Rattle.std.specs.List.{list_any};
+ghost use Rattle.std.specs.Str.{bytes_eq};
+ghost use Rattle.audit_proof.specs.Reading.{number_after, step_of_word, words_on};
 ghost use Rattle.audit_proof.specs.inside.Bytes.{Follows, HasNo};
-ghost use Rattle.audit_proof.specs.inside.Begun.{GoesOn, IsWordStep, step_tests};
-ghost use Rattle.audit_proof.specs.inside.Unread.{IsWordsAnswer};
-ghost use Rattle.audit_proof.specs.ProofText.{step_word};
+ghost use Rattle.audit_proof.specs.inside.Begun.{IsNumbered, IsWordsAnswer, step_tests};
 
 use crate::fault::ProofWhy;
 use crate::step::ProofStep;
-use canonical_sexp::number_of;
+use hall_text::decimal;
 use precedence::Arrows;
 use std::alloc::{AllocError, AllocFailed, Global};
 
@@ -58,21 +58,22 @@ fn after(word: &[u8], place: usize) -> &[u8]
 
 /// The step that a word is.
 pub(crate) fn read_step(word: &[u8]) -> Option<ProofStep>
-    ensures { Finds (λ step. IsWordStep step × (word.now ≡ step_word step)) result }
+    ensures { ok_or result ProofWhy.Form ≡ step_of_word word.now }
 {
     let colon = find_byte(word, b':');
     if colon == word.len() {
         return None;
     }
-    match number_of(front(word, colon)) {
+    match decimal(front(word, colon)) {
         None => None,
-        Some(ancestor) => match number_of(after(word, colon)) {
+        Some(ancestor) => match decimal(after(word, colon)) {
             None => None,
             Some(via) => Some(ProofStep { ancestor, via }),
         },
     }
 }
 
+#[tactic(auto, unfolding(crate::specs::inside::Begun::step_tests))]
 /// Tries a step on a line of which this is reached, and whose last ancestor is the bound.
 fn try_step<A: Arrows>(
     graph: &A,
@@ -81,8 +82,7 @@ fn try_step<A: Arrows>(
     step: ProofStep,
 ) -> Result<(), ProofWhy>
     requires { length reached.now ≡ (A.graph graph.now).count }
-    ensures first { IsFirstOf (step_tests (A.graph graph.now) reached.now bound step) result }
-    ensures ok { result ≡ Ok tt → GoesOn (A.graph graph.now) reached.now bound step }
+    ensures is { result ≡ step_tests (A.graph graph.now) reached.now bound step }
     ensures below { result ≡ Ok tt → step.ancestor < step.via }
 {
     let ancestor = step.ancestor as usize;
@@ -104,7 +104,7 @@ fn try_step<A: Arrows>(
 
 /// Whether the number is one of these.
 fn has(numbers: &[u32], number: u32) -> bool
-    ensures { IsTrue result ↔ Contains numbers.now number }
+    ensures { result ≡ list_any (λ other. other == number) numbers.now }
 {
     numbers.contains(&number)
 }
@@ -133,6 +133,39 @@ pub(crate) fn piece(words: &[u8], start: usize, end: usize) -> &[u8]
     ensures { result.now ≡ take (end - start) (drop start words.now) }
 {
     &words[start..end]
+}
+
+/// Whether the bytes are this word.
+pub(crate) fn is_word(bytes: &[u8], word: &[u8]) -> bool
+    ensures { result ≡ bytes_eq bytes.now word.now }
+{
+    bytes == word
+}
+
+/// The number after a line's first word, and where it ends.
+#[derive(Clone, Copy)]
+pub(crate) struct Numbered {
+    pub(crate) number: u32,
+    pub(crate) end: usize,
+}
+
+/// The number after the first word of a line, which is to be this.
+pub(crate) fn read_number_after(line: &[u8], first: &[u8]) -> Option<Numbered>
+    ensures some { IfSome result (IsNumbered first.now line.now) }
+    ensures none { result ≡ None → number_after first.now (words_on line.now) ≡ Err ProofWhy.Form }
+{
+    let space = find_byte(line, b' ');
+    if space == line.len() {
+        return None;
+    }
+    if !is_word(front(line, space), first) {
+        return None;
+    }
+    let end = word_end(line, space + 1);
+    match decimal(piece(line, space + 1, end)) {
+        None => None,
+        Some(number) => Some(Numbered { number, end }),
+    }
 }
 
 /// Why words are no line's, or out of memory.

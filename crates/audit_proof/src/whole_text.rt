@@ -1,34 +1,16 @@
 //! Reading the text of a proof.
-ghost use Rattle.std.specs.Prelude.{
-  ◌≡◌,
-  ◌-◌,
-  ◌≤◌,
-  ◌↔◌,
-  ◌++◌,
-  IsTrue,
-  length,
-  take,
-  drop,
-  codes,
-  IfOk,
-  IfErr,
-  Ok,
-  Err,
-};
-ghost use Rattle.std.specs.Fmt.{decimal};
-ghost use Rattle.item_list.specs.Causes.{IsFirstOf};
-ghost use Rattle.audit_proof.specs.ProofText.{form_line, survivors_line, head_text};
-ghost use Rattle.audit_proof.specs.Faults.{form_causes, survivors_causes, count_causes};
+ghost use Rattle.std.specs.Prelude.{◌≡◌, ◌≢◌, ◌-◌, ◌≤◌, [], length, take, drop, Err};
+ghost use Rattle.audit_proof.specs.Reading.{count_read, form_read, lines_in, lines_read, proof_of};
 ghost use Rattle.audit_proof.specs.Reads.{IsReadAnswer};
+ghost use Rattle.audit_proof.specs.inside.Begun.{text_line};
 ghost use Rattle.audit_proof.specs.inside.Bytes.{Follows, HasNo};
-ghost use Rattle.audit_proof.specs.inside.LineAnswers.{fault_of};
+ghost use Rattle.audit_proof.specs.inside.Lists.{IsLineAt, fault_of};
 
 use crate::fault::{ProofFault, ProofWhy};
 use crate::lines::read_line;
 use crate::packed::entry_of;
 use crate::proof::Proof;
-use crate::reading::{Unread, find_byte, front, piece, rest_from};
-use canonical_sexp::number_of;
+use crate::reading::{Unread, find_byte, is_word, piece, read_number_after, rest_from};
 use precedence::Arrows;
 use std::alloc::Global;
 
@@ -42,87 +24,58 @@ fn line_end(bytes: &[u8], start: usize) -> usize
     start + find_byte(rest_from(bytes, start), b'\n')
 }
 
-/// Whether the bytes are the first line's.
-fn is_form(bytes: &[u8]) -> bool
-    ensures { IsTrue result ↔ (bytes.now ≡ codes "proof 1") }
-{
-    bytes == b"proof 1".as_slice()
+/// Where a line ends, whether a newline ends it, and where the next one begins.
+#[derive(Clone, Copy)]
+struct LineAt {
+    end: usize,
+    is_ended: bool,
+    next: usize,
 }
 
-/// Where the second line begins.
-fn read_form(bytes: &[u8]) -> Result<usize, ProofWhy>
-    ensures ok { IfOk result (λ end. (end ≤ length bytes.now)
-        × (bytes.now ≡ form_line ++ drop end bytes.now)) }
-    ensures err { IfErr result (λ why. IsFirstOf (form_causes bytes.now) (Err why)) }
+/// The line that begins at a place.
+fn line_at(bytes: &[u8], start: usize) -> LineAt
+    requires { start ≤ length bytes.now }
+    ensures { IsLineAt bytes.now start result }
 {
-    let end = find_byte(bytes, b'\n');
-    if !is_form(front(bytes, end)) {
+    let end = line_end(bytes, start);
+    let is_ended = end < bytes.len();
+    LineAt {
+        end,
+        is_ended,
+        next: if is_ended { end + 1 } else { end },
+    }
+}
+
+/// Tries the first line.
+#[tactic(auto, unfolding(crate::specs::Reading::form_read))]
+fn try_form(line: &[u8], is_ended: bool) -> Result<(), ProofWhy>
+    ensures { result ≡ form_read (text_line line.now is_ended) }
+{
+    if is_word(line, b"proof 1".as_slice()) && is_ended {
+        Ok(())
+    } else {
+        Err(ProofWhy::Form)
+    }
+}
+
+/// Tries the second line.
+fn try_count(line: &[u8], is_ended: bool, count: usize) -> Result<(), ProofWhy>
+    ensures { result ≡ count_read count (text_line line.now is_ended) }
+{
+    let entries = match read_number_after(line, b"entries".as_slice()) {
+        None => return Err(ProofWhy::Form),
+        Some(entries) => entries,
+    };
+    if entries.number as usize != count {
+        return Err(ProofWhy::WrongCount);
+    }
+    if entries.end < line.len() {
         return Err(ProofWhy::Form);
     }
-    if end == bytes.len() {
+    if !is_ended {
         return Err(ProofWhy::Form);
     }
-    Ok(end + 1)
-}
-
-/// Whether the bytes are the second line's first word and a space.
-fn is_entries(bytes: &[u8]) -> bool
-    ensures { IsTrue result ↔ (bytes.now ≡ codes "entries ") }
-{
-    bytes == b"entries ".as_slice()
-}
-
-/// Whether the line begins so.
-fn begins_entries(line: &[u8]) -> bool
-    ensures { IsTrue result ↔ (take 8 line.now ≡ codes "entries ") }
-{
-    if line.len() < 8 {
-        return false;
-    }
-    is_entries(front(line, 8))
-}
-
-/// Tries the words after that, which are to be the number of survivors and nothing else.
-fn try_number(words: &[u8], count: usize) -> Result<(), ProofWhy>
-    requires { count ≤ 16384 }
-    ensures first { IsFirstOf (survivors_causes count words.now) result }
-    ensures ok { result ≡ Ok tt → words.now ≡ decimal count }
-{
-    let end = find_byte(words, b' ');
-    match number_of(front(words, end)) {
-        None => Err(ProofWhy::Form),
-        Some(number) => {
-            if number as usize != count {
-                Err(ProofWhy::WrongCount)
-            } else if end < words.len() {
-                Err(ProofWhy::Form)
-            } else {
-                Ok(())
-            }
-        }
-    }
-}
-
-/// Where the line after the second begins, if the bytes begin with the second.
-fn read_count(bytes: &[u8], count: usize) -> Result<usize, ProofWhy>
-    requires { count ≤ 16384 }
-    ensures ok { IfOk result (λ end. (end ≤ length bytes.now)
-        × (bytes.now ≡ survivors_line count ++ drop end bytes.now)) }
-    ensures err { IfErr result (λ why. IsFirstOf (count_causes count bytes.now) (Err why)) }
-{
-    let end = find_byte(bytes, b'\n');
-    let line = front(bytes, end);
-    if !begins_entries(line) {
-        return Err(ProofWhy::Form);
-    }
-    match try_number(rest_from(line, 8), count) {
-        Err(why) => return Err(why),
-        Ok(()) => {}
-    }
-    if end == bytes.len() {
-        return Err(ProofWhy::Form);
-    }
-    Ok(end + 1)
+    Ok(())
 }
 
 /// The proof that the bytes are the text of, for the graph.
@@ -132,30 +85,24 @@ fn read_count(bytes: &[u8], count: usize) -> Result<usize, ProofWhy>
 /// `At` with the first line that has a fault and its first fault, or `Memory`.
 pub fn read_proof<A: Arrows>(alloc: Global, graph: &A, bytes: &[u8]) -> Result<Proof, ProofFault>
     requires { (A.graph graph.now).count ≤ 16384 }
-    ensures { IsReadAnswer (A.graph graph.now) bytes.now result }
+    ensures is { result ≢ Err ProofFault.Memory → result ≡ proof_of (A.graph graph.now) bytes.now }
+    ensures exact { IsReadAnswer (A.graph graph.now) bytes.now result }
 {
-    match read_form(bytes) {
-        Err(why) => Err(ProofFault::At { line: 1, why }),
-        Ok(start) => read_after_form(alloc, graph, bytes, start),
+    let first = line_at(bytes, 0);
+    match try_form(piece(bytes, 0, first.end), first.is_ended) {
+        Err(why) => return Err(ProofFault::At { line: 1, why }),
+        Ok(()) => {}
     }
-}
-
-/// The proof whose second line begins at a place.
-fn read_after_form<A: Arrows>(
-    alloc: Global,
-    graph: &A,
-    bytes: &[u8],
-    start: usize,
-) -> Result<Proof, ProofFault>
-    requires few { (A.graph graph.now).count ≤ 16384 }
-    requires within { start ≤ length bytes.now }
-    requires form { bytes.now ≡ form_line ++ drop start bytes.now }
-    ensures { IsReadAnswer (A.graph graph.now) bytes.now result }
-{
-    match read_count(rest_from(bytes, start), graph.count()) {
-        Err(why) => Err(ProofFault::At { line: 2, why }),
-        Ok(end) => read_lines(alloc, graph, bytes, start + end),
+    let second = line_at(bytes, first.next);
+    match try_count(
+        piece(bytes, first.next, second.end),
+        second.is_ended,
+        graph.count(),
+    ) {
+        Err(why) => return Err(ProofFault::At { line: 2, why }),
+        Ok(()) => {}
     }
+    read_lines(alloc, graph, bytes, second.next)
 }
 
 /// Why a text is no proof, by why a line of it isn't read.
@@ -177,23 +124,28 @@ fn read_lines<A: Arrows>(
 ) -> Result<Proof, ProofFault>
     requires few { (A.graph graph.now).count ≤ 16384 }
     requires within { start ≤ length bytes.now }
-    requires head { bytes.now ≡ head_text (A.graph graph.now).count ++ drop start bytes.now }
-    ensures { IsReadAnswer (A.graph graph.now) bytes.now result }
+    ensures { result ≢ Err ProofFault.Memory →
+        result ≡ lines_read (A.graph graph.now) [] (lines_in (drop start bytes.now)) }
 {
     let mut lines = Vec::new(alloc);
     let mut least = 0;
     let mut at = start;
     'lines: while at < bytes.len() {
-        let end = line_end(bytes, at);
-        let is_ended = end < bytes.len();
-        match read_line(alloc, graph, piece(bytes, at, end), is_ended, least) {
+        let next = line_at(bytes, at);
+        match read_line(
+            alloc,
+            graph,
+            piece(bytes, at, next.end),
+            next.is_ended,
+            least,
+        ) {
             Err(unread) => return Err(fault_of(lines.len() + 3, unread)),
             Ok(line) => {
                 least = entry_of(&line) + 1;
                 lines.push(line)?;
             }
         }
-        at = if is_ended { end + 1 } else { end };
+        at = next.next;
     }
     Ok(Proof::of(lines))
 }

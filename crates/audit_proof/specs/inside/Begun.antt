@@ -1,72 +1,76 @@
 -- A line that is being read.
-use Rattle.std.specs.Prelude.{◌≡◌, ◌⊎◌, ℕ, ◌+◌, ◌-◌, ◌^◌, ◌<◌, ◌≤◌, ◌==◌, Bool, true, false}
-use Rattle.std.specs.Prelude.{List, [], ◌∷◌, ◌++◌, length, take, drop, Some, slice_get}
-use Rattle.std.specs.Prelude.{slice_index_or}
-use Rattle.std.specs.List.{Contains, flat_map, list_any}
+use Rattle.std.specs.Prelude.{◌≡◌, ℕ, ◌<◌, ◌≤◌, ◌&&◌, ◌==◌, nat_lt, Bool, false, List, [], ◌∷◌, length, drop, All}
+use Rattle.std.specs.Prelude.{Result, Ok, Err, slice_index_or}
+use Rattle.std.specs.List.{list_all, list_any}
 use Rattle.precedence.specs.Graph.{Graph}
 use Rattle.audit_proof.specs.declared.step.ProofStep.{ProofStep}
 use Rattle.audit_proof.specs.declared.fault.ProofWhy.TheVariants.{OutOfRange, NotFalling}
 use Rattle.audit_proof.specs.declared.fault.ProofWhy.TheVariants.{NotReached, NotParent}
-use Rattle.audit_proof.specs.Lines.{Line, listed_in, IsOnLine, IsBegun}
-use Rattle.audit_proof.specs.ProofText.{step_text}
-use Rattle.audit_proof.specs.Faults.{ProofCauses}
-use Rattle.audit_proof.specs.inside.Bytes.{HasNo, Follows}
+use Rattle.audit_proof.specs.declared.reading.Unread.{Unread}
+use Rattle.audit_proof.specs.declared.reading.Unread.TheVariants.{Why, Memory}
+use Rattle.audit_proof.specs.declared.reading.LineSteps.{LineSteps}
+use Rattle.audit_proof.specs.declared.reading.Numbered.{Numbered}
+use Rattle.audit_proof.specs.Lines.{Line, listed_in}
+use Rattle.audit_proof.specs.Reading.{TextLine, ProofRead, ◌>>=◌, need, words_on, number_after, is_on_line, steps_read}
+use Rattle.audit_proof.specs.inside.Bytes.{Follows}
 
--- numbers of 32 bits
-abbrev pub IsWordStep : ProofStep → Type 0
-IsWordStep step = (step.ancestor < 2 ^ 32) × (step.via < 2 ^ 32)
+-- the line of an entry with these steps
+abbrev pub line_with : ℕ → List ProofStep → Line
+line_with entry steps = record { entry = entry; steps = steps }
 
--- the step goes on a line of which this is reached and whose last ancestor is the bound
-pub record GoesOn (graph : Graph) (reached : List Bool) (bound : ℕ) (step : ProofStep)
-    : Type 0 where
-  pub ancestor : step.ancestor < graph.count
-  pub via : step.via < graph.count
-  pub falls : step.ancestor < bound
-  pub met : slice_index_or reached step.via false ≡ true
-  pub arrow : Contains (graph.parents step.via) step.ancestor
+-- a line of these bytes
+abbrev pub text_line : List ℕ → Bool → TextLine
+text_line bytes ended = record { bytes = bytes; is_ended = ended }
 
--- why a step can't go on such a line, in the order in which it is tried
-abbrev pub step_tests : Graph → List Bool → ℕ → ProofStep → ProofCauses
-step_tests graph reached bound step =
-    ((graph.count ≤ step.ancestor) ⊎ (graph.count ≤ step.via), OutOfRange)
-    ∷ (bound ≤ step.ancestor, NotFalling)
-    ∷ (slice_index_or reached step.via false ≡ false, NotReached)
-    ∷ (¬ Contains (graph.parents step.via) step.ancestor, NotParent) ∷ []
+-- the words of bytes in which each word comes after a space
+abbrev pub spaced : List ℕ → List (List ℕ)
+spaced [] = []
+spaced (space ∷ bytes) = words_on bytes
 
--- the table shows what is on the line
-pub record IsReachedTable (graph : Graph) (line : Line) (reached : List Bool) : Type 0 where
-  pub each : length reached ≡ graph.count
-  pub shown : (x : ℕ) → x < graph.count → slice_index_or reached x false ≡ true → IsOnLine line x
-  pub shows : (x : ℕ) → x < graph.count → IsOnLine line x → slice_index_or reached x false ≡ true
+-- the line begins with this word and this number, up to its end, and other words follow
+pub record IsNumbered (first line : List ℕ) (found : Numbered) : Type 0 where
+  pub within : found.end ≤ length line
+  pub next : Follows 32 (drop found.end line)
+  pub is : number_after first (words_on line) ≡ Ok (found.number, spaced (drop found.end line))
+
+-- whether a step goes on a line, by a table of what is reached there and a bound below which ancestors fall
+unfoldable pub step_tests : Graph → List Bool → ℕ → ProofStep → ProofRead (Unit {0})
+step_tests graph reached bound step = do
+  survivors ← need (nat_lt step.ancestor graph.count && nat_lt step.via graph.count) OutOfRange
+  falls ← need (nat_lt step.ancestor bound) NotFalling
+  met ← need (slice_index_or reached step.via false) NotReached
+  need (list_any (λ parent. parent == step.ancestor) (graph.parents step.via)) NotParent
 
 -- the table shows what is listed
 abbrev pub IsListedTable : List ProofStep → List Bool → Type 0
 IsListedTable steps listed =
     (x : ℕ) → slice_index_or listed x false ≡ list_any (λ z. z == x) (listed_in steps)
 
--- no ancestor is below the bound, which is one of them, or the number of survivors
-pub record IsBound (graph : Graph) (steps : List ProofStep) (bound : ℕ) : Type 0 where
-  pub least : (k : ℕ) (step : ProofStep) → slice_get steps k ≡ Some step → bound ≤ step.ancestor
-  pub stands : (bound ≡ graph.count)
-      ⊎ ((k : ℕ) × (step : ProofStep) × (slice_get steps k ≡ Some step) × (step.ancestor ≡ bound))
-
 -- of the words after a line's entry those before `at` were read: these steps, of which this is
 -- reached
 pub record IsReading (graph : Graph) (entry : ℕ) (words : List ℕ) (steps : List ProofStep)
     (reached : List Bool) (bound at : ℕ) : Type 0 where
   pub within : at ≤ length words
-  pub text : words ≡ flat_map step_text steps ++ drop at words
   pub follows : Follows 32 (drop at words)
-  pub begun : IsBegun graph (record { entry = entry; steps = steps })
-  pub table : IsReachedTable graph (record { entry = entry; steps = steps }) reached
-  pub below : (k : ℕ) (step : ProofStep) → slice_get steps k ≡ Some step → step.ancestor < entry
-  pub bounded : IsBound graph steps bound
+  pub goes_on : steps_read graph (line_with entry []) (spaced words)
+      ≡ steps_read graph (line_with entry steps) (spaced (drop at words))
+  pub each : length reached ≡ graph.count
+  pub shows : (x : ℕ) → slice_index_or reached x false ≡ is_on_line (line_with entry steps) x
+  pub bounded : (x : ℕ) → x < graph.count →
+      list_all (λ earlier. nat_lt x earlier.ancestor) steps ≡ nat_lt x bound
+  pub below : All (λ step. step.ancestor < entry) steps
 
--- a word is from after `at` up to `end`, and the next begins there, if there is one
-pub record IsNextWord (words : List ℕ) (at end : ℕ) (word : List ℕ) : Type 0 where
-  pub starts : at < length words
-  pub order : at < end
-  pub within : end ≤ length words
-  pub is : word ≡ take (end - (at + 1)) (drop (at + 1) words)
-  pub whole : HasNo 32 word
-  pub next : Follows 32 (drop end words)
+-- the steps that the words are, and a table of them; or the first cause against the words
+abbrev pub IsWordsAnswer : Graph → ℕ → List ℕ → Result LineSteps Unread → Type 0
+IsWordsAnswer graph entry words (Ok read) =
+    (steps_read graph (line_with entry []) (spaced words) ≡ Ok (line_with entry read.steps.items))
+    × (length read.listed.items ≡ graph.count) × IsListedTable read.steps.items read.listed.items
+IsWordsAnswer graph entry words (Err (Why why)) =
+    steps_read graph (line_with entry []) (spaced words) ≡ Err why
+IsWordsAnswer graph entry words (Err Memory) = Unit {0}
+
+-- what is read, unless memory runs out
+abbrev pub Told : {A : Type 0} → ProofRead A → Result A Unread → Type 0
+Told read (Ok value) = read ≡ Ok value
+Told read (Err (Why why)) = read ≡ Err why
+Told read (Err Memory) = Unit {0}

@@ -1,75 +1,16 @@
-use Rattle.std.proofs.Common.{Bool, false}
-use Rattle.audit_proof.proofs.Imports.{◌≡◌, ◌∙◌, ◌<◌, ℕ, List, sym, ap, refl, subst, inl, inr, true, length, get_or}
-use Rattle.audit_proof.proofs.Imports.{rules, arith, list_all, false≢true, slice_get-get_or, ProofStep, listed_in}
-use Rattle.audit_proof.proofs.Imports.{IsLineOf, closed_at, line_with}
-use Rattle.audit_proof.proofs.LongerLines.{step_on_line, reached_on_line}
-use Rattle.audit_proof.proofs.LineFacts.{line_own, line_each, closed_line}
 use Rattle.audit_proof.proofs.lines.finish.Goals as goal
+use Rattle.audit_proof.proofs.Imports.{List, ProofStep, arith, get_or, length, line_with, slice_get-get_or, subst}
+use Rattle.audit_proof.proofs.Imports.{sym, ℕ, ◌<◌}
+use Rattle.audit_proof.proofs.LongerLines.{reached_on_line, step_on_line}
 
-pub returns-then-not-is_ended : goal.returns-then-not-is_ended
-returns-then-not-is_ended g c = inl (
-  (λ ended. let not : c.args.is_ended ≡ false = search rules in
-      false≢true (sym not ∙ ended)),
-  refl,
-)
-
-pub are_listed-requires : goal.are_listed-requires
-are_listed-requires g c i d low =
-    let below = c.parents.ensures.below i d low in
-    let entry = c.requires.entry in
-    subst (λ (bs : List Bool). get_or c.parents.result.now i d < length bs) (sym c.deref.ensures.value)
-    (omega (arith, below, entry, c.requires.each))
-
-pub returns-then-not-are_listed : goal.returns-then-not-are_listed
-returns-then-not-are_listed g c =
-    let graph = g.A.Arrows.graph c.args.graph.now in
-    let steps = c.args.read.steps.items in
-    let listed = c.args.read.listed.items in
-    let ended : c.args.is_ended ≡ true = search rules in
-    let lost : c.are_listed.result ≡ false = search rules in
-    inr (
-      (λ lacks. lacks ended),
-      inl (
-        λ closed. false≢true (sym lost ∙ c.are_listed.ensures
-            ∙ ap (λ (bs : List Bool). closed_at bs c.parents.result.now) c.deref.ensures.value
-            ∙ ap (closed_at listed) c.parents.ensures.are
-            ∙ line_own graph c.args.entry steps listed c.requires.table closed),
-        refl,
-      ),
-    )
-
-pub are_closed-requires-clause-each : goal.are_closed-requires-clause-each
-are_closed-requires-clause-each g c = ap (λ (bs : List Bool). length bs) c.deref-3.ensures.value ∙ c.requires.each
-
-pub are_closed-requires-clause-inside : goal.are_closed-requires-clause-inside
-are_closed-requires-clause-inside g c =
+pub lacks_no_parent-requires-clause-inside : goal.lacks_no_parent-requires-clause-inside
+lacks_no_parent-requires-clause-inside g c =
     let graph = g.A.Arrows.graph c.args.graph.now in
     let steps = c.args.read.steps.items in
     subst (λ (ss : List ProofStep). (k : ℕ) (d : ProofStep) → k < length ss → (get_or ss k d).ancestor < graph.count)
-    (sym c.deref-2.ensures.value)
+    (sym c.deref.ensures.value)
     (λ k d low. c.requires.begun.inside (get_or steps k d).ancestor
     (step_on_line (line_with c.args.entry steps) k (get_or steps k d) (slice_get-get_or steps k d low)))
-
-pub returns-then-not-are_closed : goal.returns-then-not-are_closed
-returns-then-not-are_closed g c =
-    let graph = g.A.Arrows.graph c.args.graph.now in
-    let steps = c.args.read.steps.items in
-    let listed = c.args.read.listed.items in
-    let ended : c.args.is_ended ≡ true = search rules in
-    let lost : c.are_closed.result ≡ false = search rules in
-    inr (
-      (λ lacks. lacks ended),
-      inl (
-        λ closed. false≢true (sym lost ∙ c.are_closed.ensures
-            ∙ ap (λ (ss : List ProofStep). list_all (λ y. closed_at c.deref-3.result.now (graph.parents y))
-            (listed_in ss))
-            c.deref-2.ensures.value
-            ∙ ap (λ (bs : List Bool). list_all (λ y. closed_at bs (graph.parents y))
-            (listed_in steps)) c.deref-3.ensures.value
-            ∙ line_each graph c.args.entry steps listed c.requires.table closed),
-        refl,
-      ),
-    )
 
 -- the steps are kept as they are
 pub of-requires-clause-falls : goal.of-requires-clause-falls
@@ -82,29 +23,3 @@ of-requires-clause-small g c k d low =
     let reached = c.requires.begun.reached k step (slice_get-get_or line.steps k d low) in
     let via = c.requires.begun.inside step.via (reached_on_line line k step.via reached) in
     omega (arith, via, c.requires.few)
-
-pub returns : goal.returns
-returns g c =
-    let graph = g.A.Arrows.graph c.args.graph.now in
-    let steps = c.args.read.steps.items in
-    let listed = c.args.read.listed.items in
-    let ended : c.args.is_ended ≡ true = search rules in
-    let own : c.are_listed.result ≡ true = search rules in
-    let each : c.are_closed.result ≡ true = search rules in (
-      ended,
-      c.in_ok-of.ensures,
-      subst (IsLineOf graph) (sym c.in_ok-of.ensures) (record {
-        begun = c.requires.begun;
-        closed = closed_line graph c.args.entry steps listed c.requires.table
-            (sym (c.are_listed.ensures
-            ∙ ap (λ (bs : List Bool). closed_at bs c.parents.result.now) c.deref.ensures.value
-            ∙ ap (closed_at listed) c.parents.ensures.are) ∙ own)
-            (sym (c.are_closed.ensures
-            ∙ ap (λ (ss : List ProofStep). list_all (λ y. closed_at c.deref-3.result.now (graph.parents y))
-            (listed_in ss))
-            c.deref-2.ensures.value
-            ∙ ap (λ (bs : List Bool). list_all (λ y. closed_at bs (graph.parents y))
-            (listed_in steps)) c.deref-3.ensures.value)
-            ∙ each);
-      }),
-    )

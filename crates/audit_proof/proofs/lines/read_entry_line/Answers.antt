@@ -1,40 +1,39 @@
-use Rattle.audit_proof.proofs.Imports.{◌∙◌, ◌≤◌, refl, sym, inl, arith}
-use Rattle.audit_proof.proofs.FirstFaults.{out_of_range, not_rising}
-use Rattle.audit_proof.proofs.EntryLines.{wanted_same, words_refused, line_finished}
 use Rattle.audit_proof.proofs.lines.read_entry_line.Goals as goal
+use Rattle.audit_proof.proofs.Imports.{Err, Line, List, Ok, ProofRead, Told, [], ap, arith, line_of_entry}
+use Rattle.audit_proof.proofs.Imports.{false_from_ne_true, le-leb, leb-true, line_with, nat_le, spaced}
+use Rattle.audit_proof.proofs.Imports.{steps_read, subst, sym, ℕ, ◌∙◌}
+use Rattle.audit_proof.proofs.LinesRead.{entry_by, not_rising, out_of_range, read_begun, words_refused}
 
 pub returns-then-number-count : goal.returns-then-number-count
-returns-then-number-count g c = (
-  λ ended line e low is.
-      let graph = g.A.Arrows.graph c.args.graph.now in
-      let inside = is.begun.inside line.entry (inl refl) in
-      let same = (wanted_same graph c.requires.few c.args.line.now c.args.entry c.requires.entry c.args.is_ended
-      c.args.least line e is).0 in
-      omega (arith, inside, same, c.if-number-count.true, c.count.ensures),
-  inl (out_of_range (g.A.Arrows.graph c.args.graph.now) (λ n. c.args.least ≤ n) c.args.line.now c.args.entry
-      c.requires.entry (omega (arith, c.if-number-count.true, c.count.ensures))),
-)
+returns-then-number-count g c = out_of_range _ _ _ _ _ (omega (arith, c.if-number-count.true, c.count.ensures))
 
 pub returns-then-number-least : goal.returns-then-number-least
-returns-then-number-least g c = (
-  λ ended line e low is.
-      let graph = g.A.Arrows.graph c.args.graph.now in
-      let same = (wanted_same graph c.requires.few c.args.line.now c.args.entry c.requires.entry c.args.is_ended
-      c.args.least line e is).0 in
-      omega (arith, low, same, c.if-number-least.true),
-  inl (not_rising (g.A.Arrows.graph c.args.graph.now) (λ n. c.args.least ≤ n) c.args.line.now c.args.entry
-      c.requires.entry (omega (arith, c.if-number-count.false, c.count.ensures))
-      (λ rises. omega (arith, rises, c.if-number-least.true))),
-)
+returns-then-number-least g c =
+    not_rising _ _ _ _ _ (omega (arith, c.if-number-count.false, c.count.ensures))
+    (false_from_ne_true _ (λ rises. let low = leb-true _ _ rises in omega (arith, low, c.if-number-least.true)))
+
+pub finish-requires-clause-begun : goal.finish-requires-clause-begun
+finish-requires-clause-begun g c =
+    let graph = g.A.Arrows.graph c.args.graph.now in
+    read_begun graph c.args.entry.number _ _ c.in-Ok.ensures.0
+    (omega (arith, c.if-number-count.false, c.count.ensures))
 
 pub returns-in-Err : goal.returns-in-Err
 returns-in-Err g c =
-    words_refused (g.A.Arrows.graph c.args.graph.now) c.requires.few c.args.line.now c.args.entry c.requires.entry
-    c.args.is_ended c.args.least (omega (arith, c.if-number-least.false)) c.rest_from.result.now c.rest_from.ensures
-    c.in-Err.unread c.in-Err.ensures
+    let graph = g.A.Arrows.graph c.args.graph.now in
+    subst (λ (xs : List ℕ). Told (line_of_entry graph (nat_le c.args.least) c.args.is_ended (c.args.entry.number, spaced xs))
+    (Err c.in-Err.unread)) c.rest_from.ensures
+    (words_refused graph (nat_le c.args.least) c.args.is_ended c.args.entry.number c.rest_from.result.now c.in-Err.unread
+    (omega (arith, c.if-number-count.false, c.count.ensures)) (le-leb _ _ (omega (arith, c.if-number-least.false)))
+    c.in-Err.ensures)
 
 pub returns-in-Ok : goal.returns-in-Ok
 returns-in-Ok g c =
-    line_finished (g.A.Arrows.graph c.args.graph.now) c.requires.few c.args.line.now c.args.entry c.requires.entry
-    c.args.is_ended c.args.least (omega (arith, c.if-number-least.false)) c.in-Ok.read.steps.items
-    (sym c.rest_from.ensures ∙ c.in-Ok.ensures.0) c.in-Ok.ensures.1 c.finish.result c.finish.ensures
+    let graph = g.A.Arrows.graph c.args.graph.now in
+    subst (λ (r : ProofRead Line). Told r c.finish.result)
+    (sym (entry_by graph (nat_le c.args.least) c.args.is_ended c.args.entry.number _
+    (omega (arith, c.if-number-count.false, c.count.ensures)) (le-leb _ _ (omega (arith, c.if-number-least.false)))
+    (Ok (line_with c.args.entry.number c.in-Ok.read.steps.items))
+    (ap (λ (xs : List ℕ). steps_read graph (line_with c.args.entry.number []) (spaced xs)) (sym c.rest_from.ensures)
+    ∙ c.in-Ok.ensures.0)))
+    c.finish.ensures
