@@ -16,9 +16,9 @@ pub use Rattle.audit_proof.specs.Trust.{FullProofsSayAll, LinesListAncestors, Pr
 pub use Rattle.audit_proof.specs.Trust.{WrittenProofsSayAll}
 pub use Rattle.audit_proof.specs.declared.fault.ProofFault.{ProofFault}
 pub use Rattle.audit_proof.specs.declared.fault.ProofFault.TheVariants.{At, Memory}
-pub use Rattle.audit_proof.specs.declared.fault.ProofWhy.{ProofWhy}
-pub use Rattle.audit_proof.specs.declared.fault.ProofWhy.TheVariants.{Form, NotClosed, NotFalling, NotParent}
-pub use Rattle.audit_proof.specs.declared.fault.ProofWhy.TheVariants.{NotReached, NotRising, OutOfRange, WrongCount}
+pub use Rattle.input_causes.specs.declared.proof.ProofWhy.{ProofWhy}
+pub use Rattle.input_causes.specs.declared.proof.ProofWhy.TheVariants.{Form, NotClosed, NotFalling, NotParent}
+pub use Rattle.input_causes.specs.declared.proof.ProofWhy.TheVariants.{NotReached, NotRising, OutOfRange, WrongCount}
 pub use Rattle.audit_proof.specs.declared.listing.Listing.{Listing}
 pub use Rattle.audit_proof.specs.declared.reading.Numbered.{Numbered}
 pub use Rattle.audit_proof.specs.declared.reading.Unread.{Unread}

@@ -1,4 +1,3 @@
-pub mod CauseWords
 pub mod Lines
 pub mod ProofText
 pub mod KnownBy

@@ -9,10 +9,10 @@ use Rattle.precedence.specs.Graph.{Graph}
 use Rattle.audit_proof.specs.declared.step.ProofStep.{ProofStep}
 use Rattle.audit_proof.specs.declared.fault.ProofFault.{ProofFault}
 use Rattle.audit_proof.specs.declared.fault.ProofFault.TheVariants.{At}
-use Rattle.audit_proof.specs.declared.fault.ProofWhy.{ProofWhy}
-use Rattle.audit_proof.specs.declared.fault.ProofWhy.TheVariants.{Form, WrongCount, OutOfRange}
-use Rattle.audit_proof.specs.declared.fault.ProofWhy.TheVariants.{NotRising, NotFalling}
-use Rattle.audit_proof.specs.declared.fault.ProofWhy.TheVariants.{NotReached, NotParent, NotClosed}
+use Rattle.input_causes.specs.declared.proof.ProofWhy.{ProofWhy}
+use Rattle.input_causes.specs.declared.proof.ProofWhy.TheVariants.{Form, WrongCount, OutOfRange}
+use Rattle.input_causes.specs.declared.proof.ProofWhy.TheVariants.{NotRising, NotFalling}
+use Rattle.input_causes.specs.declared.proof.ProofWhy.TheVariants.{NotReached, NotParent, NotClosed}
 use Rattle.audit_proof.specs.Lines.{Line, listed_in}
 
 -- ---- a text's lines, and a line's words

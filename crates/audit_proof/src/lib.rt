@@ -19,7 +19,8 @@ mod tables;
 mod whole_text;
 
 pub use by_proof::check;
-pub use fault::{CheckFault, ProofFault, ProofWhy, Verdict};
+pub use fault::{CheckFault, ProofFault, Verdict};
+pub use input_causes::ProofWhy;
 pub use laws::{
     one_text_is_canonical, proofs_are_read_in_one_way, proofs_are_right, proofs_say_no_more,
     texts_of_proofs_are_read, written_proofs_say_all,

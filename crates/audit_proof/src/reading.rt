@@ -20,7 +20,7 @@ ghost use Rattle.audit_proof.specs.Reading.{number_after, step_of_word, words_on
 ghost use Rattle.audit_proof.specs.inside.Bytes.{Follows, HasNo};
 ghost use Rattle.audit_proof.specs.inside.Begun.{IsNumbered, IsWordsAnswer, step_tests};
 
-use crate::fault::ProofWhy;
+use input_causes::ProofWhy;
 use crate::step::ProofStep;
 use hall_text::decimal;
 use precedence::Arrows;

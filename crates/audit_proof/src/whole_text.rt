@@ -6,7 +6,8 @@ ghost use Rattle.audit_proof.specs.inside.Begun.{text_line};
 ghost use Rattle.audit_proof.specs.inside.Bytes.{Follows, HasNo};
 ghost use Rattle.audit_proof.specs.inside.Lists.{IsLineAt, fault_of};
 
-use crate::fault::{ProofFault, ProofWhy};
+use crate::fault::ProofFault;
+use input_causes::ProofWhy;
 use crate::lines::read_line;
 use crate::packed::entry_of;
 use crate::proof::Proof;

@@ -63,13 +63,13 @@ pub use Rattle.rule_engine.specs.declared.rules.Unjudged.{Unjudged}
 pub use Rattle.rule_engine.specs.declared.verdict.Verdict.{Verdict}
 pub use Rattle.rule_engine.specs.declared.verdict.Verdict.TheVariants.{Broken, Unsettled}
 pub use Rattle.rule_language.specs.Forms.{rule_tree}
-pub use Rattle.rule_language.specs.Kinds.{why_word}
+pub use Rattle.input_causes.specs.Causes.{rule_why_word}
 pub use Rattle.rule_language.specs.Reading.{Reads}
 pub use Rattle.rule_language.specs.Standard.{standard_rules}
 pub use Rattle.rule_language.specs.Trees.{RuleTree, Trees, no_trees, tree_then}
 pub use Rattle.rule_language.specs.declared.faults.RuleFault.{RuleFault}
 pub use Rattle.rule_language.specs.declared.faults.RuleFault.TheVariants.{At}
-pub use Rattle.rule_language.specs.declared.faults.RuleWhy.{RuleWhy}
+pub use Rattle.input_causes.specs.declared.rules.RuleWhy.{RuleWhy}
 pub use Rattle.rule_language.specs.declared.form.Form.{Form}
 pub use Rattle.rule_language.specs.declared.formula.Rule.{Rule}
 pub use Rattle.rule_language.specs.declared.row.Row.{Row}

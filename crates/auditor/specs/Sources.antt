@@ -1,7 +1,7 @@
 -- Where the rules of an audit come from.
 use Rattle.std.specs.Prelude.{◌≡◌, ◌⊎◌, ℕ, ◌<◌, ◌≤◌, List, [], ◌∷◌, length, codes, Option, Some, None, Result, Ok, Err}
-use Rattle.rule_language.specs.declared.faults.RuleWhy.{RuleWhy}
-use Rattle.rule_language.specs.Kinds.{why_word}
+use Rattle.input_causes.specs.declared.rules.RuleWhy.{RuleWhy}
+use Rattle.input_causes.specs.Causes.{rule_why_word}
 use Rattle.rule_language.specs.Trees.{RuleTree}
 use Rattle.rule_language.specs.Reading.{Reads, IsFirstFault}
 use Rattle.evidence.specs.Refusal.{Refusal, absent, refused, too_long}
@@ -35,7 +35,7 @@ max_rules = 4194304
 -- the file of rules is refused with the place and the cause of its first fault
 abbrev pub IsRulesRefusal : List ℕ → List ℕ → Refusal → Type 0
 IsRulesRefusal name bytes refusal =
-    (at : ℕ) × (why : RuleWhy) × IsFirstFault bytes at why × (refusal ≡ refused name at (why_word why))
+    (at : ℕ) × (why : RuleWhy) × IsFirstFault bytes at why × (refusal ≡ refused name at (rule_why_word why))
 
 -- what the file of rules gives, or that there is none
 abbrev pub GivesRules : List ℕ → Option (List ℕ) → Result (List RuleTree) Refusal → Type 0

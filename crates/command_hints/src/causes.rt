@@ -1,10 +1,10 @@
 //! The causes of refusals, and a sentence on each.
 ghost use Rattle.canonical_sexp.specs.Forms.{Finds};
 ghost use Rattle.std.specs.Prelude.{◌≡◌};
-ghost use Rattle.election_script.specs.CauseWords.{script_why_word};
+ghost use Rattle.input_causes.specs.Causes.{script_why_word};
 ghost use Rattle.roster.specs.Reading.{fault_word};
-ghost use Rattle.rule_language.specs.Kinds.{why_word};
-ghost use Rattle.audit_proof.specs.CauseWords.{proof_why_word};
+ghost use Rattle.input_causes.specs.Causes.{rule_why_word};
+ghost use Rattle.input_causes.specs.Causes.{proof_why_word};
 
 use audit_proof::ProofWhy;
 use election_script::ScriptWhy;

@@ -4,7 +4,7 @@ use Rattle.election_script.proofs.Imports.{◌≡◌, refl, ℕ, Bool, true, fal
 use Rattle.election_script.proofs.Imports.{Kind, Sheet, Script, ScriptWhy, LineRead, OutOfRange, At, roles_of}
 use Rattle.election_script.proofs.Imports.{stopped_of, put, one_number, seed_read, key_read, do_read, lose_read}
 use Rattle.election_script.proofs.Imports.{stop_read, step_read, version_in, ScriptFault, Deed, ◌<◌, arith}
-use Rattle.election_script.specs.declared.faults.ScriptWhy.TheVariants.{OutOfOrder, NotOneSupervisor}
+use Rattle.input_causes.specs.declared.script.ScriptWhy.TheVariants.{OutOfOrder, NotOneSupervisor}
 use Rattle.election_script.specs.declared.kinds.Kind.TheVariants as kind
 use Rattle.election_script.specs.declared.draft.Line.TheVariants as line
 use Rattle.election_script.specs.Words.{◌>>=◌}

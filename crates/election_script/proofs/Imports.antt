@@ -34,8 +34,8 @@ pub use Rattle.election_script.specs.declared.draft.LineFault.{LineFault}
 pub use Rattle.election_script.specs.declared.draft.LineFault.TheVariants.{Why}
 pub use Rattle.election_script.specs.declared.faults.ScriptFault.{ScriptFault}
 pub use Rattle.election_script.specs.declared.faults.ScriptFault.TheVariants.{At}
-pub use Rattle.election_script.specs.declared.faults.ScriptWhy.{ScriptWhy}
-pub use Rattle.election_script.specs.declared.faults.ScriptWhy.TheVariants.{OutOfRange, UnknownWord}
+pub use Rattle.input_causes.specs.declared.script.ScriptWhy.{ScriptWhy}
+pub use Rattle.input_causes.specs.declared.script.ScriptWhy.TheVariants.{OutOfRange, UnknownWord}
 pub use Rattle.election_script.specs.declared.kinds.Kind.{Kind}
 pub use Rattle.election_script.specs.declared.script.Cast0.{Cast0}
 pub use Rattle.election_script.specs.declared.script.Lose.{Lose}

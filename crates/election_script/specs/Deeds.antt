@@ -7,7 +7,7 @@ use Rattle.entry_format.specs.declared.deed.How.{How}
 use Rattle.entry_format.specs.declared.deed.How.TheVariants as how
 use Rattle.roster.specs.declared.post.Role.{Role}
 use Rattle.roster.specs.declared.post.Role.TheVariants.{Supervisor, Booth}
-use Rattle.election_script.specs.declared.faults.ScriptWhy.TheVariants.{WrongCount}
+use Rattle.input_causes.specs.declared.script.ScriptWhy.TheVariants.{WrongCount}
 use Rattle.election_script.specs.declared.kinds.DeedName.{DeedName}
 use Rattle.election_script.specs.declared.kinds.DeedName.TheVariants as deed
 use Rattle.election_script.specs.Kinds.{deed_names, how_names}

@@ -4,8 +4,8 @@ use Rattle.std.specs.Prelude.{ℕ, ◌+◌, ◌==◌, nat_le, Bool, false, if◌
 use Rattle.std.specs.Prelude.{Option, Some, None, Result, Ok, Err}
 use Rattle.std.specs.List.{list_all, slice_split}
 use Rattle.roster.specs.Machines.{max_machines}
-use Rattle.election_script.specs.declared.faults.ScriptWhy.{ScriptWhy}
-use Rattle.election_script.specs.declared.faults.ScriptWhy.TheVariants.{NotPlain, UnknownWord, OutOfOrder, OutOfRange}
+use Rattle.input_causes.specs.declared.script.ScriptWhy.{ScriptWhy}
+use Rattle.input_causes.specs.declared.script.ScriptWhy.TheVariants.{NotPlain, UnknownWord, OutOfOrder, OutOfRange}
 use Rattle.election_script.specs.declared.faults.ScriptFault.{ScriptFault}
 use Rattle.election_script.specs.declared.faults.ScriptFault.TheVariants.{At}
 use Rattle.election_script.specs.declared.kinds.Kind.{Kind}

@@ -5,7 +5,7 @@ use Rattle.std.specs.List.{position_from}
 use Rattle.std.specs.Str.{bytes_eq}
 use Rattle.roster.specs.declared.post.Role.{Role}
 use Rattle.roster.specs.Machines.{is_supervisor}
-use Rattle.election_script.specs.declared.faults.ScriptWhy.TheVariants.{BadName, UnknownName, WrongRole}
+use Rattle.input_causes.specs.declared.script.ScriptWhy.TheVariants.{BadName, UnknownName, WrongRole}
 use Rattle.election_script.specs.declared.script.Cast0.{Cast0}
 use Rattle.election_script.specs.declared.script.StopAt.{StopAt}
 use Rattle.election_script.specs.Grammar.{name_at}

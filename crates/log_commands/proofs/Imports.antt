@@ -3,7 +3,7 @@ pub use Rattle.audit_proof.proofs.Canonicals.{canonical_full}
 pub use Rattle.audit_proof.proofs.Trusted.{full_proofs_say_all, proofs_say_no_more}
 pub use Rattle.audit_proof.specs.Answers.{IsCheckAnswer, verdict_of}
 pub use Rattle.audit_proof.specs.Canonical.{IsCanonicalProof, IsCanonicalText, OneTextIsCanonical}
-pub use Rattle.audit_proof.specs.CauseWords.{proof_why_word}
+pub use Rattle.input_causes.specs.Causes.{proof_why_word}
 pub use Rattle.audit_proof.specs.KnownBy.{three_by}
 pub use Rattle.audit_proof.specs.Lines.{IsProofOf, Line}
 pub use Rattle.audit_proof.specs.OneReading.{HaveSameArrows, SameArrowsGiveOneValue, SameArrowsHaveOneText}
@@ -12,7 +12,7 @@ pub use Rattle.audit_proof.specs.Reads.{IsReadAnswer}
 pub use Rattle.audit_proof.specs.Trust.{ProofsSayNoMore}
 pub use Rattle.audit_proof.specs.declared.fault.CheckFault.{CheckFault}
 pub use Rattle.audit_proof.specs.declared.fault.ProofFault.{ProofFault}
-pub use Rattle.audit_proof.specs.declared.fault.ProofWhy.{ProofWhy}
+pub use Rattle.input_causes.specs.declared.proof.ProofWhy.{ProofWhy}
 pub use Rattle.auditor.proofs.Chained.{and_refused, and_then, err_by, file_ends, file_joins, of_one, on_one}
 pub use Rattle.auditor.proofs.Chained.{rules_end, rules_then, standard_then}
 pub use Rattle.auditor.proofs.Makers.{logs_have_makers, survivors_have_makers}

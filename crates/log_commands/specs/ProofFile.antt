@@ -2,9 +2,9 @@
 use Rattle.std.specs.Prelude.{◌≡◌, ◌⊎◌, ℕ, ◌<◌, ◌≤◌, List, length, Option, Some, None, Result}
 use Rattle.std.specs.Prelude.{Ok, Err}
 use Rattle.precedence.specs.Graph.{Graph}
-use Rattle.audit_proof.specs.declared.fault.ProofWhy.{ProofWhy}
+use Rattle.input_causes.specs.declared.proof.ProofWhy.{ProofWhy}
 use Rattle.audit_proof.specs.declared.fault.ProofFault.TheVariants.{At}
-use Rattle.audit_proof.specs.CauseWords.{proof_why_word}
+use Rattle.input_causes.specs.Causes.{proof_why_word}
 use Rattle.audit_proof.specs.Lines.{Line}
 use Rattle.audit_proof.specs.Reads.{IsTextFor, IsReadAnswer}
 use Rattle.evidence.specs.Refusal.{Refusal, absent, refused, too_long}

@@ -16,10 +16,10 @@ pub use Rattle.command_line.specs.declared.status.Status.{Status}
 pub use Rattle.place_commands.specs.inside.Losses.{IsBetween}
 pub use Rattle.command_line.specs.Promise.{IsAnswered}
 pub use Rattle.place_commands.specs.inside.Repaired.{ComesByRepair}
-pub use Rattle.election_script.specs.CauseWords.{script_why_word}
+pub use Rattle.input_causes.specs.Causes.{script_why_word}
 pub use Rattle.election_script.specs.Lawful.{IsLawful}
 pub use Rattle.election_script.specs.declared.faults.ScriptFault.{ScriptFault}
-pub use Rattle.election_script.specs.declared.faults.ScriptWhy.{ScriptWhy}
+pub use Rattle.input_causes.specs.declared.script.ScriptWhy.{ScriptWhy}
 pub use Rattle.election_script.specs.declared.script.Cast0.{Cast0}
 pub use Rattle.election_script.specs.declared.script.Script.{Script}
 pub use Rattle.entry_format.specs.Nodes.{node_of_sealed}

@@ -1,9 +1,9 @@
 -- What a script's file gives.
 use Rattle.std.specs.Prelude.{◌≡◌, ◌⊎◌, ℕ, ◌<◌, ◌≤◌, List, length, Option, Some, None, Result, Ok, Err, IsSomeAnd}
 use Rattle.election_script.specs.declared.script.Script.{Script}
-use Rattle.election_script.specs.declared.faults.ScriptWhy.{ScriptWhy}
+use Rattle.input_causes.specs.declared.script.ScriptWhy.{ScriptWhy}
 use Rattle.election_script.specs.declared.faults.ScriptFault.TheVariants.{At}
-use Rattle.election_script.specs.CauseWords.{script_why_word}
+use Rattle.input_causes.specs.Causes.{script_why_word}
 use Rattle.election_script.specs.Reading.{Reads}
 use Rattle.evidence.specs.Refusal.{Refusal, absent, refused, too_long}
 

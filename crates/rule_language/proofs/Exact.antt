@@ -3,8 +3,8 @@ use Rattle.std.proofs.Common.{◌≡◌, ◌∙◌, ap, refl, ℕ, Bool, true, f
 use Rattle.std.specs.Prelude.{Result, Ok, Err, if◌then◌else◌}
 use Rattle.std.specs.Str.{bytes_eq}
 use Rattle.std.proofs.lemmas.Slice.Eq.{bytes_eq-Decides}
-use Rattle.rule_language.specs.declared.faults.RuleWhy.{RuleWhy}
-use Rattle.rule_language.specs.declared.faults.RuleWhy.TheVariants.{Shape}
+use Rattle.input_causes.specs.declared.rules.RuleWhy.{RuleWhy}
+use Rattle.input_causes.specs.declared.rules.RuleWhy.TheVariants.{Shape}
 use Rattle.rule_language.specs.declared.faults.RuleFault.{RuleFault}
 use Rattle.rule_language.specs.Tokens.{Token, Row, token_then, bad_byte, text_end, words, has_good_bytes, right}
 use Rattle.rule_language.specs.Words.{only}

@@ -19,9 +19,9 @@ use Rattle.rule_language.specs.declared.term.Term.{Term}
 use Rattle.rule_language.specs.declared.term.Term.TheVariants.{Of, Number}
 use Rattle.rule_language.specs.declared.form.Head.{Head}
 use Rattle.rule_language.specs.declared.form.Head.TheVariants as head
-use Rattle.rule_language.specs.declared.faults.RuleWhy.{RuleWhy}
-use Rattle.rule_language.specs.declared.faults.RuleWhy.TheVariants.{Shape, UnknownKind, SameName, Unbound, WrongField}
-use Rattle.rule_language.specs.declared.faults.RuleWhy.TheVariants.{TooDeep}
+use Rattle.input_causes.specs.declared.rules.RuleWhy.{RuleWhy}
+use Rattle.input_causes.specs.declared.rules.RuleWhy.TheVariants.{Shape, UnknownKind, SameName, Unbound, WrongField}
+use Rattle.input_causes.specs.declared.rules.RuleWhy.TheVariants.{TooDeep}
 use Rattle.rule_language.specs.Kinds.{first_named, kind_named, kind_word, entry_kinds, field_named, field_word, fields}
 use Rattle.rule_language.specs.Kinds.{role_named, head_named, head_word, heads, is_quantifier, has_field, sort_of_field}
 use Rattle.rule_language.specs.Scopes.{Scope, kind_in, is_letter}

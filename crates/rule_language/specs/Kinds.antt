@@ -12,8 +12,8 @@ use Rattle.rule_language.specs.declared.kind.Sort.{Sort}
 use Rattle.rule_language.specs.declared.kind.Sort.TheVariants as sort
 use Rattle.rule_language.specs.declared.form.Head.{Head}
 use Rattle.rule_language.specs.declared.form.Head.TheVariants as head
-use Rattle.rule_language.specs.declared.faults.RuleWhy.{RuleWhy}
-use Rattle.rule_language.specs.declared.faults.RuleWhy.TheVariants as why
+use Rattle.input_causes.specs.declared.rules.RuleWhy.{RuleWhy}
+use Rattle.input_causes.specs.declared.rules.RuleWhy.TheVariants as why
 
 -- the first of the things whose word this is
 abbrev pub first_named : {A : Type 0} → (A → List ℕ) → List A → List ℕ → Option A
@@ -145,13 +145,3 @@ abbrev pub is_quantifier : Head → Bool
 is_quantifier head.ForEvery = true
 is_quantifier head.ForSome = true
 is_quantifier head = false
-
--- a cause as it is spelt in reports
-abbrev pub why_word : RuleWhy → List ℕ
-why_word why.Token = codes "Token"
-why_word why.Shape = codes "Shape"
-why_word why.UnknownKind = codes "UnknownKind"
-why_word why.SameName = codes "SameName"
-why_word why.Unbound = codes "Unbound"
-why_word why.WrongField = codes "WrongField"
-why_word why.TooDeep = codes "TooDeep"

@@ -2,7 +2,7 @@
 use Rattle.std.specs.Prelude.{ℕ, zero, suc, Bool, true, false, if◌then◌else◌, List, [], ◌∷◌, ◌++◌, codes}
 use Rattle.std.specs.Prelude.{Option, Some, None, Result, Ok, Err}
 use Rattle.roster.specs.declared.post.Role.{Role}
-use Rattle.rule_language.specs.declared.faults.RuleWhy.TheVariants.{Shape}
+use Rattle.input_causes.specs.declared.rules.RuleWhy.TheVariants.{Shape}
 use Rattle.rule_language.specs.declared.faults.RuleFault.{RuleFault}
 use Rattle.rule_language.specs.declared.kind.Kind.{Kind}
 use Rattle.rule_language.specs.declared.kind.Sort.{Sort}

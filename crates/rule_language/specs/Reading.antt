@@ -3,7 +3,7 @@ use Rattle.std.specs.Prelude.{◌≡◌, ℕ, List, map, Result, Ok, Err}
 use Rattle.std.specs.declared.vec.Vec.{Vec}
 use Rattle.std.specs.declared.alloc.Global.{Global}
 use Rattle.rule_language.specs.declared.formula.Rule.{Rule}
-use Rattle.rule_language.specs.declared.faults.RuleWhy.{RuleWhy}
+use Rattle.input_causes.specs.declared.rules.RuleWhy.{RuleWhy}
 use Rattle.rule_language.specs.declared.faults.RuleFault.{RuleFault}
 use Rattle.rule_language.specs.declared.faults.RuleFault.TheVariants.{At}
 use Rattle.rule_language.specs.Trees.{RuleTree}

@@ -10,9 +10,9 @@ use Rattle.rule_language.specs.declared.kind.Sort.TheVariants as sort
 use Rattle.rule_language.specs.declared.term.Term.{Term}
 use Rattle.rule_language.specs.declared.term.Term.TheVariants.{Of, Number}
 use Rattle.rule_language.specs.declared.form.Head.{Head}
-use Rattle.rule_language.specs.declared.faults.RuleWhy.{RuleWhy}
-use Rattle.rule_language.specs.declared.faults.RuleWhy.TheVariants.{Shape, UnknownKind, SameName, Unbound, WrongField}
-use Rattle.rule_language.specs.declared.faults.RuleWhy.TheVariants.{TooDeep}
+use Rattle.input_causes.specs.declared.rules.RuleWhy.{RuleWhy}
+use Rattle.input_causes.specs.declared.rules.RuleWhy.TheVariants.{Shape, UnknownKind, SameName, Unbound, WrongField}
+use Rattle.input_causes.specs.declared.rules.RuleWhy.TheVariants.{TooDeep}
 use Rattle.rule_language.specs.Kinds.{kind_named, field_named, head_named, has_field, sort_of_field}
 use Rattle.rule_language.specs.Kinds.{is_ordered, is_quantifier}
 use Rattle.rule_language.specs.Scopes.{Scope, kind_in, is_letter}

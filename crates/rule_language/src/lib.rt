@@ -21,9 +21,10 @@ mod tokens;
 mod words;
 mod writing;
 
-pub use faults::{RuleFault, RuleWhy};
+pub use faults::RuleFault;
 pub use form::Form;
 pub use formula::{Formula, Rule};
+pub use input_causes::RuleWhy;
 pub use kind::{Field, Kind};
 pub use laws::{one_reading_is_right, texts_of_rules_are_read, written_rules_are_read_back};
 pub use row::Row;

@@ -7,7 +7,8 @@ ghost use Rattle.rule_language.specs.Words.{only};
 ghost use Rattle.rule_language.specs.Steps.{next, accept, take, as_read, end, is_end};
 ghost use Rattle.rule_language.specs.inside.Unread.{IsNext, unread};
 
-use crate::faults::{RuleFault, RuleWhy};
+use crate::faults::RuleFault;
+use input_causes::RuleWhy;
 use hall_text::{Span, token_end};
 
 /// Whether the byte separates tokens.

@@ -21,7 +21,7 @@ ghost use Rattle.rule_language.specs.Words.{
 };
 ghost use Rattle.rule_language.specs.inside.Unread.{bindings, rule_names, checked};
 
-use crate::faults::RuleWhy;
+use input_causes::RuleWhy;
 use crate::form::Head;
 use crate::formula::Rule;
 use crate::kind::{Field, Kind, Sort};

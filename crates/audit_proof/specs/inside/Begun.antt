@@ -4,8 +4,8 @@ use Rattle.std.specs.Prelude.{Result, Ok, Err, slice_index_or}
 use Rattle.std.specs.List.{list_all, list_any}
 use Rattle.precedence.specs.Graph.{Graph}
 use Rattle.audit_proof.specs.declared.step.ProofStep.{ProofStep}
-use Rattle.audit_proof.specs.declared.fault.ProofWhy.TheVariants.{OutOfRange, NotFalling}
-use Rattle.audit_proof.specs.declared.fault.ProofWhy.TheVariants.{NotReached, NotParent}
+use Rattle.input_causes.specs.declared.proof.ProofWhy.TheVariants.{OutOfRange, NotFalling}
+use Rattle.input_causes.specs.declared.proof.ProofWhy.TheVariants.{NotReached, NotParent}
 use Rattle.audit_proof.specs.declared.reading.Unread.{Unread}
 use Rattle.audit_proof.specs.declared.reading.Unread.TheVariants.{Why, Memory}
 use Rattle.audit_proof.specs.declared.reading.LineSteps.{LineSteps}

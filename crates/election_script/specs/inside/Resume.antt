@@ -3,8 +3,8 @@ use Rattle.std.specs.Prelude.{ℕ, ◌+◌, ◌==◌, not, nat_le, nat_lt, Bool,
 use Rattle.std.specs.Prelude.{Option, Some, None, unwrap_or, Result, Ok, Err}
 use Rattle.entry_format.specs.declared.deed.Deed.{Deed}
 use Rattle.lms_ots.specs.declared.kind.OtsKind.TheVariants.{W1}
-use Rattle.election_script.specs.declared.faults.ScriptWhy.TheVariants.{OutOfOrder, NotOneSupervisor, OutOfRange}
-use Rattle.election_script.specs.declared.faults.ScriptWhy.TheVariants.{UnknownWord}
+use Rattle.input_causes.specs.declared.script.ScriptWhy.TheVariants.{OutOfOrder, NotOneSupervisor, OutOfRange}
+use Rattle.input_causes.specs.declared.script.ScriptWhy.TheVariants.{UnknownWord}
 use Rattle.election_script.specs.declared.kinds.Kind.{Kind}
 use Rattle.election_script.specs.declared.kinds.Kind.TheVariants as kind
 use Rattle.election_script.specs.declared.draft.Line.{Line}

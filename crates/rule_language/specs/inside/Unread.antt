@@ -6,7 +6,7 @@ use Rattle.hall_text.specs.Spans.{piece}
 use Rattle.hall_text.specs.Places.{CutsNoWord}
 use Rattle.rule_language.specs.declared.scope.Scope.{Scope as CodeScope, Empty, With'}
 use Rattle.rule_language.specs.declared.formula.Rule.{Rule}
-use Rattle.rule_language.specs.declared.faults.RuleWhy.{RuleWhy}
+use Rattle.input_causes.specs.declared.rules.RuleWhy.{RuleWhy}
 use Rattle.rule_language.specs.Scopes.{Scope}
 use Rattle.rule_language.specs.Tokens.{Token, Row, token_then, bad_byte, text_end, row_from}
 
