@@ -13,10 +13,10 @@ ghost use Rattle.audit_proof.specs.inside.Begun.{
 };
 ghost use Rattle.audit_proof.specs.inside.Closed.{closed_at};
 
-use input_causes::ProofWhy;
 use crate::packed::PackedLine;
 use crate::reading::{LineSteps, Numbered, Unread, read_number_after, read_words, rest_from};
 use crate::step::ProofStep;
+use input_causes::ProofWhy;
 use precedence::Arrows;
 use std::alloc::Global;
 

@@ -20,9 +20,9 @@ ghost use Rattle.audit_proof.specs.Reading.{number_after, step_of_word, words_on
 ghost use Rattle.audit_proof.specs.inside.Bytes.{Follows, HasNo};
 ghost use Rattle.audit_proof.specs.inside.Begun.{IsNumbered, IsWordsAnswer, step_tests};
 
-use input_causes::ProofWhy;
 use crate::step::ProofStep;
 use hall_text::decimal;
+use input_causes::ProofWhy;
 use precedence::Arrows;
 use std::alloc::{AllocError, AllocFailed, Global};
 

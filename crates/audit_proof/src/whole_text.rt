@@ -7,11 +7,11 @@ ghost use Rattle.audit_proof.specs.inside.Bytes.{Follows, HasNo};
 ghost use Rattle.audit_proof.specs.inside.Lists.{IsLineAt, fault_of};
 
 use crate::fault::ProofFault;
-use input_causes::ProofWhy;
 use crate::lines::read_line;
 use crate::packed::entry_of;
 use crate::proof::Proof;
 use crate::reading::{Unread, find_byte, is_word, piece, read_number_after, rest_from};
+use input_causes::ProofWhy;
 use precedence::Arrows;
 use std::alloc::Global;
 

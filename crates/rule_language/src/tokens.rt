@@ -8,8 +8,8 @@ ghost use Rattle.rule_language.specs.Steps.{next, accept, take, as_read, end, is
 ghost use Rattle.rule_language.specs.inside.Unread.{IsNext, unread};
 
 use crate::faults::RuleFault;
-use input_causes::RuleWhy;
 use hall_text::{Span, token_end};
+use input_causes::RuleWhy;
 
 /// Whether the byte separates tokens.
 fn is_separator(byte: u8) -> bool

@@ -21,13 +21,13 @@ ghost use Rattle.rule_language.specs.Words.{
 };
 ghost use Rattle.rule_language.specs.inside.Unread.{bindings, rule_names, checked};
 
-use input_causes::RuleWhy;
 use crate::form::Head;
 use crate::formula::Rule;
 use crate::kind::{Field, Kind, Sort};
 use crate::scope::Scope;
 use crate::term::Term;
 use hall_text::decimal;
+use input_causes::RuleWhy;
 use roster::Role;
 
 /// Whether the byte is a lower-case letter.
