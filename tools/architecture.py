@@ -41,7 +41,7 @@ audit_proof    rule_engine     rule_exactness   rule_meaning    rule_language
 entry_graph    precedence      survivor_rows    entry_order     held_counts
 -----
 .              log_files       .                entangled_log   log_frontier
-roster         .               entry_format     .               .
+roster         input_causes    entry_format     .               .
 -----
 .              .               .                .               office_key
 item_list      canonical_sexp  .                lms_sign        hss_sign

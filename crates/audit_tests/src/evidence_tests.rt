@@ -1,5 +1,5 @@
 //! Rosters and logs over a store in memory. Texts are written by hand.
-use evidence::{AuditFault, graph_from, graph_of, read_logs, read_roster};
+use evidence::{InputFault, graph_from, graph_of, read_logs, read_roster};
 use hall_outside::MemoryStore;
 use log_files::LogRead;
 use precedence::Arrows;
@@ -38,7 +38,7 @@ fn owners_of(alloc: Global, logs: &[LogRead]) -> Result<String, AllocError> {
 }
 
 /// The owners of the logs, and how many survivors each of their graphs has.
-fn shown(alloc: Global, logs: Vec<LogRead>) -> Result<String, AuditFault> {
+fn shown(alloc: Global, logs: Vec<LogRead>) -> Result<String, InputFault> {
     let owners = owners_of(alloc, logs.as_slice())?;
     let copied = graph_of(alloc, logs.as_slice())?.count();
     let moved = graph_from(alloc, logs)?.count();
@@ -46,7 +46,7 @@ fn shown(alloc: Global, logs: Vec<LogRead>) -> Result<String, AuditFault> {
 }
 
 /// What is shown of the roster in the first file and the logs in the others.
-fn read(alloc: Global, store: &mut MemoryStore, files: &str) -> Result<String, AuditFault> {
+fn read(alloc: Global, store: &mut MemoryStore, files: &str) -> Result<String, InputFault> {
     let (roster, rest) = files.split_once(" ").unwrap_or((files, ""));
     let names = names_of(alloc, rest)?;
     let read = read_roster(alloc, store, roster)?;

@@ -1,7 +1,7 @@
 -- The steps of an audit, joined.
 use Rattle.auditor.proofs.Imports.{◌≡◌, ℕ, List, ◌++◌, map, Option, Some, None, inl, inr, refl, ap, subst, Result, Ok}
 use Rattle.auditor.proofs.Imports.{Err, IfSome, codes, StoreGhosts, IsFileRefused, Post, LogRead, SealedEntry}
-use Rattle.auditor.proofs.Imports.{EntryGraph, Row, RuleTree, rule_tree, standard_rules, AuditFault, RosterRead}
+use Rattle.auditor.proofs.Imports.{EntryGraph, Row, RuleTree, rule_tree, standard_rules, InputFault, RosterRead}
 use Rattle.auditor.proofs.Imports.{GivesRoster, refused, too_long, refusal_of, IsFaultOf, IsReadFromFile}
 use Rattle.auditor.proofs.Imports.{of_refusal, Unjudged, Begun, HasBegun, HasRules, WithRoster, WithRules, IsUnjudged}
 use Rattle.auditor.proofs.Imports.{row_of, report_of, RuleSource, standard, in_file, source_word, rule_files, max_rules}
@@ -13,7 +13,7 @@ use Rattle.auditor.proofs.Chained.{file_joins, rules_then, standard_then}
 -- a rule that is too wide is reported by its place
 pub too_wide_gives : (machines : List Post) (source : RuleSource) (trees given : List RuleTree) (names : List (List ℕ))
     (logs : List LogRead) (graph : EntryGraph SealedEntry) (rows : List Row) (unjudged : Unjudged) (place : ℕ)
-    (word : List ℕ) (fault : AuditFault) → rows ≡ map (row_of machines) graph.survivors → given ≡ trees →
+    (word : List ℕ) (fault : InputFault) → rows ≡ map (row_of machines) graph.survivors → given ≡ trees →
     IsUnjudged rows given unjudged → unjudged ≡ TooWide place → word ≡ source_word source →
     IsFaultOf (refused word place (codes "TooWide")) fault →
     IfSome (refusal_of fault) (λ refusal. WithGraph machines source trees names logs graph (Err refusal))
@@ -54,7 +54,7 @@ module _ {S : Type 0} (of : StoreGhosts S) where
 
   -- once the roster and the rules are read, the audit has begun
   pub begun_after : (roster : List ℕ) (source : RuleSource) (old mid : S) (read : RosterRead)
-      (result : Result Begun AuditFault) (new : S) →
+      (result : Result Begun InputFault) (new : S) →
       IsReadFromFile of (λ (r : RosterRead). r) roster (GivesRoster roster) old (Ok read) mid →
       HasRules of read source mid result new → HasBegun of roster source old result new
   begun_after roster source old mid read (Ok begun) new first rest = λ names answer last end.

@@ -1,13 +1,13 @@
 -- Steps that read and steps that don't, one after another.
 use Rattle.auditor.proofs.Imports.{◌≡◌, ◌≢◌, ℕ, List, [], ◌∷◌, ◌++◌, length, Option, inl, inr, refl, sym, subst, arith}
 use Rattle.auditor.proofs.Imports.{IfErr-weaker, IfOk-weaker, Result, Ok, Err, IfOk, IfErr, IfSome, StoreGhosts}
-use Rattle.auditor.proofs.Imports.{RuleTree, standard_rules, AuditFault, ReadFault, IsAbsent, Refusal, refusal_of}
+use Rattle.auditor.proofs.Imports.{RuleTree, standard_rules, InputFault, ReadFault, IsAbsent, Refusal, refusal_of}
 use Rattle.auditor.proofs.Imports.{OnOneFile, IsReadFrom, IsReadFromFile, on_refusal, one_first, read_then, read_ends}
 use Rattle.auditor.proofs.Imports.{read_last, read_refused, RuleSource, standard, in_file, rule_files, GivesRules}
 use Rattle.auditor.proofs.Imports.{AndThen, FileThen, RulesThen}
 
 -- a refusal's promise, by another one that implies it
-pub err_by : {T : Type 0} (result : Result T AuditFault) (P Q : Refusal → Type 0) → ((r : Refusal) → P r → Q r) →
+pub err_by : {T : Type 0} (result : Result T InputFault) (P Q : Refusal → Type 0) → ((r : Refusal) → P r → Q r) →
     IfErr result (λ fault. IfSome (refusal_of fault) P) → IfErr result (λ fault. IfSome (refusal_of fault) Q)
 err_by result P Q step = IfErr-weaker result _ _ (λ fault. on_refusal P Q (refusal_of fault) step)
 
@@ -33,7 +33,7 @@ module _ {S A X B Y : Type 0} (of : StoreGhosts S) (value : A → X) (names : Li
   Both files answer = AndThen (First files) Next answer
 
   -- what was found is the ground of a step that reads nothing
-  pub and_then : (found : A) (result : Result B AuditFault) → IsReadFrom of value names First old (Ok found) new
+  pub and_then : (found : A) (result : Result B InputFault) → IsReadFrom of value names First old (Ok found) new
       → IfOk result (λ b. Next (value found) (Ok (other b)))
       → IfErr result (λ fault. IfSome (refusal_of fault) (λ refusal. Next (value found) (Err refusal)))
       → IfErr result (λ fault. (fault ≢ ReadFault) × (¬ IsAbsent fault))
@@ -44,7 +44,7 @@ module _ {S A X B Y : Type 0} (of : StoreGhosts S) (value : A → X) (names : Li
       (err_by result _ _ (λ refusal is files long gives. inl (value found, gives, is)) err) only
 
   -- a refusal of the first step is that of both
-  pub and_refused : (fault : AuditFault) → IsReadFrom of value names First old (Err fault) new
+  pub and_refused : (fault : InputFault) → IsReadFrom of value names First old (Err fault) new
       → IsReadFrom of other names Both old (Err fault) new
   and_refused fault first =
       read_refused of value names First other Both old new fault first
@@ -58,7 +58,7 @@ module _ {S A X B Y : Type 0} (of : StoreGhosts S) (value : A → X) (Gives : Op
 
   module _ (Rest : X → List (Option (List ℕ)) → Result Y Refusal → Type 0) (names : List (List ℕ)) where
     -- a file is read, and then the others
-    pub file_joins : (old mid new : S) (found : A) (result : Result B AuditFault)
+    pub file_joins : (old mid new : S) (found : A) (result : Result B InputFault)
         → IsReadFromFile of value name Gives old (Ok found) mid
         → IsReadFrom of other names (Rest (value found)) mid result new
         → IsReadFrom of other (name ∷ names) (FileThen Gives Rest) old result new
@@ -69,7 +69,7 @@ module _ {S A X B Y : Type 0} (of : StoreGhosts S) (value : A → X) (Gives : Op
         (λ fs. FileThen Gives Rest fs answer) files rest (λ file is. inl (value found, is, with)) gives)
 
     -- a file that is refused ends it
-    pub file_ends : (old new : S) (fault : AuditFault) → IsReadFromFile of value name Gives old (Err fault) new
+    pub file_ends : (old new : S) (fault : InputFault) → IsReadFromFile of value name Gives old (Err fault) new
         → IsReadFrom of other (name ∷ names) (FileThen Gives Rest) old (Err fault) new
     file_ends old new fault first =
         read_ends of value (name ∷ []) First other names (FileThen Gives Rest) old new fault first
@@ -80,11 +80,11 @@ module _ {S B Y : Type 0} (of : StoreGhosts S) (other : B → Y)
     (Next : List RuleTree → List (Option (List ℕ)) → Result Y Refusal → Type 0) (source : RuleSource)
     (names : List (List ℕ)) where
   -- what the file of the rules, if there is one, and the other files give
-  abbrev AreRulesFirst : RuleSource → S → Result B AuditFault → S → Type 0
+  abbrev AreRulesFirst : RuleSource → S → Result B InputFault → S → Type 0
   AreRulesFirst from = IsReadFrom of other (rule_files from ++ names) (RulesThen from Next)
 
   -- the standard rules are there
-  pub standard_then : (rules : List RuleTree) (old new : S) (result : Result B AuditFault) → source ≡ standard
+  pub standard_then : (rules : List RuleTree) (old new : S) (result : Result B InputFault) → source ≡ standard
       → rules ≡ standard_rules → IsReadFrom of other names (Next rules) old result new
       → IsReadFrom of other (rule_files source ++ names) (RulesThen source Next) old result new
   standard_then rules old new result is same given =
@@ -93,7 +93,7 @@ module _ {S B Y : Type 0} (of : StoreGhosts S) (other : B → Y)
 
   module _ {R : Type 0} (trees : R → List RuleTree) (name : List ℕ) (is : source ≡ in_file name) where
     -- the rules of a file are read before the other files
-    pub rules_then : (old mid new : S) (rules : R) (result : Result B AuditFault)
+    pub rules_then : (old mid new : S) (rules : R) (result : Result B InputFault)
         → IsReadFromFile of trees name (GivesRules name) old (Ok rules) mid
         → IsReadFrom of other names (Next (trees rules)) mid result new
         → IsReadFrom of other (rule_files source ++ names) (RulesThen source Next) old result new
@@ -102,7 +102,7 @@ module _ {S B Y : Type 0} (of : StoreGhosts S) (other : B → Y)
         (file_joins of trees (GivesRules name) name other Next names old mid new rules result first next)
 
     -- a refusal of the file of the rules ends it
-    pub rules_end : (old new : S) (fault : AuditFault)
+    pub rules_end : (old new : S) (fault : InputFault)
         → IsReadFromFile of trees name (GivesRules name) old (Err fault) new
         → IsReadFrom of other (rule_files source ++ names) (RulesThen source Next) old (Err fault) new
     rules_end old new fault first =

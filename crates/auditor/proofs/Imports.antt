@@ -42,7 +42,7 @@ pub use Rattle.evidence.specs.Reading.{IsReadFrom, IsReadFromFile}
 pub use Rattle.evidence.specs.Refusal.{IsAbsent, IsFaultOf, Refusal, refusal_of, refused, too_long}
 pub use Rattle.evidence.specs.RosterFile.{GivesRoster}
 pub use Rattle.evidence.specs.Same.{Agree, SameGraph, SameLog, SameLogs}
-pub use Rattle.evidence.specs.declared.fault.AuditFault.{AuditFault}
+pub use Rattle.evidence.specs.declared.fault.InputFault.{InputFault}
 pub use Rattle.evidence.specs.declared.roster_file.RosterRead.{RosterRead}
 pub use Rattle.hall_outside.proofs.ReadFiles.{found_file}
 pub use Rattle.hall_outside.specs.ReadFile.{IsFileRefused}
@@ -97,5 +97,5 @@ pub use Rattle.std.specs.Prelude.{All, Err, IfOk, IfSome, Ok, OnOk, Result, code
 pub use Rattle.std.specs.Prelude.{◌&&◌, ◌==◌, ◌||◌, ◌⊎◌}
 pub use Rattle.std.specs.Str.{bytes_eq}
 pub use Rattle.survivor_rows.specs.Rows.{HaveMakers, row_of}
-pub use Rattle.evidence.specs.declared.fault.AuditFault.TheVariants.{ReadFault}
+pub use Rattle.evidence.specs.declared.fault.InputFault.TheVariants.{ReadFault}
 pub use Rattle.std.specs.Prelude.{IfErr, ◌≢◌}

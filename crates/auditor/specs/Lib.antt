@@ -4,6 +4,7 @@ pub mod Report
 pub mod Outcomes
 pub mod ReportText
 pub mod Sources
+pub mod AuditFaults
 pub mod Audits
 pub mod Same
 pub mod OneReport

@@ -8,6 +8,7 @@ ghost use Rattle.std.specs.Prelude.{
   IfOk,
   IfSome,
   Ok,
+  Result,
   Some,
   length,
   map,
@@ -21,16 +22,19 @@ ghost use Rattle.rule_engine.specs.Judged.{AreJudged, IsUnjudged};
 ghost use Rattle.survivor_rows.specs.Rows.{HaveMakers, row_of};
 ghost use Rattle.auditor.specs.Nodes.{nodes_of};
 ghost use Rattle.auditor.specs.inside.Begun.{AreLogsOf, HasBegun, HasRules, IsEndOf};
-ghost use Rattle.auditor.specs.Report.{report_of};
+ghost use Rattle.auditor.specs.Report.{ReportParts, report_of};
+ghost use Rattle.auditor.specs.AuditFaults.{IsReportedAs};
 ghost use Rattle.rule_language.specs.Standard.{standard_rules};
 ghost use Rattle.auditor.specs.Sources.{source_of, source_word, max_rules, GivesRules};
 ghost use Rattle.auditor.specs.Sources.{standard as standard_source};
 ghost use Rattle.auditor.specs.Audits.{WithGraph, WithLogs, GivesReport, audit_files};
 
+use crate::fault::AuditFault;
 use crate::report::Report;
 use entry_graph::Graph;
-use evidence::{AuditFault, RosterRead, file_fault, graph_of, read_logs_by, read_roster};
+use evidence::{InputFault, RosterRead, file_fault, graph_of, read_logs_by, read_roster};
 use hall_outside::{Store, read_file};
+use input_causes::Cause;
 use log_files::{EntryWork, LogRead};
 use precedence::Rows;
 use roster::Roster;
@@ -65,20 +69,20 @@ impl RulesFrom<'_> {
 const MAX_RULES: usize = 4_194_304;
 
 /// The rules of these bytes of the named file.
-fn rules_of(alloc: Global, name: &str, bytes: &[u8]) -> Result<Vec<Rule>, AuditFault>
+fn rules_of(alloc: Global, name: &str, bytes: &[u8]) -> Result<Vec<Rule>, InputFault>
     requires { length bytes.now ≤ max_rules }
     ensures ok { IfOk result (λ rules.
         GivesRules name.now (Some bytes.now) (Ok (map rule_tree rules.items))) }
     ensures err { IfErr result (λ fault. IfSome (refusal_of fault)
         (λ refusal. GivesRules name.now (Some bytes.now) (Err refusal))) }
-    ensures only { IfErr result (λ fault. (fault ≢ AuditFault.ReadFault) × (¬ IsAbsent fault)) }
+    ensures only { IfErr result (λ fault. (fault ≢ InputFault.ReadFault) × (¬ IsAbsent fault)) }
 {
     match read(alloc, bytes) {
         Ok(rules) => Ok(rules),
         Err(RuleFault::At { at, why }) => {
-            Err(AuditFault::refused(alloc, name, at as u64, why.word()))
+            Err(InputFault::refused(alloc, name, at as u64, Cause::Rules(why)))
         }
-        Err(RuleFault::Memory) => Err(AuditFault::Memory),
+        Err(RuleFault::Memory) => Err(InputFault::Memory),
     }
 }
 
@@ -93,7 +97,7 @@ pub fn read_rules<S: Store>(
     alloc: Global,
     store: &mut S,
     name: &str,
-) -> Result<Vec<Rule>, AuditFault>
+) -> Result<Vec<Rule>, InputFault>
     ensures { IsReadFromFile S.Store (λ rules. map rule_tree rules.items) name.now
         (GivesRules name.now) store.old result store.new }
 {
@@ -143,7 +147,7 @@ fn with_graph(
     files: Vec<String>,
     logs: Vec<LogRead>,
     graph: Graph,
-) -> Result<Report, AuditFault>
+) -> Result<Report, InputFault>
     requires one_each { length files.items ≡ length logs.items }
     requires makers { HaveMakers roster.machines graph.survivors }
     requires graphed { GivesGraph (entries_of logs.items) (Ok graph) }
@@ -153,14 +157,14 @@ fn with_graph(
     ensures err { IfErr result (λ fault. IfSome (refusal_of fault) (λ refusal.
         WithGraph roster.machines (source_of from.entry) (map rule_tree rules.items)
         (map string_bytes files.items) logs.items graph (Err refusal))) }
-    ensures only { IfErr result (λ fault. (fault ≢ AuditFault.ReadFault) × (¬ IsAbsent fault)) }
+    ensures only { IfErr result (λ fault. (fault ≢ InputFault.ReadFault) × (¬ IsAbsent fault)) }
 {
     match judge_graph(alloc, &roster, rules.as_slice(), &graph) {
         Ok(verdicts) => Ok(Report::new(roster, files, logs, graph, rules, verdicts)),
         Err(Unjudged::TooWide { place }) => {
-            Err(AuditFault::refused(alloc, from.word(), place as u64, "TooWide"))
+            Err(InputFault::refused(alloc, from.word(), place as u64, Cause::TooWide))
         }
-        Err(Unjudged::Memory) => Err(AuditFault::Memory),
+        Err(Unjudged::Memory) => Err(InputFault::Memory),
     }
 }
 
@@ -172,7 +176,7 @@ fn with_logs(
     rules: Vec<Rule>,
     names: &[String],
     logs: Vec<LogRead>,
-) -> Result<Report, AuditFault>
+) -> Result<Report, InputFault>
     requires one_each { length names.now ≡ length logs.items }
     requires makers { HaveMakers roster.machines (entries_of logs.items) }
     ensures ok { IfOk result (λ report. WithLogs roster.machines (source_of from.entry)
@@ -181,7 +185,7 @@ fn with_logs(
     ensures err { IfErr result (λ fault. IfSome (refusal_of fault) (λ refusal.
         WithLogs roster.machines (source_of from.entry) (map rule_tree rules.items)
         (map string_bytes names.now) logs.items (Err refusal))) }
-    ensures only { IfErr result (λ fault. (fault ≢ AuditFault.ReadFault) × (¬ IsAbsent fault)) }
+    ensures only { IfErr result (λ fault. (fault ≢ InputFault.ReadFault) × (¬ IsAbsent fault)) }
 {
     let files = copies(alloc, names)?;
     match graph_of(alloc, logs.as_slice()) {
@@ -202,7 +206,7 @@ pub fn audit_logs(
     roster: Roster,
     names: &[String],
     logs: Vec<LogRead>,
-) -> Result<Report, AuditFault>
+) -> Result<Report, InputFault>
     requires one_each { length names.now ≡ length logs.items }
     requires makers { HaveMakers roster.machines (entries_of logs.items) }
     ensures ok { IfOk result (λ report. WithLogs roster.machines standard_source standard_rules
@@ -210,11 +214,11 @@ pub fn audit_logs(
     ensures err { IfErr result (λ fault. IfSome (refusal_of fault) (λ refusal.
         WithLogs roster.machines standard_source standard_rules
         (map string_bytes names.now) logs.items (Err refusal))) }
-    ensures only { IfErr result (λ fault. (fault ≢ AuditFault.ReadFault) × (¬ IsAbsent fault)) }
+    ensures only { IfErr result (λ fault. (fault ≢ InputFault.ReadFault) × (¬ IsAbsent fault)) }
 {
     match standard(alloc) {
         Ok(rules) => with_logs(alloc, roster, RulesFrom::Standard, rules, names, logs),
-        Err(_) => Err(AuditFault::Memory),
+        Err(_) => Err(InputFault::Memory),
     }
 }
 
@@ -231,13 +235,13 @@ fn with_roster<S: Store>(
     store: &mut S,
     read: RosterRead,
     from: RulesFrom<'_>,
-) -> Result<Begun, AuditFault>
+) -> Result<Begun, InputFault>
     ensures { HasRules S.Store read (source_of from.entry) store.old result store.new }
 {
     match from {
         RulesFrom::Standard => match standard(alloc) {
             Ok(rules) => Ok(Begun { read, rules }),
-            Err(_) => Err(AuditFault::Memory),
+            Err(_) => Err(InputFault::Memory),
         },
         RulesFrom::File(name) => match read_rules(alloc, store, name) {
             Ok(rules) => Ok(Begun { read, rules }),
@@ -252,7 +256,7 @@ fn begin<S: Store>(
     store: &mut S,
     roster: &str,
     from: RulesFrom<'_>,
-) -> Result<Begun, AuditFault>
+) -> Result<Begun, InputFault>
     ensures { HasBegun S.Store roster.now (source_of from.entry) store.old result store.new }
 {
     match read_roster(alloc, store, roster) {
@@ -267,8 +271,8 @@ fn finish<S: Store>(
     begun: Begun,
     from: RulesFrom<'_>,
     names: &[String],
-    logs: Result<Vec<LogRead>, AuditFault>,
-) -> Result<Report, AuditFault>
+    logs: Result<Vec<LogRead>, InputFault>,
+) -> Result<Report, InputFault>
     requires { (before : S) × (after : S)
         × AreLogsOf S.Store begun (map string_bytes names.now) before logs after }
     ensures { (before after : S) →
@@ -300,15 +304,19 @@ pub fn audit<S: Store>(
     rules: RulesFrom<'_>,
     logs: &[String],
 ) -> Result<Report, AuditFault>
-    ensures { IsReadFrom S.Store report_of
+    ensures { (found : Result ReportParts InputFault) × (IsReadFrom S.Store report_of
         (audit_files roster.now (source_of rules.entry) (map string_bytes logs.now))
         (GivesReport roster.now (source_of rules.entry) (map string_bytes logs.now))
-        store.old result store.new }
+        store.old found store.new × IsReportedAs found result) }
 {
-    audit_by(&Alone, alloc, store, roster, rules, logs)
+    match audit_by(&Alone, alloc, store, roster, rules, logs) {
+        Ok(report) => Ok(report),
+        Err(fault) => Err(AuditFault::of(alloc, fault)),
+    }
 }
 
-/// The audit of `audit`, for which the logs are read in this way of work.
+/// The audit of `audit`, for which the logs are read in this way of work, and whose refusals name
+/// their causes by their types.
 ///
 /// # Errors
 ///
@@ -320,7 +328,7 @@ pub fn audit_by<W: EntryWork, S: Store>(
     roster: &str,
     rules: RulesFrom<'_>,
     logs: &[String],
-) -> Result<Report, AuditFault>
+) -> Result<Report, InputFault>
     requires { W.may_share work.now }
     ensures { IsReadFrom S.Store report_of
         (audit_files roster.now (source_of rules.entry) (map string_bytes logs.now))

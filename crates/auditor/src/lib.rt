@@ -3,13 +3,15 @@
 #![tactic(auto)]
 
 mod auditing;
+mod fault;
 mod laws;
 mod lines;
 mod outcome;
 mod report;
 
 pub use auditing::{RulesFrom, audit, audit_by, audit_logs, read_rules};
-pub use evidence::AuditFault;
+pub use evidence::InputFault;
+pub use fault::AuditFault;
 pub use laws::{files_give_one_report, plain_rules};
 pub use outcome::{Outcome, outcome_of};
 pub use report::{Report, write_report};

@@ -2,7 +2,8 @@
 
 use crate::survivors::survivors;
 use auditorium_core::Status;
-use command_hints::{Hint, hint_on};
+use command_hints::{Hint, hint_on, usage_hint};
+use evidence::InputFault;
 use hall_outside::{FolderStore, read_file};
 use std::alloc::Global;
 use std::fs::{self, File};
@@ -22,16 +23,16 @@ pub(crate) fn hint<R: Files<File = File> + Eprint + AllocGlobal + Threads + Sync
     rt: &R,
     status: Status,
     words: Option<&[String]>,
-    line: &[u8],
+    fault: Option<&InputFault>,
 ) {
-    if !matches!(status, Status::Usage | Status::Refused | Status::Absent) {
-        return;
-    }
-    let Ok(line) = str::from_utf8(line) else {
-        return;
+    let given = words.unwrap_or(&[]);
+    let hint = match (status, fault) {
+        (Status::Usage, _) => Some(usage_hint(rt.alloc(), words)),
+        (Status::Refused | Status::Absent, Some(fault)) => hint_on("auditorium", given, fault),
+        _ => None,
     };
-    if let Some(hint) = hint_on(rt.alloc(), "auditorium", words, line) {
-        let _ = write_hint(rt, words.unwrap_or(&[]), &hint);
+    if let Some(hint) = hint {
+        let _ = write_hint(rt, given, &hint);
     }
 }
 

@@ -5,14 +5,14 @@
 
 mod ending;
 mod endorsement;
+mod heard;
 mod hinting;
-mod kept_sink;
 mod survivors;
 
 use crate::ending::{after_name, carry_out};
 use crate::endorsement::{check_endorsement, office_of_others, warn_of_others};
+use crate::heard::Heard;
 use crate::hinting::hint;
-use crate::kept_sink::KeptSink;
 use auditorium_core::Status;
 use hall_outside::{Failure, FolderStore, OpenGate, OutputSink};
 use std::env;
@@ -67,7 +67,8 @@ fn main(rt: HostRuntime) -> ExitCode {
     let line = given.as_ref().map(|line| line.as_slice());
     let words = line.map(|line| after_name(line));
     let office = office_of_others(&rt, words.unwrap_or(&[]));
-    let mut out = KeptSink::over(OutputSink::make(&rt));
+    let mut out = OutputSink::make(&rt);
+    let mut heard = Heard { fault: None };
     let ended = carry_out(
         &rt,
         rt.alloc(),
@@ -75,9 +76,10 @@ fn main(rt: HostRuntime) -> ExitCode {
         &mut store,
         &mut out,
         &OpenGate,
+        &mut heard,
     );
-    report(&rt, ended.status, store.failure(), out.sink().failure());
-    hint(&rt, ended.status, words, out.first_line());
+    report(&rt, ended.status, store.failure(), out.failure());
+    hint(&rt, ended.status, words, heard.fault.as_ref());
     check_endorsement(&rt, ended.status, words.unwrap_or(&[]));
     warn_of_others(&rt, &office);
     ExitCode::from(ended.number)

@@ -5,7 +5,7 @@ use Rattle.auditorium_core.proofs.Imports.{count_by, cases_lt, length-map, nil_f
 use Rattle.auditorium_core.proofs.Imports.{sum_by-cons, text_of, roster_tree, node_of_sealed, Distinct, history}
 use Rattle.auditorium_core.proofs.Imports.{sent_in, Contains-head, Contains-later, Script, generated, IsLawful}
 use Rattle.auditorium_core.proofs.Imports.{standard_rules, roster_of, MachineState, IsPlayed, machine_of, world_of}
-use Rattle.auditorium_core.proofs.Imports.{AuditFault, Refusal, refusal_of, IsLeftIn, GivesReport, is_broken}
+use Rattle.auditorium_core.proofs.Imports.{InputFault, Refusal, refusal_of, IsLeftIn, GivesReport, is_broken}
 use Rattle.auditorium_core.proofs.Imports.{is_unsettled, AuditReport, standard, SaysNoneBroken, Demonstration, IsKeptOf}
 use Rattle.auditorium_core.proofs.Imports.{IsAudited, IsDemonstrationOf, IsRefusedSo, is_kept, log_name, kept_is_left}
 use Rattle.auditorium_core.proofs.Imports.{some_machine, Fault, Answer, IsAnswerOfShown, IsDemonstrationAnswer}
@@ -184,7 +184,7 @@ module _ (sessions half : ℕ) (script : Script) (same : script ≡ generated se
       of_shown answer (inr (shown, subst (λ (s : Script). IsDemonstrationOf s half shown) same is, told))
 
   -- a refusal of the kept log is answered
-  pub refusal_told : (fault : AuditFault) (result : Result Answer Fault) →
+  pub refusal_told : (fault : InputFault) (result : Result Answer Fault) →
       IfSome (refusal_of fault) (IsRefusedSo script half) → IfOk result (IsAnswerOfFault fault) →
       IfOk result (IsDemonstrationAnswer sessions)
   refusal_told fault (Ok answer) so told =

@@ -67,7 +67,7 @@ pub use Rattle.evidence.specs.NamedFiles.{OnExposed, OnRead}
 pub use Rattle.evidence.proofs.OnReads.{none_read, on_exposed, on_weaker}
 pub use Rattle.evidence.specs.Refusal.{Refusal, absent, refusal_of, refused}
 pub use Rattle.evidence.specs.Same.{Agree}
-pub use Rattle.evidence.specs.declared.fault.AuditFault.{AuditFault}
+pub use Rattle.evidence.specs.declared.fault.InputFault.{InputFault}
 pub use Rattle.finished_floor.specs.declared.loss.Loss.{Loss}
 pub use Rattle.hall_outside.proofs.FileLists.{eq_self}
 pub use Rattle.hall_outside.specs.Counts.{ComesExactly, HasRisen}

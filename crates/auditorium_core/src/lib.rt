@@ -11,7 +11,7 @@ mod program;
 mod requests;
 mod words;
 
-pub use command_line::Status;
+pub use command_line::{Listener, Status};
 pub use laws::{
     answers_are_complete, answers_are_over_exposed_files, answers_as_read_are_complete,
     histories_determine_answers, one_answer_is_right, only_runs_need_threads,
@@ -20,4 +20,4 @@ pub use laws::{
 pub use office_laws::{
     endorsements_are_called_good, endorsements_leave_three_states, numbers_sign_once,
 };
-pub use program::{auditorium, auditorium_still};
+pub use program::{auditorium, auditorium_heard, auditorium_still};

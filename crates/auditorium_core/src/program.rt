@@ -1,6 +1,7 @@
 // From the words of the command line to the bytes that go out.
 ghost use Rattle.std.specs.Prelude.{◌≡◌, ℕ, List, IfNone, IfSome, map, string_bytes};
 ghost use Rattle.auditorium_core.specs.Outcome.{HasDone, IsGivenBy};
+ghost use Rattle.command_line.specs.Heard.{HasHeard, IsSaid};
 ghost use Rattle.command_line.specs.Outside.{outside};
 ghost use Rattle.auditorium_core.specs.Words.{IsAny, IsStill, Means, command_parts, run};
 ghost use Rattle.auditorium_core.specs.inside.Meaning.{asked};
@@ -9,7 +10,7 @@ ghost use Rattle.command_line.specs.Promise.{IsAnsweredBy};
 
 use crate::demonstrating::demonstrate;
 use crate::words::{Request, request_of};
-use command_line::{Answer, Fault, Status, end_with};
+use command_line::{Answer, Fault, Listener, Nobody, Status, end_heard};
 use hall_outside::{Gate, Sink, Store};
 use lms_sign::LeafWork;
 use log_commands::audit::audit;
@@ -33,8 +34,8 @@ use ways_of_work::{Alone, InThreads};
 
 /// Does what the words ask for, and answers how the program ends: each command. `run` plays a
 /// script in threads; `play`, `repair`, `demo`, `run`, `office` and `endorse` make their keys in
-/// threads, and `audit`, `order`, `prove`, `check` and `watch` verify signatures in threads. It reads
-/// the files that the words name, and takes all its memory before it writes. It may wait.
+/// threads, and `audit`, `order`, `prove`, `check` and `watch` verify signatures in threads. It
+/// reads the files that the words name, and takes all its memory before it writes. It may wait.
 pub fn auditorium<R: Threads + Wait + Sync, S: Store, K: Sink, G: Gate + Sync>(
     rt: &R,
     alloc: Global,
@@ -48,12 +49,32 @@ pub fn auditorium<R: Threads + Wait + Sync, S: Store, K: Sink, G: Gate + Sync>(
         (outside S.Store K.Sink store.old out.old) result
         (outside S.Store K.Sink store.new out.new) }
 {
+    auditorium_heard(rt, alloc, words, store, out, gate, &mut Nobody)
+}
+
+/// `auditorium`, of which a listener hears why an input was refused, or that it isn't there.
+pub fn auditorium_heard<R: Threads + Wait + Sync, S: Store, K: Sink, G: Gate + Sync, N: Listener>(
+    rt: &R,
+    alloc: Global,
+    words: &[String],
+    store: &mut S,
+    out: &mut K,
+    gate: &G,
+    listener: &mut N,
+) -> Status
+    ensures done { HasDone IsAny (map string_bytes words.now)
+        (IsGivenBy S.Store K.Sink store.old out.old store.new out.new)
+        (outside S.Store K.Sink store.old out.old) result
+        (outside S.Store K.Sink store.new out.new) }
+    ensures heard { HasHeard N.hears (IsSaid (K.written out.old) result (K.written out.new))
+        listener.old listener.new }
+{
     match run_of(words) {
         Some((script, prefix)) => {
             let answer = run(rt, alloc, gate, store, script, prefix);
-            end_with(&answer, store, out)
+            end_heard(answer, store, out, listener)
         }
-        None => done_by(&InThreads { rt }, alloc, words, store, out),
+        None => done_by(&InThreads { rt }, alloc, words, store, out, listener),
     }
 }
 
@@ -70,25 +91,28 @@ pub fn auditorium_still<S: Store, K: Sink>(
         (outside S.Store K.Sink store.old out.old) result
         (outside S.Store K.Sink store.new out.new) }
 {
-    done_by(&Alone, alloc, words, store, out)
+    done_by(&Alone, alloc, words, store, out, &mut Nobody)
 }
 
 /// Does what the words ask for in this way of work, but for `run`, which is none of the commands.
-fn done_by<W: LeafWork + EntryWork, S: Store, K: Sink>(
+fn done_by<W: LeafWork + EntryWork, S: Store, K: Sink, N: Listener>(
     work: &W,
     alloc: Global,
     words: &[String],
     store: &mut S,
     out: &mut K,
+    listener: &mut N,
 ) -> Status
     requires { W.may_share work.now }
-    ensures { HasDone IsStill (map string_bytes words.now)
+    ensures done { HasDone IsStill (map string_bytes words.now)
         (IsGivenBy S.Store K.Sink store.old out.old store.new out.new)
         (outside S.Store K.Sink store.old out.old) result
         (outside S.Store K.Sink store.new out.new) }
+    ensures heard { HasHeard N.hears (IsSaid (K.written out.old) result (K.written out.new))
+        listener.old listener.new }
 {
     let answer = answer_of(work, alloc, words, store);
-    end_with(&answer, store, out)
+    end_heard(answer, store, out, listener)
 }
 
 /// The script and the prefix of a run, if the words are for one.

@@ -2,8 +2,8 @@
 use Rattle.std.proofs.Common.{◌≡◌, ◌≢◌, ◌∙◌, ◌↔◌, ℕ, List, Option, Some, sym, ap, subst}
 use Rattle.std.specs.Prelude.{Result, Ok, Err, IfOk, IfErr}
 use Rattle.hall_outside.specs.declared.stores.Store.{Ghosts as StoreGhosts}
-use Rattle.evidence.specs.declared.fault.AuditFault.{AuditFault}
-use Rattle.evidence.specs.declared.fault.AuditFault.TheVariants as audit
+use Rattle.evidence.specs.declared.fault.InputFault.{InputFault}
+use Rattle.evidence.specs.declared.fault.InputFault.TheVariants as audit
 use Rattle.evidence.specs.Refusal.{Refusal}
 use Rattle.evidence.specs.Reading.{IsReadFrom}
 use Rattle.auditor.specs.Report.{AuditReport, ReportParts, report_of}
@@ -35,13 +35,13 @@ module _ {S : Type 0} (of : StoreGhosts S) (digests : List (Option (List ℕ))) 
   IsFor report answer = answer ≡ view_answer digests request report
 
   -- what is read for the request, where the rules come from this source
-  abbrev IsReadBy : RuleSource → Result ReportParts AuditFault → Type 0
+  abbrev IsReadBy : RuleSource → Result ReportParts InputFault → Type 0
   IsReadBy source audited =
       IsReadFrom of report_of (audit_files request.roster source request.logs)
       (GivesReport request.roster source request.logs) old audited new
 
   -- a refused reading is answered
-  pub refused_by : (source : RuleSource) (fault : AuditFault) (result : Result Answer Fault) →
+  pub refused_by : (source : RuleSource) (fault : InputFault) (result : Result Answer Fault) →
       source ≡ source_named request.rules → IsReadBy source (Err fault) → IfOk result (IsAnswerOfFault fault) →
       IfErr result (λ why. (why ≡ ReadFault) ↔ (fault ≡ audit.ReadFault)) →
       IsViewedBy of digests (Some request) old result new

@@ -4,6 +4,7 @@ ghost use Rattle.auditorium_view.specs.Shown.{HasShown};
 
 use crate::viewing::view;
 use command_line::{Answer, Fault, Status, end_with};
+use evidence::InputFault;
 use hall_outside::{Sink, Store};
 use std::alloc::Global;
 
@@ -31,11 +32,11 @@ pub(crate) fn show<S: Store, K: Sink>(
 }
 
 impl Ended {
-    /// The output, if there is an answer.
-    pub fn output(&self) -> &[u8] {
+    /// Why an input was refused, or that it isn't there, if the answer says so.
+    pub fn fault(&self) -> Option<&InputFault> {
         match &self.answer {
-            Ok(answer) => answer.output(),
-            Err(_) => &[],
+            Ok(answer) => answer.fault(),
+            Err(_) => None,
         }
     }
 }

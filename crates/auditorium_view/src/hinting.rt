@@ -2,6 +2,7 @@
 use crate::words::PICTURE;
 use command_hints::{Hint, hint_on};
 use command_line::Status;
+use evidence::InputFault;
 use hall_outside::{Failure, FolderStore, read_file};
 use std::alloc::{AllocError, Global};
 use std::fs::{self, File};
@@ -51,7 +52,7 @@ pub(crate) fn hint<R: Files<File = File> + Eprint + AllocGlobal>(
     rt: &R,
     status: Status,
     words: &[String],
-    line: &[u8],
+    fault: Option<&InputFault>,
 ) {
     if matches!(status, Status::Usage) {
         let _ = eprintln!(rt;
@@ -61,13 +62,13 @@ LOG.. 1 to 16 logs"
         );
         return;
     }
-    if !matches!(status, Status::Refused | Status::Absent) {
-        return;
-    }
-    let (Ok(line), Ok(words)) = (str::from_utf8(line), audit_words(rt.alloc(), words)) else {
+    let (Some(fault), Status::Refused | Status::Absent) = (fault, status) else {
         return;
     };
-    if let Some(hint) = hint_on(rt.alloc(), "auditorium_view", Some(words.as_slice()), line) {
+    let Ok(words) = audit_words(rt.alloc(), words) else {
+        return;
+    };
+    if let Some(hint) = hint_on("auditorium_view", words.as_slice(), fault) {
         let _ = write_hint(rt, &hint);
     }
 }

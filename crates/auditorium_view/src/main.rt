@@ -55,6 +55,6 @@ fn main(rt: HostRuntime) -> ExitCode {
     };
     let ended = show(rt.alloc(), words, &digests, &mut store, &mut out);
     report(&rt, ended.status, store.failure(), out.failure());
-    hint(&rt, ended.status, words, ended.output());
+    hint(&rt, ended.status, words, ended.fault());
     ExitCode::from(ended.status.exit_status())
 }

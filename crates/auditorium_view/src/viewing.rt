@@ -22,7 +22,7 @@ ghost use Rattle.auditorium_view.specs.View.{rule_inputs, view_answer, view_text
 ghost use Rattle.auditorium_view.specs.inside.Requests.{asked};
 
 use crate::words::{Request, request_of};
-use auditor::{Report, RulesFrom, audit};
+use auditor::{Report, RulesFrom, audit_by};
 use command_line::{Answer, Fault, rules_from, status_by};
 use entangled_picture::write_picture;
 use hall_outside::Store;
@@ -196,7 +196,7 @@ fn view_of<S: Store>(
         store.old result store.new }
 {
     let rules = rules_from(request.rules);
-    match audit(alloc, store, request.roster, rules, request.logs) {
+    match audit_by(&Alone, alloc, store, request.roster, rules, request.logs) {
         Ok(report) => answer_of(alloc, request, digests, &report),
         Err(fault) => Answer::of_fault(alloc, &fault),
     }

@@ -1,115 +1,10 @@
-//! The causes of refusals, and a sentence on each.
-ghost use Rattle.canonical_sexp.specs.Forms.{Finds};
-ghost use Rattle.std.specs.Prelude.{◌≡◌};
-ghost use Rattle.input_causes.specs.Causes.{script_why_word};
-ghost use Rattle.roster.specs.Reading.{fault_word};
-ghost use Rattle.input_causes.specs.Causes.{rule_why_word};
-ghost use Rattle.input_causes.specs.Causes.{proof_why_word};
+//! A sentence on each cause of a refusal.
 
-use audit_proof::ProofWhy;
-use election_script::ScriptWhy;
+use input_causes::{Cause, ProofWhy, RuleWhy, ScriptWhy};
 use roster::RosterFault;
-use rule_language::RuleWhy;
-
-/// Why an input was refused, by the kind of the input.
-#[derive(Clone, Copy)]
-pub enum Cause {
-    Script(ScriptWhy),
-    Roster(RosterFault),
-    Rules(RuleWhy),
-    Proof(ProofWhy),
-    /// A file doesn't begin with a log's header.
-    Header,
-    /// A file is over the limit of its kind.
-    TooLong,
-    /// A rule is too wide.
-    TooWide,
-    /// There are too many entries in the logs.
-    TooMany,
-    /// Two entries have one digest.
-    Collision,
-    /// A word means no entry.
-    NoEntry,
-    /// An office has this name already.
-    Exists,
-    /// A file isn't an office's.
-    Office,
-    /// An office's key is used up.
-    Spent,
-}
-
-/// The cause against a script that this word is.
-pub(crate) fn script_cause(word: &str) -> Option<ScriptWhy>
-    ensures { Finds (λ why. word.now ≡ script_why_word why) result }
-{
-    match word {
-        "NotPlain" => Some(ScriptWhy::NotPlain),
-        "UnknownWord" => Some(ScriptWhy::UnknownWord),
-        "OutOfOrder" => Some(ScriptWhy::OutOfOrder),
-        "WrongCount" => Some(ScriptWhy::WrongCount),
-        "BadNumber" => Some(ScriptWhy::BadNumber),
-        "BadHex" => Some(ScriptWhy::BadHex),
-        "BadName" => Some(ScriptWhy::BadName),
-        "SameName" => Some(ScriptWhy::SameName),
-        "UnknownName" => Some(ScriptWhy::UnknownName),
-        "WrongRole" => Some(ScriptWhy::WrongRole),
-        "OutOfRange" => Some(ScriptWhy::OutOfRange),
-        "NotOneSupervisor" => Some(ScriptWhy::NotOneSupervisor),
-        _ => None,
-    }
-}
-
-/// The fault of a roster that this word is; its place isn't part of the word.
-pub(crate) fn roster_cause(word: &str) -> Option<RosterFault>
-    ensures { Finds (λ fault. word.now ≡ fault_word fault) result }
-{
-    match word {
-        "NotCanonical" => Some(RosterFault::NotCanonical(0)),
-        "WrongShape" => Some(RosterFault::WrongShape),
-        "TooManyMachines" => Some(RosterFault::TooManyMachines),
-        "BadName" => Some(RosterFault::BadName),
-        "SameName" => Some(RosterFault::SameName),
-        "NotOneSupervisor" => Some(RosterFault::NotOneSupervisor),
-        "Memory" => Some(RosterFault::Memory),
-        _ => None,
-    }
-}
-
-/// The cause against a text of rules that this word is.
-pub(crate) fn rule_cause(word: &str) -> Option<RuleWhy>
-    ensures { Finds (λ why. word.now ≡ why_word why) result }
-{
-    match word {
-        "Token" => Some(RuleWhy::Token),
-        "Shape" => Some(RuleWhy::Shape),
-        "UnknownKind" => Some(RuleWhy::UnknownKind),
-        "SameName" => Some(RuleWhy::SameName),
-        "Unbound" => Some(RuleWhy::Unbound),
-        "WrongField" => Some(RuleWhy::WrongField),
-        "TooDeep" => Some(RuleWhy::TooDeep),
-        _ => None,
-    }
-}
-
-/// The cause against the text of a proof that this word is.
-pub(crate) fn proof_cause(word: &str) -> Option<ProofWhy>
-    ensures { Finds (λ why. word.now ≡ proof_why_word why) result }
-{
-    match word {
-        "Form" => Some(ProofWhy::Form),
-        "WrongCount" => Some(ProofWhy::WrongCount),
-        "OutOfRange" => Some(ProofWhy::OutOfRange),
-        "NotRising" => Some(ProofWhy::NotRising),
-        "NotFalling" => Some(ProofWhy::NotFalling),
-        "NotReached" => Some(ProofWhy::NotReached),
-        "NotParent" => Some(ProofWhy::NotParent),
-        "NotClosed" => Some(ProofWhy::NotClosed),
-        _ => None,
-    }
-}
 
 /// What was expected, for each cause.
-pub fn sentence(cause: Cause) -> &'static str {
+pub(crate) fn sentence(cause: Cause) -> &'static str {
     match cause {
         Cause::Script(why) => script_sentence(why),
         Cause::Roster(fault) => roster_sentence(fault),
@@ -127,7 +22,7 @@ pub fn sentence(cause: Cause) -> &'static str {
         }
         Cause::TooMany =>
             "the logs have more than 16,384 distinct entries, or for watch more than 1,024",
-        Cause::Collision => "two entries with different texts have one digest",
+        Cause::Collision(_) => "two entries with different texts have one digest",
         Cause::NoEntry => "no surviving entry is meant by this word",
         Cause::Exists => "an office's file is never overwritten; take another name",
         Cause::Office => {
@@ -236,26 +131,5 @@ fn proof_sentence(why: ProofWhy) -> &'static str {
             "the entry after a colon doesn't name the one before the colon in the logs"
         }
         ProofWhy::NotClosed => { "an ancestor is missing from this line" }
-    }
-}
-
-impl Cause {
-    /// The cause's word in lines of output.
-    pub fn word(self) -> &'static str {
-        match self {
-            Cause::Script(why) => why.word(),
-            Cause::Roster(fault) => fault.word(),
-            Cause::Rules(why) => why.word(),
-            Cause::Proof(why) => why.word(),
-            Cause::Header => "Header",
-            Cause::TooLong => "TooLong",
-            Cause::TooWide => "TooWide",
-            Cause::TooMany => "TooMany",
-            Cause::Collision => "Collision",
-            Cause::NoEntry => "NoEntry",
-            Cause::Exists => "Exists",
-            Cause::Office => "Office",
-            Cause::Spent => "Spent",
-        }
     }
 }

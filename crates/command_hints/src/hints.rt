@@ -1,7 +1,10 @@
 //! Hints on a command that wasn't carried out.
+ghost use Rattle.std.specs.Prelude.{◌≡◌, is_some};
+ghost use Rattle.evidence.specs.Refusal.{refusal_of};
 
-use crate::refusals::{Absence, Refusal, absence_of, refusal_in};
+use crate::refusals::{Absence, Refusal};
 use crate::slips::{Slip, slip_in};
+use evidence::InputFault;
 use std::alloc::Global;
 use std::fmt::{self, Display, Formatter};
 
@@ -16,27 +19,33 @@ pub enum Hint<'a> {
     Absent(Absence<'a>),
 }
 
-/// The hint for the words after the program's name, which are `None` where one isn't text, and the
-/// first line of the output, if that is `usage`, or says what was refused or isn't there. It is for
-/// the statuses 4, 5 and 6 alone, since a report on a log has lines of refused records too. The
-/// words are those of `auditorium`, or of another program as `auditorium` has them.
+/// The hint on an input that was refused, or isn't there, for the words after the program's name.
+/// The words are those of `auditorium`, or of another program as `auditorium` has them. A failed
+/// read, and running out of memory, have none.
 pub fn hint_on<'a>(
-    alloc: Global,
     program: &'static str,
-    words: Option<&'a [String]>,
-    line: &'a str,
-) -> Option<Hint<'a>> {
-    let line = line.strip_suffix('\n').unwrap_or(line);
-    let (word, rest) = line.split_once(' ').unwrap_or((line, ""));
-    match word {
-        "usage" => Some(Hint::Usage(slip_in(alloc, words))),
-        "refused" => match refusal_in(program, words.unwrap_or(&[]), rest) {
-            Some(refusal) => Some(Hint::Refused(refusal)),
-            None => None,
-        },
-        "absent" => Some(Hint::Absent(absence_of(program, words.unwrap_or(&[]), rest))),
-        _ => None,
+    words: &[String],
+    fault: &'a InputFault,
+) -> Option<Hint<'a>>
+    ensures { is_some result ≡ is_some (refusal_of fault.now) }
+{
+    match fault {
+        InputFault::Absent(file) => Some(Hint::Absent(Absence::of(program, words, file.as_str()))),
+        InputFault::Refused { file, place, cause } => Some(Hint::Refused(Refusal::of(
+            program,
+            words,
+            file.as_str(),
+            *place,
+            *cause,
+        ))),
+        InputFault::ReadFault | InputFault::Memory => None,
     }
+}
+
+/// The hint on a command line that isn't valid, for the words after the program's name, which are
+/// `None` where one isn't text.
+pub fn usage_hint<'a>(alloc: Global, words: Option<&'a [String]>) -> Hint<'a> {
+    Hint::Usage(slip_in(alloc, words))
 }
 
 impl<'a> Display for Hint<'a> {

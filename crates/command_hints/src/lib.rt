@@ -13,7 +13,6 @@ mod rule_words;
 mod script_words;
 mod slips;
 
-pub use causes::{Cause, sentence};
-pub use hints::{Hint, hint_on};
+pub use hints::{Hint, hint_on, usage_hint};
 pub use refusals::{Absence, Explained, Refusal};
 pub use slips::Slip;

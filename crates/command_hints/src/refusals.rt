@@ -1,13 +1,13 @@
 //! Inputs that were refused, and files that aren't there.
 
-use crate::causes::{Cause, proof_cause, roster_cause, rule_cause, script_cause, sentence};
+use crate::causes::sentence;
 use crate::commands::{meaning_of, words_after};
 use crate::excerpts::{Excerpt, line_of};
 use crate::findings::{Finding, Saying};
 use crate::rule_words::find_at;
 use crate::script_words::find_in_line;
-use audit_proof::ProofWhy;
 use hall_text::decimal;
+use input_causes::{Cause, ProofWhy};
 use roster::RosterFault;
 use std::alloc::Global;
 use std::fmt::{self, Display, Formatter, Write};
@@ -22,8 +22,6 @@ pub struct Refusal<'a> {
     /// What it counts is said by the cause.
     place: u64,
     cause: Cause,
-    /// What follows the cause: the digest of a collision.
-    rest: &'a str,
     /// What the help calls the file, if the words name it.
     role: Option<&'static str>,
     /// Whether the words name several logs.
@@ -60,48 +58,6 @@ fn role_at(wanted: &'static str, place: usize) -> &'static str {
     role
 }
 
-/// The cause that the word is, against an input which the help calls so.
-fn cause_against(role: &str, word: &str) -> Option<Cause> {
-    match role {
-        "SCRIPT" => script_cause(word).map(Cause::Script),
-        "ROSTER" => roster_cause(word).map(Cause::Roster),
-        "RULES" => rule_cause(word).map(Cause::Rules),
-        "PROOF" => proof_cause(word).map(Cause::Proof),
-        _ => None,
-    }
-}
-
-/// The cause that the word is, against the first input of this name that it can be one against:
-/// inputs are read, and refused, in the order of the words.
-fn cause_by_role(words: &[String], name: &str, word: &str) -> Option<Cause> {
-    let (command, others) = words.split_first()?;
-    let wanted = words_after(command.as_str())?;
-    for (place, other) in others.iter().enumerate() {
-        if other.as_str() == name {
-            if let Some(cause) = cause_against(role_at(wanted, place), word) {
-                return Some(cause);
-            }
-        }
-    }
-    None
-}
-
-/// The cause that the word is, against the input of this name.
-fn cause_of(words: &[String], name: &str, word: &str) -> Option<Cause> {
-    match word {
-        "Header" => Some(Cause::Header),
-        "TooLong" => Some(Cause::TooLong),
-        "TooWide" => Some(Cause::TooWide),
-        "TooMany" => Some(Cause::TooMany),
-        "Collision" => Some(Cause::Collision),
-        "NoEntry" => Some(Cause::NoEntry),
-        "Exists" => Some(Cause::Exists),
-        "Office" => Some(Cause::Office),
-        "Spent" => Some(Cause::Spent),
-        _ => cause_by_role(words, name, word),
-    }
-}
-
 /// What the help calls the file of this name.
 fn role_of_file(words: &[String], name: &str) -> Option<&'static str> {
     let (command, others) = words.split_first()?;
@@ -123,28 +79,6 @@ fn is_file_of(role: &str, word: &str, name: &str) -> bool {
         "NAME" => name.strip_suffix(".office") == Some(word),
         _ => false,
     }
-}
-
-/// The program's refusal of which this is the rest after `refused`, or none where it isn't one of
-/// those words.
-pub(crate) fn refusal_in<'a>(
-    program: &'static str,
-    words: &[String],
-    line: &'a str,
-) -> Option<Refusal<'a>> {
-    let (name, line) = line.split_once(' ')?;
-    let (place, line) = line.split_once(' ')?;
-    let (cause, rest) = line.split_once(' ').unwrap_or((line, ""));
-    Some(Refusal {
-        program,
-        name,
-        place: place.parse::<u64>().ok()?,
-        cause: cause_of(words, name, cause)?,
-        rest,
-        role: role_of_file(words, name),
-        has_logs: has_logs(words),
-        survivors: None,
-    })
 }
 
 /// Whether the words name more than one log.
@@ -188,20 +122,37 @@ fn limit_of(role: &str) -> Option<&'static str> {
     }
 }
 
-/// The absence of the file of this name, which the program wanted.
-pub(crate) fn absence_of<'a>(
-    program: &'static str,
-    words: &[String],
-    name: &'a str,
-) -> Absence<'a> {
-    Absence {
-        program,
-        name,
-        role: role_of_file(words, name),
+impl<'a> Absence<'a> {
+    /// The absence of the file of this name, which the program wanted.
+    pub(crate) fn of(program: &'static str, words: &[String], name: &'a str) -> Absence<'a> {
+        Absence {
+            program,
+            name,
+            role: role_of_file(words, name),
+        }
     }
 }
 
 impl<'a> Refusal<'a> {
+    /// The program's refusal of the input with this name.
+    pub(crate) fn of(
+        program: &'static str,
+        words: &[String],
+        name: &'a str,
+        place: u64,
+        cause: Cause,
+    ) -> Refusal<'a> {
+        Refusal {
+            program,
+            name,
+            place,
+            cause,
+            role: role_of_file(words, name),
+            has_logs: has_logs(words),
+            survivors: None,
+        }
+    }
+
     /// The file whose text shows more: a script, a text of rules, a file that is no log, or a proof
     /// for another number of survivors.
     pub fn text_file(&self) -> Option<&'a str> {
@@ -287,18 +238,21 @@ impl<'a> Refusal<'a> {
     fn write<W: fmt::Write>(&self, f: &mut Formatter<W>, saying: Saying<'_>) -> fmt::Result {
         let program = self.program;
         let name = self.name;
-        let cause = self.cause.word();
+        let cause = self.cause;
+        let word = cause.word();
         write!(f, "{program}: {name}")?;
         self.write_place(f)?;
-        write!(f, ", {cause}: ")?;
+        write!(f, ", {word}: ")?;
         if let Cause::NoEntry = self.cause {
             write!(f, "no surviving entry is {name}")?;
         } else {
             saying.write(f, self.sentence())?;
         }
-        if !self.rest.is_empty() {
-            let rest = self.rest;
-            write!(f, ", {rest}")?;
+        if let Cause::Collision(digest) = cause {
+            f.write_str(", ")?;
+            for byte in digest {
+                write!(f, "{byte:02x}")?;
+            }
         }
         f.write_str("\n")
     }

@@ -1,16 +1,16 @@
 -- The answers where what an audit goes on is refused.
 use Rattle.std.proofs.Common.{◌↔◌, Option, Some}
 use Rattle.command_line.proofs.Imports.{◌≡◌, ◌≢◌, ◌∙◌, ℕ, List, None, inl, inr, refl, sym, ap, subst, Result, Ok}
-use Rattle.command_line.proofs.Imports.{Err, IfOk, IfOk-weaker, IfErr, IfSome, IsSomeAnd, AuditFault, Refusal}
+use Rattle.command_line.proofs.Imports.{Err, IfOk, IfOk-weaker, IfErr, IfSome, IsSomeAnd, InputFault, Refusal}
 use Rattle.command_line.proofs.Imports.{refusal_of, IsAbsent}
 use Rattle.command_line.proofs.Imports.{StoreGhosts, OnRead, on_weaker, IsReadFrom, stands, no_cause}
 use Rattle.command_line.proofs.Imports.{cause_as, Fault, Answer, OrRefused, refusal_answer, IsAnswered}
-use Rattle.evidence.specs.declared.fault.AuditFault.TheVariants as audit
+use Rattle.evidence.specs.declared.fault.InputFault.TheVariants as audit
 use Rattle.command_line.specs.declared.answer.Fault.TheVariants.{ReadFault, Memory}
 use Rattle.command_line.specs.declared.status.Status.TheVariants as status
 
 -- the answer of a fault is a refusal's
-abbrev pub IsAnswerOfFault : AuditFault → Answer → Type 0
+abbrev pub IsAnswerOfFault : InputFault → Answer → Type 0
 IsAnswerOfFault fault answer = IsSomeAnd (refusal_of fault) (λ refusal. answer ≡ refusal_answer refusal)
 
 -- the answer says that a file is absent by its status
@@ -18,7 +18,7 @@ abbrev pub IsAbsentAnswer : Answer → Type 0
 IsAbsentAnswer answer = answer.status ≡ status.Absent
 
 -- what is refused of what is read is the answer
-pub refused_or : {T E : Type 0} (Gives : Result T Refusal → Type 0) (IsFor : T → Answer → Type 0) (fault : AuditFault)
+pub refused_or : {T E : Type 0} (Gives : Result T Refusal → Type 0) (IsFor : T → Answer → Type 0) (fault : InputFault)
     (result : Result Answer E) → IfOk result (IsAnswerOfFault fault) →
     IfSome (refusal_of fault) (λ refusal. Gives (Err refusal)) → IfOk result (OrRefused Gives IsFor)
 refused_or Gives IsFor fault (Ok answer) told gives = by (refusal_of fault) told gives
@@ -31,7 +31,7 @@ refused_or Gives IsFor fault (Ok answer) told gives = by (refusal_of fault) told
 refused_or Gives IsFor fault (Err why) told gives = tt
 
 -- the status of a refusal is Absent where its fault is
-absent_status : (fault : AuditFault) (answer : Answer) → IsAnswerOfFault fault answer →
+absent_status : (fault : InputFault) (answer : Answer) → IsAnswerOfFault fault answer →
     answer.status ≡ status.Absent → IsAbsent fault
 absent_status (audit.Absent file) answer told is = tt
 absent_status (audit.Refused file place cause) answer told is =
@@ -41,7 +41,7 @@ absent_status audit.ReadFault answer told is = absurd told
 absent_status audit.Memory answer told is = absurd told
 
 -- and where the fault is an absence, the status is Absent
-status_absent : (fault : AuditFault) (answer : Answer) → IsAnswerOfFault fault answer → IsAbsent fault →
+status_absent : (fault : InputFault) (answer : Answer) → IsAnswerOfFault fault answer → IsAbsent fault →
     answer.status ≡ status.Absent
 status_absent (audit.Absent file) answer told is = ap (λ (a : Answer). a.status) told
 status_absent (audit.Refused file place cause) answer told is = absurd is
@@ -49,7 +49,7 @@ status_absent audit.ReadFault answer told is = absurd told
 status_absent audit.Memory answer told is = absurd told
 
 -- running out of memory has no such answer
-not_memory : (fault : AuditFault) (answer : Answer) → IsAnswerOfFault fault answer → fault ≢ audit.Memory
+not_memory : (fault : InputFault) (answer : Answer) → IsAnswerOfFault fault answer → fault ≢ audit.Memory
 not_memory fault answer told e = subst (λ f. IsAnswerOfFault f answer) e told
 
 module _ {S T U : Type 0} (of : StoreGhosts S) (value : T → U) (names : List (List ℕ))
@@ -60,7 +60,7 @@ module _ {S T U : Type 0} (of : StoreGhosts S) (value : T → U) (names : List (
   IsRightAsRead before answer after = OnRead of names (λ files. IsRight files answer) before after
 
   -- a refused reading is answered
-  pub refused_answered : (fault : AuditFault) (result : Result Answer Fault) →
+  pub refused_answered : (fault : InputFault) (result : Result Answer Fault) →
       IsReadFrom of value names IsFound old (Err fault) new → IfOk result (IsAnswerOfFault fault) →
       IfErr result (λ why. (why ≡ ReadFault) ↔ (fault ≡ audit.ReadFault)) →
       ((files : List (Option (List ℕ))) (refusal : Refusal) → IsFound files (Err refusal) →
@@ -139,7 +139,7 @@ module _ {S T U : Type 0} (of : StoreGhosts S) (value : T → U) (names : List (
   IsForFiles files = OrRefused (Gives files) IsFor
 
   -- a refusal of the files is the answer
-  pub or_refused : (fault : AuditFault) (result : Result Answer Fault) →
+  pub or_refused : (fault : InputFault) (result : Result Answer Fault) →
       IsReadFrom of value names Gives old (Err fault) new → IfOk result (IsAnswerOfFault fault) →
       IfErr result (λ why. (why ≡ ReadFault) ↔ (fault ≡ audit.ReadFault)) →
       IsAnswered of (IsRightAsRead of value names Gives IsForFiles old new) IsAbsentAnswer old result new

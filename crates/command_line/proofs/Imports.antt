@@ -10,7 +10,7 @@ pub use Rattle.evidence.proofs.Readings.{cause_as, no_cause, stands}
 pub use Rattle.evidence.specs.NamedFiles.{OnRead}
 pub use Rattle.evidence.specs.Reading.{IsReadFrom}
 pub use Rattle.evidence.specs.Refusal.{IsAbsent, Refusal, refusal_of}
-pub use Rattle.evidence.specs.declared.fault.AuditFault.{AuditFault}
+pub use Rattle.evidence.specs.declared.fault.InputFault.{InputFault}
 pub use Rattle.hall_outside.proofs.Offers.{unrisen}
 pub use Rattle.hall_outside.specs.Counts.{HasCause, HasRisen}
 pub use Rattle.hall_outside.specs.Files.{Files, with_file}

@@ -6,4 +6,5 @@ pub mod CommandParts
 pub mod Outside
 pub mod Written
 pub mod Ending
+pub mod Heard
 pub mod Promise

@@ -7,7 +7,9 @@ ghost use Rattle.std.specs.Prelude.{
   [],
   IfErr,
   IfOk,
+  IfSome,
   IsSomeAnd,
+  Some,
   drop,
   string_bytes,
   take,
@@ -19,9 +21,12 @@ ghost use Rattle.command_line.specs.Lines.{usage_answer, absent_answer, refused_
 ghost use Rattle.command_line.specs.Lines.{line_answer, refusal_answer};
 ghost use Rattle.command_line.specs.Lines.{findings_answer};
 ghost use Rattle.command_line.specs.Lines.{status_of_undone};
+ghost use Rattle.command_line.specs.Heard.{Tells};
+ghost use Rattle.input_causes.specs.Causes.{cause_text};
 
 use crate::status::Status;
-use evidence::AuditFault;
+use evidence::InputFault;
+use input_causes::Cause;
 use std::alloc::{AllocError, Global};
 use std::marker::Model;
 
@@ -63,17 +68,20 @@ impl OutputFile {
     }
 }
 
-/// An answer, made whole before any of it is written.
+/// An answer, made whole before any of it is written. Where it says that an input was refused, or
+/// isn't there, it has that as a value, too, of which contracts see that the answer is its line.
 #[derive(Drop)]
 pub struct Answer {
     status: Status,
     files: Vec<OutputFile>,
     ahead: usize,
     output: Vec<u8>,
+    fault: Option<InputFault>,
 }
 
 impl Model for Answer {
     ghost use Rattle.std.specs.Prelude.{◌≤◌, vec_len};
+    ghost use Rattle.command_line.specs.Heard.{Tells};
     ghost use Rattle.command_line.specs.Lines.{Answer};
 
     ghost Value = { Answer };
@@ -85,7 +93,12 @@ impl Model for Answer {
       output = a.output.items;
     } };
 
-    ghost invariant = { λ a. a.ahead ≤ vec_len a.files };
+    ghost invariant = { λ a. (a.ahead ≤ vec_len a.files) × Tells a.fault (record {
+      status = a.status;
+      files = a.files.items;
+      ahead = a.ahead;
+      output = a.output.items;
+    }) };
 }
 
 impl Answer {
@@ -102,6 +115,7 @@ impl Answer {
             files: Vec::new(alloc),
             ahead: 0,
             output: lines.into_bytes(),
+            fault: None,
         }
     }
 
@@ -133,6 +147,7 @@ impl Answer {
             files,
             ahead,
             output: lines.into_bytes(),
+            fault: None,
         }
     }
 
@@ -159,6 +174,7 @@ impl Answer {
             files,
             ahead: 0,
             output: lines.into_bytes(),
+            fault: None,
         })
     }
 
@@ -171,6 +187,7 @@ impl Answer {
             files: Vec::new(alloc),
             ahead: 0,
             output: format!(in alloc; "usage\n")?.into_bytes(),
+            fault: None,
         })
     }
 
@@ -178,23 +195,34 @@ impl Answer {
     pub fn absent(alloc: Global, name: &str) -> Result<Answer, AllocError>
         ensures { IfOk result (λ answer. answer ≡ absent_answer name.now) }
     {
+        let file = String::from_str(alloc, name)?;
         Ok(Answer {
             status: Status::Absent,
             files: Vec::new(alloc),
             ahead: 0,
             output: format!(in alloc; "absent {name}\n")?.into_bytes(),
+            fault: Some(InputFault::Absent(file)),
         })
     }
 
     /// The answer where the named file is refused at a place.
-    pub fn refused(alloc: Global, name: &str, place: u64, cause: &str) -> Result<Answer, AllocError>
-        ensures { IfOk result (λ answer. answer ≡ refused_answer name.now place cause.now) }
+    pub fn refused(
+        alloc: Global,
+        name: &str,
+        place: u64,
+        cause: Cause,
+    ) -> Result<Answer, AllocError>
+        ensures { IfOk result
+            (λ answer. answer ≡ refused_answer name.now place (cause_text cause)) }
     {
+        let file = String::from_str(alloc, name)?;
+        let text = cause.text(alloc)?;
         Ok(Answer {
             status: Status::Refused,
             files: Vec::new(alloc),
             ahead: 0,
-            output: format!(in alloc; "refused {name} {place} {cause}\n")?.into_bytes(),
+            output: format!(in alloc; "refused {name} {place} {text}\n")?.into_bytes(),
+            fault: Some(InputFault::Refused { file, place, cause }),
         })
     }
 
@@ -212,6 +240,7 @@ impl Answer {
             files: Vec::new(alloc),
             ahead: 0,
             output,
+            fault: None,
         }
     }
 
@@ -224,24 +253,25 @@ impl Answer {
             files: Vec::new(alloc),
             ahead: 0,
             output: format!(in alloc; "{text}\n")?.into_bytes(),
+            fault: None,
         })
     }
 
     /// The answer where what an audit goes on is refused; a failed read and running out of memory
     /// have none.
-    pub fn of_fault(alloc: Global, fault: &AuditFault) -> Result<Answer, Fault>
+    pub fn of_fault(alloc: Global, fault: &InputFault) -> Result<Answer, Fault>
         ensures ok { IfOk result (λ answer. IsSomeAnd (refusal_of fault.now)
             (λ refusal. answer ≡ refusal_answer refusal)) }
         ensures err { IfErr result (λ why. (why ≡ Fault.ReadFault) ↔
-            (fault.now ≡ AuditFault.ReadFault)) }
+            (fault.now ≡ InputFault.ReadFault)) }
     {
         match fault {
-            AuditFault::Absent(file) => Ok(Answer::absent(alloc, file.as_str())?),
-            AuditFault::Refused { file, place, cause } => {
-                Ok(Answer::refused(alloc, file.as_str(), *place, cause.as_str())?)
+            InputFault::Absent(file) => Ok(Answer::absent(alloc, file.as_str())?),
+            InputFault::Refused { file, place, cause } => {
+                Ok(Answer::refused(alloc, file.as_str(), *place, *cause)?)
             }
-            AuditFault::ReadFault => Err(Fault::ReadFault),
-            AuditFault::Memory => Err(Fault::Memory),
+            InputFault::ReadFault => Err(Fault::ReadFault),
+            InputFault::Memory => Err(Fault::Memory),
         }
     }
 
@@ -264,6 +294,20 @@ impl Answer {
         ensures { result.now ≡ drop self.now.ahead self.now.files }
     {
         &self.files[self.ahead..]
+    }
+
+    /// Why an input was refused, or that it isn't there, where the answer says so.
+    pub fn fault(&self) -> Option<&InputFault>
+        ensures { IfSome result (λ fault. Tells (Some fault.now) self.now) }
+    {
+        self.fault.as_ref()
+    }
+
+    /// The same, moved out of the answer.
+    pub fn into_fault(self) -> Option<InputFault>
+        ensures { Tells result self }
+    {
+        self.fault
     }
 
     /// The whole output.

@@ -40,8 +40,9 @@ ghost use Rattle.demonstration.specs.Shown.{GivesAudit, IsCounted, IsDemonstrati
 ghost use Rattle.demonstration.specs.Shown.{is_kept, log_name};
 
 use crate::kept::kept_text;
-use auditor::{AuditFault, Outcome, Report, audit_logs};
+use auditor::{InputFault, Outcome, Report, audit_logs};
 use election_script::Script;
+use input_causes::Cause;
 use lms_sign::LmsSecret;
 use log_files::{LogRead, MAX_BYTES, sealed_log_of};
 use polling_world::{Machine, play};
@@ -132,17 +133,17 @@ fn shown_of(entries: usize, report: &Report) -> Demonstration
 }
 
 /// What the bytes of the log say under the roster.
-fn log_of(alloc: Global, roster: &Roster, bytes: &[u8]) -> Result<LogRead, AuditFault>
+fn log_of(alloc: Global, roster: &Roster, bytes: &[u8]) -> Result<LogRead, InputFault>
     requires roster { HaveText roster.now.machines }
     requires header { HasHeader bytes.now }
     ensures ok { IfOk result (λ log. IsSealedLogOf roster.now.machines
         (sha256 (text_of (roster_tree roster.now.machines))) log (Some bytes.now)) }
     ensures err { IfErr result (λ fault. IfSome (refusal_of fault)
         (λ refusal. IsLogRefusal log_name (Some bytes.now) refusal)) }
-    ensures only { IfErr result (λ fault. (fault ≢ AuditFault.ReadFault) × (¬ IsAbsent fault)) }
+    ensures only { IfErr result (λ fault. (fault ≢ InputFault.ReadFault) × (¬ IsAbsent fault)) }
 {
     if bytes.len() > MAX_BYTES {
-        return Err(AuditFault::refused(alloc, LOG, 0, "TooLong"));
+        return Err(InputFault::refused(alloc, LOG, 0, Cause::TooLong));
     }
     let text = roster.write(alloc)?;
     match sealed_log_of(alloc, roster, &election(&text), bytes)? {
@@ -152,14 +153,14 @@ fn log_of(alloc: Global, roster: &Roster, bytes: &[u8]) -> Result<LogRead, Audit
 }
 
 /// The report by the standard rules on the log.
-fn audit_log(alloc: Global, roster: Roster, log: LogRead) -> Result<Report, AuditFault>
+fn audit_log(alloc: Global, roster: Roster, log: LogRead) -> Result<Report, InputFault>
     requires { HaveMakers roster.machines (entries_of (log ∷ [])) }
     ensures ok { IfOk result (λ report. WithLogs roster.machines standard standard_rules
         (log_name ∷ []) (log ∷ []) (Ok (report_of report))) }
     ensures err { IfErr result (λ fault. IfSome (refusal_of fault)
         (λ refusal. WithLogs roster.machines standard standard_rules (log_name ∷ []) (log ∷ [])
         (Err refusal))) }
-    ensures only { IfErr result (λ fault. (fault ≢ AuditFault.ReadFault) × (¬ IsAbsent fault)) }
+    ensures only { IfErr result (λ fault. (fault ≢ InputFault.ReadFault) × (¬ IsAbsent fault)) }
 {
     let mut names = Vec::new(alloc);
     names.push(String::from_str(alloc, LOG)?)?;
@@ -169,7 +170,7 @@ fn audit_log(alloc: Global, roster: Roster, log: LogRead) -> Result<Report, Audi
 }
 
 /// The report by the standard rules on the bytes of the log.
-fn report_on(alloc: Global, roster: Roster, bytes: &[u8]) -> Result<Report, AuditFault>
+fn report_on(alloc: Global, roster: Roster, bytes: &[u8]) -> Result<Report, InputFault>
     requires roster { HaveText roster.machines }
     requires short { length (text_of (roster_tree roster.machines)) ≤ max_roster }
     requires header { HasHeader bytes.now }
@@ -177,7 +178,7 @@ fn report_on(alloc: Global, roster: Roster, bytes: &[u8]) -> Result<Report, Audi
         GivesAudit roster.machines bytes.now (Ok (report_of report))) }
     ensures err { IfErr result (λ fault. IfSome (refusal_of fault)
         (λ refusal. GivesAudit roster.machines bytes.now (Err refusal))) }
-    ensures only { IfErr result (λ fault. (fault ≢ AuditFault.ReadFault) × (¬ IsAbsent fault)) }
+    ensures only { IfErr result (λ fault. (fault ≢ InputFault.ReadFault) × (¬ IsAbsent fault)) }
 {
     match log_of(alloc, &roster, bytes) {
         Ok(log) => audit_log(alloc, roster, log),
@@ -210,13 +211,13 @@ pub fn demonstrate(
     script: &Script,
     keys: Vec<LmsSecret>,
     session: u32,
-) -> Result<Demonstration, AuditFault>
+) -> Result<Demonstration, InputFault>
     requires lawful { IsLawful script.now }
     requires keys { keys.items ≡ map (key_of script.now) script.now.machines }
     ensures ok { IfOk result (IsDemonstrationOf script.now session) }
     ensures err { IfErr result (λ fault.
         IfSome (refusal_of fault) (IsRefusedSo script.now session)) }
-    ensures only { IfErr result (λ fault. (fault ≢ AuditFault.ReadFault) × (¬ IsAbsent fault)) }
+    ensures only { IfErr result (λ fault. (fault ≢ InputFault.ReadFault) × (¬ IsAbsent fault)) }
 {
     let world = play(alloc, script, keys)?;
     let machines = world.machines.as_slice();

@@ -30,8 +30,8 @@ pub use Rattle.evidence.specs.Refusal.{IsAbsent, IsFaultOf, IsFileFault, Refusal
 pub use Rattle.evidence.specs.Refusal.{too_long}
 pub use Rattle.evidence.specs.RosterFile.{GivesRoster, max_roster}
 pub use Rattle.evidence.specs.Same.{Agree, SameGraph, SameLog, SameLogs}
-pub use Rattle.evidence.specs.declared.fault.AuditFault.{AuditFault}
-pub use Rattle.evidence.specs.declared.fault.AuditFault.TheVariants.{Absent, ReadFault, Refused}
+pub use Rattle.evidence.specs.declared.fault.InputFault.{InputFault}
+pub use Rattle.evidence.specs.declared.fault.InputFault.TheVariants.{Absent, ReadFault, Refused}
 pub use Rattle.evidence.specs.declared.roster_file.RosterRead.{RosterRead}
 pub use Rattle.evidence.specs.inside.Copies.{IsRepeat, StandFor, text_of_sealed}
 pub use Rattle.evidence.specs.inside.Faults.{IsLogFault}

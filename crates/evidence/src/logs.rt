@@ -4,8 +4,9 @@ ghost use Rattle.evidence.specs.Logs.{GivesLogs};
 ghost use Rattle.evidence.specs.Reading.{IsReadFrom};
 ghost use Rattle.evidence.specs.inside.Faults.{IsLogFault};
 
-use crate::fault::AuditFault;
+use crate::fault::InputFault;
 use hall_outside::Store;
+use input_causes::Cause;
 use log_files::{EntryWork, LogFault, LogRead, read_log_by};
 use roster::Roster;
 use std::alloc::Global;
@@ -25,7 +26,7 @@ pub fn read_logs<S: Store>(
     names: &[String],
     roster: &Roster,
     election: &[u8; 32],
-) -> Result<Vec<LogRead>, AuditFault>
+) -> Result<Vec<LogRead>, InputFault>
     ensures { IsReadFrom S.Store (λ logs. logs.items) (map string_bytes names.now)
         (GivesLogs roster.now.machines election.now (map string_bytes names.now))
         store.old result store.new }
@@ -45,7 +46,7 @@ pub fn read_logs_by<W: EntryWork, S: Store>(
     names: &[String],
     roster: &Roster,
     election: &[u8; 32],
-) -> Result<Vec<LogRead>, AuditFault>
+) -> Result<Vec<LogRead>, InputFault>
     requires { W.may_share work.now }
     ensures { IsReadFrom S.Store (λ logs. logs.items) (map string_bytes names.now)
         (GivesLogs roster.now.machines election.now (map string_bytes names.now))
@@ -70,14 +71,14 @@ pub fn read_logs_by<W: EntryWork, S: Store>(
 }
 
 /// The fault of a log that isn't read, of this name.
-fn log_fault(alloc: Global, name: &str, fault: LogFault) -> AuditFault
+fn log_fault(alloc: Global, name: &str, fault: LogFault) -> InputFault
     ensures { IsLogFault name.now fault result }
 {
     match fault {
-        LogFault::Absent => AuditFault::absent(alloc, name),
-        LogFault::TooLong => AuditFault::refused(alloc, name, 0, "TooLong"),
-        LogFault::Header => AuditFault::refused(alloc, name, 0, "Header"),
-        LogFault::ReadFault => AuditFault::ReadFault,
-        LogFault::Memory => AuditFault::Memory,
+        LogFault::Absent => InputFault::absent(alloc, name),
+        LogFault::TooLong => InputFault::refused(alloc, name, 0, Cause::TooLong),
+        LogFault::Header => InputFault::refused(alloc, name, 0, Cause::Header),
+        LogFault::ReadFault => InputFault::ReadFault,
+        LogFault::Memory => InputFault::Memory,
     }
 }

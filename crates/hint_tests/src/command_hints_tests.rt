@@ -1,5 +1,8 @@
 //! Hints for each slip of the command line, and for refusals and absences.
-use command_hints::{Hint, hint_on};
+use command_hints::{Hint, hint_on, usage_hint};
+use evidence::InputFault;
+use input_causes::{Cause, ProofWhy, RuleWhy, ScriptWhy};
+use roster::RosterFault;
 use std::alloc::Global;
 use std::test::Fail;
 
@@ -47,14 +50,13 @@ gaps,my log|\"my log\" has a space or another byte outside ! to ~; a word has no
 gaps,|word 2 is empty|gaps LOG
 -,|\"-\" begins with -, and there are no options|COMMAND WORD..";
 
-/// The words, each after a comma but the first; the first line of the output; and how the hint
-/// begins, or nothing where there is none.
+/// The words, each after a comma but the first; `usage`, or the fault; and how the hint begins.
 const ROWS: &str = "\
 --help|usage|auditorium 1.0.0: a simulated polling place and the auditor of its logs
 audit,-h|usage|auditorium 1.0.0: a
 --version|usage|auditorium 1.0.0: a
 play,s,-V|usage|auditorium 1.0.0: a
-play,w.script,p|refused w.script 3 UnknownWord|auditorium: w.script, line 3, UnknownWord: a word
+play,s.script,p|refused s.script 3 UnknownWord|auditorium: s.script, line 3, UnknownWord: a word
 run,s,p|refused s 9 SameName|auditorium: s, line 9, SameName: a machine is named twice
 audit,r,c,l|refused c 28 Unbound|auditorium: c, byte 28, counted from 0, Unbound: no every or some
 audit,r,c,l|refused c 9 SameName|auditorium: c, byte 9, counted from 0, SameName: a rule has this
@@ -73,8 +75,6 @@ check,r,c,q,l|refused q 7 NotParent|auditorium: q, line 7, NotParent: the entry 
 check,r,c,q,l|refused q 8 NotClosed|auditorium: q, line 8, NotClosed: an ancestor is missing from
 check,r,c,q,l|refused c 28 Unbound|auditorium: c, byte 28, counted from 0, Unbound: no every or
 check,r,c,q,l|refused c 3 TooWide|auditorium: c, rule 3, counted from 0, TooWide: the
-check,r,c,q,l|refused l 3 Form|
-audit,r,c,l|refused c 3 Form|
 prove,r,q,l|refused q 0 TooLong|auditorium: q, TooLong: a proof has at most 67,108,864 bytes
 prove,r,q,l|refused l 0 TooLong|auditorium: l, TooLong: a log has at most 67,108,864 bytes
 prove,r,q,l|refused r 0 TooLong|auditorium: r, TooLong: a roster has at most 4,194,304 bytes
@@ -86,15 +86,11 @@ gaps,l|refused m 0 TooLong|auditorium: m, TooLong: a script, a roster or a file 
 play,s,p|refused s 0 TooLong|auditorium: s, TooLong: a script has at most 4,194,304 bytes
 order,r,b1.0,b2.0,l|refused b1.0 0 NoEntry|auditorium: b1.0, NoEntry: no surviving entry is b1.0
 audit,r,c,l|refused entries 0 TooMany|auditorium: entries, TooMany: the logs have more than 16,384
-audit,r,c,l|refused entries 0 Collision d1a0|auditorium: entries, Collision: two entries with
+audit,r,c,l|refused entries 0 Collision|auditorium: entries, Collision: two entries with
 office,o,0|refused o.office 0 Exists|auditorium: o.office, Exists: an office's file is never
 endorse,o,f|refused o.office 0 Office|auditorium: o.office, Office: an office's file is (6:office1:
 endorse,o,f|refused o.office 0 Spent|auditorium: o.office, Spent: the office's key has made its
 endorse,o,f|refused f 0 TooLong|auditorium: f, TooLong: a file that is signed has at most
-gaps,l|refused l 0 NoCause|
-gaps,l|refused l 3 UnknownWord|
-gaps,l|refused l x Header|
-gaps,l|gap d1a0|
 gaps,l|absent l|auditorium: there is no file l, which is named as LOG: a log's file, as play and
 audit,r,c,l|absent c|auditorium: there is no file c, which is named as RULES: a file of rules, or
 endorse,o,f|absent o.office|auditorium: there is no file o.office, which is named as NAME: an
@@ -261,16 +257,87 @@ fn words_of(alloc: Global, text: &str) -> Result<Vec<String>, Fail> {
     Ok(words)
 }
 
-/// The hint of the program for these words and this line of the output, or nothing.
-fn hint_text(
-    alloc: Global,
-    program: &'static str,
-    words: &str,
-    line: &str,
-) -> Result<String, Fail> {
+/// The causes, each after the letter with which the names of its files begin in these rows.
+const CAUSES: &[(&str, Cause)] = &[
+    ("s", Cause::Script(ScriptWhy::NotPlain)),
+    ("s", Cause::Script(ScriptWhy::UnknownWord)),
+    ("s", Cause::Script(ScriptWhy::OutOfOrder)),
+    ("s", Cause::Script(ScriptWhy::WrongCount)),
+    ("s", Cause::Script(ScriptWhy::BadNumber)),
+    ("s", Cause::Script(ScriptWhy::BadHex)),
+    ("s", Cause::Script(ScriptWhy::BadName)),
+    ("s", Cause::Script(ScriptWhy::SameName)),
+    ("s", Cause::Script(ScriptWhy::UnknownName)),
+    ("s", Cause::Script(ScriptWhy::WrongRole)),
+    ("s", Cause::Script(ScriptWhy::OutOfRange)),
+    ("s", Cause::Script(ScriptWhy::NotOneSupervisor)),
+    ("r", Cause::Roster(RosterFault::NotCanonical(5))),
+    ("r", Cause::Roster(RosterFault::SameName)),
+    ("c", Cause::Rules(RuleWhy::Token)),
+    ("c", Cause::Rules(RuleWhy::Shape)),
+    ("c", Cause::Rules(RuleWhy::UnknownKind)),
+    ("c", Cause::Rules(RuleWhy::SameName)),
+    ("c", Cause::Rules(RuleWhy::Unbound)),
+    ("c", Cause::Rules(RuleWhy::WrongField)),
+    ("c", Cause::Rules(RuleWhy::TooDeep)),
+    ("q", Cause::Proof(ProofWhy::Form)),
+    ("q", Cause::Proof(ProofWhy::WrongCount)),
+    ("q", Cause::Proof(ProofWhy::OutOfRange)),
+    ("q", Cause::Proof(ProofWhy::NotRising)),
+    ("q", Cause::Proof(ProofWhy::NotFalling)),
+    ("q", Cause::Proof(ProofWhy::NotReached)),
+    ("q", Cause::Proof(ProofWhy::NotParent)),
+    ("q", Cause::Proof(ProofWhy::NotClosed)),
+    ("", Cause::Header),
+    ("", Cause::TooLong),
+    ("", Cause::TooWide),
+    ("", Cause::TooMany),
+    ("", Cause::Collision([0xd1; 32])),
+    ("", Cause::NoEntry),
+    ("", Cause::Exists),
+    ("", Cause::Office),
+    ("", Cause::Spent),
+];
+
+/// The cause of this word against the file, if it is one of the table.
+fn cause_of(file: &str, word: &str) -> Option<Cause> {
+    for &(letter, cause) in CAUSES {
+        if file.starts_with(letter) && cause.word() == word {
+            return Some(cause);
+        }
+    }
+    None
+}
+
+/// The fault that a row names: `absent FILE`, or `refused FILE PLACE CAUSE`.
+fn fault_of(alloc: Global, row: &str) -> Result<Option<InputFault>, Fail> {
+    let (word, rest) = row.split_once(' ').unwrap_or((row, ""));
+    if word == "absent" {
+        return Ok(Some(InputFault::Absent(String::from_str(alloc, rest)?)));
+    }
+    let mut parts = rest.split(' ');
+    let file = parts.next().unwrap_or("");
+    let place = parts.next().unwrap_or("").parse::<u64>();
+    let cause = cause_of(file, parts.next().unwrap_or(""));
+    let (Ok(place), Some(cause)) = (place, cause) else {
+        return Ok(None);
+    };
+    let file = String::from_str(alloc, file)?;
+    Ok(Some(InputFault::Refused { file, place, cause }))
+}
+
+/// The hint of the program for these words and this fault, or an invalid command line.
+fn hint_text(alloc: Global, program: &'static str, words: &str, row: &str) -> Result<String, Fail> {
     let words = words_of(alloc, words)?;
-    let line = format!(in alloc; "{line}\n")?;
-    match hint_on(alloc, program, Some(words.as_slice()), line.as_str()) {
+    if row == "usage" {
+        let hint = usage_hint(alloc, Some(words.as_slice()));
+        return Ok(format!(in alloc; "{hint}")?);
+    }
+    let fault = fault_of(alloc, row)?;
+    match fault
+        .as_ref()
+        .and_then(|fault| hint_on(program, words.as_slice(), fault))
+    {
         Some(hint) => Ok(format!(in alloc; "{hint}")?),
         None => Ok(String::new(alloc)),
     }
@@ -278,9 +345,7 @@ fn hint_text(
 
 /// Whether the hint for these words, and for an output of `usage`, begins so.
 fn is_blamed(alloc: Global, words: Option<&[String]>, want: &str) -> Result<bool, Fail> {
-    let Some(hint) = hint_on(alloc, "auditorium", words, "usage\n") else {
-        return Ok(false);
-    };
+    let hint = usage_hint(alloc, words);
     let text = format!(in alloc; "{hint}")?;
     Ok(text.as_str().starts_with(want))
 }
@@ -291,13 +356,12 @@ fn hints_say_what_was_expected(rt: HostRuntime) -> Result<(), Fail> {
         let (words, rest) = row.split_once('|').unwrap_or(("", ""));
         let (line, want) = rest.split_once('|').unwrap_or(("", ""));
         let hint = hint_text(rt.alloc(), "auditorium", words, line)?;
-        let begins_so = hint.as_str().starts_with(want) && hint.is_empty() == want.is_empty();
-        assert!(rt; begins_so, "{row}");
+        assert!(rt; hint.as_str().starts_with(want), "{row}");
     }
     Ok(())
 }
 
-/// What a program that has `audit`'s words answers, and how its hint begins.
+/// The faults of a program that has `audit`'s words, and how its hint begins.
 const PROGRAM_ROWS: &[(&str, &str)] = &[
     (
         "refused c 9 SameName",
@@ -331,8 +395,11 @@ fn explanation<'x>(
     refusal: &str,
     text: &'x str,
 ) -> Result<String, Fail> {
-    let line = format!(in alloc; "refused {refusal}\n")?;
-    if let Some(Hint::Refused(refusal)) = hint_on(alloc, "auditorium", Some(words), line.as_str()) {
+    let row = format!(in alloc; "refused {refusal}")?;
+    let Some(fault) = fault_of(alloc, row.as_str())? else {
+        return Ok(String::new(alloc));
+    };
+    if let Some(Hint::Refused(refusal)) = hint_on("auditorium", words, &fault) {
         let explained = refusal.explained(alloc, Some(text.as_bytes()));
         return Ok(format!(in alloc; "{explained}")?);
     }
@@ -366,9 +433,13 @@ fn refusals_quote_the_text_and_mark_it(rt: HostRuntime) -> Result<(), Fail> {
 fn a_wrong_count_gives_both_numbers(rt: HostRuntime) -> Result<(), Fail> {
     let alloc = rt.alloc();
     let words = words_of(alloc, "check,r,c,q,l")?;
-    let line = "refused q 2 WrongCount\n";
-    let Some(Hint::Refused(refusal)) = hint_on(alloc, "auditorium", Some(&words), line) else {
-        return Err(Fail::from("the cause is known"));
+    let fault = InputFault::Refused {
+        file: String::from_str(alloc, "q")?,
+        place: 2,
+        cause: Cause::Proof(ProofWhy::WrongCount),
+    };
+    let Some(Hint::Refused(refusal)) = hint_on("auditorium", words.as_slice(), &fault) else {
+        return Err(Fail::from("a refusal has a hint"));
     };
     assert!(rt; refusal.is_of_count());
     for &(second, survivors, want) in COUNTS {

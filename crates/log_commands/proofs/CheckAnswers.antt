@@ -3,7 +3,7 @@ use Rattle.std.proofs.Common.{Bool, true, false, Option, Some, length}
 use Rattle.log_commands.proofs.Imports.{◌≡◌, ◌≢◌, ◌∙◌, ℕ, cond, List, [], ◌∷◌, ◌++◌, map, None, inl, inr, refl}
 use Rattle.log_commands.proofs.Imports.{sym, ap, subst, Result, Ok, Err, IfOk, IfErr, IfSome, bytes_eq}
 use Rattle.log_commands.proofs.Imports.{bytes_eq-Decides, StoreGhosts, IsFileRefused, Graph, Post, SealedEntry}
-use Rattle.log_commands.proofs.Imports.{EntryGraph, LogRead, RuleTree, Line, IsProofOf, AuditFault, RosterRead}
+use Rattle.log_commands.proofs.Imports.{EntryGraph, LogRead, RuleTree, Line, IsProofOf, InputFault, RosterRead}
 use Rattle.log_commands.proofs.Imports.{Refusal, refused, too_long, refusal_of, IsAbsent, IsFaultOf, GivesLogs}
 use Rattle.log_commands.proofs.Imports.{entries_of, GivesGraph, OnOneFile, IsReadFrom, IsReadFromFile, of_refusal}
 use Rattle.log_commands.proofs.Imports.{on_refusal, read_then, read_ends, some_as_read, AndThen, nodes_of, row_of}
@@ -13,7 +13,7 @@ use Rattle.log_commands.proofs.Imports.{ChecksProof, max_proof, GivesProof, repo
 use Rattle.log_commands.proofs.Imports.{of_one, on_one, and_then, and_refused}
 use Rattle.std.specs.Prelude.{codes}
 use Rattle.hall_outside.specs.declared.reading.FileFault.TheVariants as file
-use Rattle.evidence.specs.declared.fault.AuditFault.TheVariants.{ReadFault}
+use Rattle.evidence.specs.declared.fault.InputFault.TheVariants.{ReadFault}
 use Rattle.log_commands.specs.declared.check.Unchecked.TheVariants.{TooWide}
 use Rattle.log_commands.proofs.CheckSound.{proof_of}
 use Rattle.log_commands.proofs.ProveAnswers.{graph_not_absent}
@@ -38,7 +38,7 @@ names_itself word = by (bytes_eq word (codes "standard")) refl
 
 -- a check by a rule that is too wide is refused with the place of that rule
 pub too_wide_checked : (machines : List Post) (word : List ℕ) (rules given : List RuleTree)
-    (graph : EntryGraph SealedEntry) (lines : List Line) (unchecked : Unchecked) (place : ℕ) (fault : AuditFault) →
+    (graph : EntryGraph SealedEntry) (lines : List Line) (unchecked : Unchecked) (place : ℕ) (fault : InputFault) →
     given ≡ rules → IsUnchecked (map (row_of machines) graph.survivors) given unchecked →
     unchecked ≡ TooWide place → IsFaultOf (refused word place (codes "TooWide")) fault →
     IfSome (refusal_of fault)
@@ -87,7 +87,7 @@ module _ {S P : Type 0} (of : StoreGhosts S) (proof : List ℕ) (lines_of : P �
     in_one (file ∷ other ∷ files) answer (inr (refusal, gives, is)) = absurd gives
 
     -- the proof is read, and the rules are checked by it or refused
-    pub proof_checked : (read : P) (result : Result Checked AuditFault)
+    pub proof_checked : (read : P) (result : Result Checked InputFault)
         → IsReadFromFile of lines_of proof (GivesProof proof (nodes_of graph)) old (Ok read) new
         → IfOk result (λ checked. ChecksLines machines source rules graph (lines_of read) (Ok (report_by checked)))
         → IfErr result (λ fault. IfSome (refusal_of fault)
@@ -101,7 +101,7 @@ module _ {S P : Type 0} (of : StoreGhosts S) (proof : List ℕ) (lines_of : P �
         given ok err only) in_one
 
     -- a refusal of the proof's file is that of the check
-    pub proof_refused : (fault : AuditFault)
+    pub proof_refused : (fault : InputFault)
         → IsReadFromFile of lines_of proof (GivesProof proof (nodes_of graph)) old (Err fault) new
         → IsReadFromFile of report_by proof (λ file. ChecksProof machines source rules proof file graph) old (Err fault)
         new
@@ -119,7 +119,7 @@ module _ {S : Type 0} (of : StoreGhosts S) (machines : List Post) (source : Rule
   ChecksOne files answer = OnOneFile (λ file. ChecksLogs machines source rules proof file logs answer) files
 
   -- the logs have a graph
-  pub graph_checked : (graph : EntryGraph SealedEntry) (old new : S) (result : Result Checked AuditFault)
+  pub graph_checked : (graph : EntryGraph SealedEntry) (old new : S) (result : Result Checked InputFault)
       → GivesGraph (entries_of logs) (Ok graph)
       → IsReadFromFile of report_by proof (λ file. ChecksProof machines source rules proof file graph) old result new
       → IsReadFromFile of report_by proof (λ file. ChecksLogs machines source rules proof file logs) old result new
@@ -132,7 +132,7 @@ module _ {S : Type 0} (of : StoreGhosts S) (machines : List Post) (source : Rule
       (λ fs. ChecksOne fs answer) files (λ file is. inl (graph, gives, is)))
 
   -- a refusal of the graph is that of the check, whatever the proof's file is, which isn't read
-  pub graph_refused : (now : S) (fault : AuditFault)
+  pub graph_refused : (now : S) (fault : InputFault)
       → IfSome (refusal_of fault) (λ refusal. GivesGraph (entries_of logs) (Err refusal)) → fault ≢ ReadFault
       → IsReadFromFile of report_by proof (λ file. ChecksLogs machines source rules proof file logs) now (Err fault) now
   graph_refused now fault err no_read =
@@ -151,7 +151,7 @@ module _ {S : Type 0} (of : StoreGhosts S) (read : RosterRead) (source : RuleSou
   Logs = GivesLogs read.roster.machines read.election names
 
   -- the logs are read before the proof
-  pub logs_then : (old mid new : S) (logs : L) (result : Result Checked AuditFault)
+  pub logs_then : (old mid new : S) (logs : L) (result : Result Checked InputFault)
       → IsReadFrom of items names Logs old (Ok logs) mid
       → IsReadFromFile of report_by proof
       (λ file. ChecksLogs read.roster.machines source rules proof file (items logs)) mid result new
@@ -167,7 +167,7 @@ module _ {S : Type 0} (of : StoreGhosts S) (read : RosterRead) (source : RuleSou
       (λ file is. (files, file, refl, inl (items logs, gives, is))))
 
   -- a refusal of the logs is that of the check, whatever the proof's file is, which isn't read
-  pub logs_end : (old new : S) (fault : AuditFault) → IsReadFrom of items names Logs old (Err fault) new
+  pub logs_end : (old new : S) (fault : InputFault) → IsReadFrom of items names Logs old (Err fault) new
       → IsReadFrom of report_by (names ++ proof ∷ []) (ChecksFiles read source rules proof names) old (Err fault) new
   logs_end old new fault first =
       read_ends of items names Logs report_by (proof ∷ []) (ChecksFiles read source rules proof names) old new fault

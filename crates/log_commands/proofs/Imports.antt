@@ -123,8 +123,8 @@ pub use Rattle.evidence.proofs.OnReads.{all_weaker, none_read, on_weaker, one_re
 pub use Rattle.evidence.specs.Refusal.{IsAbsent, IsFaultOf, Refusal, absent, refusal_of, refused, too_long}
 pub use Rattle.evidence.specs.RosterFile.{GivesRoster}
 pub use Rattle.evidence.specs.Same.{Agree, SameGraph, SameLogs}
-pub use Rattle.evidence.specs.declared.fault.AuditFault.{AuditFault}
-pub use Rattle.evidence.specs.declared.fault.AuditFault.TheVariants.{Refused}
+pub use Rattle.evidence.specs.declared.fault.InputFault.{InputFault}
+pub use Rattle.evidence.specs.declared.fault.InputFault.TheVariants.{Refused}
 pub use Rattle.evidence.specs.declared.roster_file.RosterRead.{RosterRead}
 pub use Rattle.evidence.specs.inside.Copies.{StandFor, text_of_sealed}
 pub use Rattle.hall_outside.specs.ReadFile.{IsFileRefused, OnReadFile}

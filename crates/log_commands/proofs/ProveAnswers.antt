@@ -1,11 +1,11 @@
 -- What `prove` makes.
-use Rattle.log_commands.proofs.Imports.{List, Err, IfSome, SealedEntry, AuditFault, Refused, refusal_of, IsAbsent}
+use Rattle.log_commands.proofs.Imports.{List, Err, IfSome, SealedEntry, InputFault, Refused, refusal_of, IsAbsent}
 use Rattle.log_commands.proofs.Imports.{GivesGraph, ProofMade}
-use Rattle.evidence.specs.declared.fault.AuditFault.TheVariants.{Absent, ReadFault, Memory}
+use Rattle.evidence.specs.declared.fault.InputFault.TheVariants.{Absent, ReadFault, Memory}
 use Rattle.entry_graph.specs.declared.fault.GraphFault.TheVariants as graph
 
 -- entries that have no graph aren't an absent file
-pub graph_not_absent : (given : List SealedEntry) (fault : AuditFault) →
+pub graph_not_absent : (given : List SealedEntry) (fault : InputFault) →
     IfSome (refusal_of fault) (λ refusal. GivesGraph given (Err refusal)) → ¬ IsAbsent fault
 graph_not_absent given (Absent file) (graph.Collision e f, is, told) absence = cc
 graph_not_absent given (Absent file) (graph.TooMany, is, told) absence = cc

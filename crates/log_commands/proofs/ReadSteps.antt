@@ -1,15 +1,15 @@
 -- Steps that read, and steps between them that don't.
 use Rattle.std.proofs.Common.{Option, length}
 use Rattle.log_commands.proofs.Imports.{◌≡◌, ◌≢◌, ℕ, List, refl, arith, Result, Ok, Err}
-use Rattle.log_commands.proofs.Imports.{IfOk-weaker, IfSome, StoreGhosts, AuditFault, Refusal, refusal_of}
+use Rattle.log_commands.proofs.Imports.{IfOk-weaker, IfSome, StoreGhosts, InputFault, Refusal, refusal_of}
 use Rattle.log_commands.proofs.Imports.{IsAbsent, OnRead, OnAllRead, IsReadFrom, all_weaker, err_by, no_cause}
 use Rattle.log_commands.proofs.Imports.{none_read, on_refusal, on_weaker}
-use Rattle.evidence.specs.declared.fault.AuditFault.TheVariants.{ReadFault}
+use Rattle.evidence.specs.declared.fault.InputFault.TheVariants.{ReadFault}
 
 module _ {S T U : Type 0} (of : StoreGhosts S) (value : T → U) (names : List (List ℕ)) where
   -- what is read, under another name
   pub read_as : (First Whole : List (Option (List ℕ)) → Result U Refusal → Type 0) (old new : S)
-      (result : Result T AuditFault) → IsReadFrom of value names First old result new
+      (result : Result T InputFault) → IsReadFrom of value names First old result new
       → ((files : List (Option (List ℕ))) (answer : Result U Refusal) → First files answer → Whole files answer)
       → IsReadFrom of value names Whole old result new
   read_as First Whole old new result read join = record {
@@ -29,7 +29,7 @@ module _ {S T U : Type 0} (of : StoreGhosts S) (value : T → U) (names : List (
   }
 
   -- a step that reads nothing is refused
-  pub refused_unread : (Whole : List (Option (List ℕ)) → Result U Refusal → Type 0) (now : S) (fault : AuditFault)
+  pub refused_unread : (Whole : List (Option (List ℕ)) → Result U Refusal → Type 0) (now : S) (fault : InputFault)
       → IfSome (refusal_of fault)
       (λ refusal. (files : List (Option (List ℕ))) → length files ≡ length names → Whole files (Err refusal))
       → fault ≢ ReadFault → ¬ IsAbsent fault → IsReadFrom of value names Whole now (Err fault) now

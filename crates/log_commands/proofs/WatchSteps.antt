@@ -8,7 +8,7 @@ use Rattle.log_commands.proofs.Imports.{map-append, take_all, take_more, Contain
 use Rattle.log_commands.proofs.Imports.{node_of_sealed, SealedEntry, EntryGraph, distinct, HasNoCollision}
 use Rattle.log_commands.proofs.Imports.{distinct_new, distinct_again, distinct_given, distinct_bears, IsNew}
 use Rattle.log_commands.proofs.Imports.{has_digest, has_digest_of, has_digest_from, Post, LogRead, Rule, rule_tree}
-use Rattle.log_commands.proofs.Imports.{RuleTree, AuditFault, entries_of, GivesGraph, EntriesGiveOneGraph}
+use Rattle.log_commands.proofs.Imports.{RuleTree, InputFault, entries_of, GivesGraph, EntriesGiveOneGraph}
 use Rattle.log_commands.proofs.Imports.{refused, refusal_of, IsFaultOf, SameGraph, StandFor, text_of_sealed}
 use Rattle.log_commands.proofs.Imports.{of_refusal, same_gives, stand_copied, stand_repeated}
 use Rattle.log_commands.proofs.Imports.{graph_has_finding, has_some, is_broken, is_unsettled, log_has_finding}
@@ -396,7 +396,7 @@ same_findings graph other same =
 module _ (machines : List Post) (word : List ℕ) (rules : List Rule) (logs : List LogRead) (names : List (List ℕ))
     (graph : EntryGraph SealedEntry) (graphed : GivesGraph (entries_of logs) (Ok graph)) where
   -- too many entries are refused
-  pub too_many : (fault : AuditFault) → ¬ AreFewDistinct (entries_of logs) →
+  pub too_many : (fault : InputFault) → ¬ AreFewDistinct (entries_of logs) →
       IsFaultOf (refused (codes "entries") 0 (codes "TooMany")) fault →
       IfSome (refusal_of fault)
       (λ refusal. Watches (source_named word) names (evidence_by machines rules logs) (Err refusal))
@@ -407,7 +407,7 @@ module _ (machines : List Post) (word : List ℕ) (rules : List Rule) (logs : Li
 
   module _ (es : List SealedEntry) (all : es ≡ entries_of logs) (few : AreFewDistinct (entries_of logs)) where
     -- a rule that is too wide is refused, by its place
-    pub too_wide : (why : Unwatched) (fault : AuditFault) (place : ℕ) → why ≡ TooWide place →
+    pub too_wide : (why : Unwatched) (fault : InputFault) (place : ℕ) → why ≡ TooWide place →
         IsUnwatched machines (map rule_tree rules) es why → IsFaultOf (refused word place (codes "TooWide")) fault →
         IfSome (refusal_of fault)
         (λ refusal. Watches (source_named word) names (evidence_by machines rules logs) (Err refusal))

@@ -11,7 +11,7 @@ ghost use Rattle.command_line.specs.Promise.{IsAnsweredBy};
 use auditor::{Report, write_report};
 use command_line::{Answer, Fault, Status, rules_from, status_by};
 use entry_format::Sealed;
-use evidence::AuditFault;
+use evidence::InputFault;
 use hall_outside::Store;
 use log_files::EntryWork;
 use rule_meaning::rules_are_settled;
@@ -32,7 +32,7 @@ fn answer_of(alloc: Global, report: &Report) -> Result<Answer, AllocError>
 }
 
 /// The answer of an audit, of whatever files.
-fn answered<S: Store>(alloc: Global, audited: Result<Report, AuditFault>) -> Result<Answer, Fault>
+fn answered<S: Store>(alloc: Global, audited: Result<Report, InputFault>) -> Result<Answer, Fault>
     ensures { (roster rules : List ℕ) (logs : List (List ℕ)) (before after : S) →
         IsReadFrom S.Store report_of (audit_files roster (source_named rules) logs)
         (GivesReport roster (source_named rules) logs) before audited after →

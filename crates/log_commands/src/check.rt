@@ -43,8 +43,9 @@ use audit_proof::{CheckFault, Proof, Verdict};
 use auditor::{RulesFrom, read_rules, rows};
 use command_line::{Answer, Fault, Status, rules_from};
 use entry_graph::Graph;
-use evidence::{AuditFault, RosterRead, graph_from, read_logs_by, read_roster};
+use evidence::{InputFault, RosterRead, graph_from, read_logs_by, read_roster};
 use hall_outside::Store;
+use input_causes::Cause;
 use log_files::{EntryWork, LogRead};
 use roster::Roster;
 use rule_language::{Row, Rule, standard};
@@ -144,7 +145,7 @@ fn check_by(
     rules: Vec<Rule>,
     graph: Graph,
     proof: &Proof,
-) -> Result<Checked, AuditFault>
+) -> Result<Checked, InputFault>
     requires makers { HaveMakers roster.machines graph.survivors }
     requires proof { IsProofOf (nodes_of graph) proof.now }
     ensures ok { IfOk result (λ checked. ChecksLines roster.machines (source_named word.now)
@@ -152,7 +153,7 @@ fn check_by(
     ensures err { IfErr result (λ fault. IfSome (refusal_of fault) (λ refusal. ChecksLines
         roster.machines (source_named word.now) (map rule_tree rules.items) graph proof.now
         (Err refusal))) }
-    ensures only { IfErr result (λ fault. (fault ≢ AuditFault.ReadFault) × (¬ IsAbsent fault)) }
+    ensures only { IfErr result (λ fault. (fault ≢ InputFault.ReadFault) × (¬ IsAbsent fault)) }
 {
     match check_rows(alloc, &roster, rules.as_slice(), &graph, proof) {
         Ok(verdicts) => Ok(Checked {
@@ -162,9 +163,9 @@ fn check_by(
             verdicts,
         }),
         Err(Unchecked::TooWide(place)) => {
-            Err(AuditFault::refused(alloc, word, place as u64, "TooWide"))
+            Err(InputFault::refused(alloc, word, place as u64, Cause::TooWide))
         }
-        Err(Unchecked::Memory) => Err(AuditFault::Memory),
+        Err(Unchecked::Memory) => Err(InputFault::Memory),
     }
 }
 
@@ -177,7 +178,7 @@ fn check_graph<S: Store>(
     rules: Vec<Rule>,
     proof: &str,
     graph: Graph,
-) -> Result<Checked, AuditFault>
+) -> Result<Checked, InputFault>
     requires kept { IsEntryGraph node_of_sealed graph }
     requires makers { HaveMakers roster.machines graph.survivors }
     ensures { IsReadFromFile S.Store report_by proof.now
@@ -200,7 +201,7 @@ fn check_logs<S: Store>(
     rules: Vec<Rule>,
     proof: &str,
     logs: Vec<LogRead>,
-) -> Result<Checked, AuditFault>
+) -> Result<Checked, InputFault>
     requires makers { HaveMakers roster.machines (entries_of logs.items) }
     ensures { IsReadFromFile S.Store report_by proof.now
         (λ file. ChecksLogs roster.machines (source_named word.now) (map rule_tree rules.items)
@@ -223,7 +224,7 @@ fn check_rules<W: EntryWork, S: Store>(
     rules: Vec<Rule>,
     proof: &str,
     logs: &[String],
-) -> Result<Checked, AuditFault>
+) -> Result<Checked, InputFault>
     requires { W.may_share work.now }
     ensures { IsReadFrom S.Store report_by (map string_bytes logs.now ++ proof.now ∷ [])
         (ChecksFiles read (source_named word.now) (map rule_tree rules.items) proof.now
@@ -245,7 +246,7 @@ fn check_under<W: EntryWork, S: Store>(
     word: &str,
     proof: &str,
     logs: &[String],
-) -> Result<Checked, AuditFault>
+) -> Result<Checked, InputFault>
     requires { W.may_share work.now }
     ensures { IsReadFrom S.Store report_by
         (rule_files (source_named word.now) ++ (map string_bytes logs.now ++ proof.now ∷ []))
@@ -255,7 +256,7 @@ fn check_under<W: EntryWork, S: Store>(
     match rules_from(word) {
         RulesFrom::Standard => match standard(alloc) {
             Ok(rules) => check_rules(work, alloc, store, read, word, rules, proof, logs),
-            Err(_) => Err(AuditFault::Memory),
+            Err(_) => Err(InputFault::Memory),
         },
         RulesFrom::File(name) => match read_rules(alloc, store, name) {
             Ok(rules) => check_rules(work, alloc, store, read, word, rules, proof, logs),
@@ -273,7 +274,7 @@ fn check_all<W: EntryWork, S: Store>(
     word: &str,
     proof: &str,
     logs: &[String],
-) -> Result<Checked, AuditFault>
+) -> Result<Checked, InputFault>
     requires { W.may_share work.now }
     ensures { IsReadFrom S.Store report_by
         (check_files roster.now (source_named word.now) proof.now (map string_bytes logs.now))

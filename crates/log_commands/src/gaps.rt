@@ -5,6 +5,7 @@ ghost use Rattle.command_line.specs.Promise.{IsAnsweredBy};
 
 use command_line::{Answer, Fault};
 use hall_outside::Store;
+use input_causes::Cause;
 use log_files::{LogFault, PlainLog, add_end, add_gaps, add_refused, read_plain_log};
 use std::alloc::{AllocError, Global};
 
@@ -16,8 +17,8 @@ pub fn gaps<S: Store>(alloc: Global, store: &mut S, log: &str) -> Result<Answer,
     match read_plain_log(alloc, store, log) {
         Ok(plain) => Ok(Answer::findings(alloc, lines_of(alloc, log, &plain)?)),
         Err(LogFault::Absent) => Ok(Answer::absent(alloc, log)?),
-        Err(LogFault::TooLong) => Ok(Answer::refused(alloc, log, 0, "TooLong")?),
-        Err(LogFault::Header) => Ok(Answer::refused(alloc, log, 0, "Header")?),
+        Err(LogFault::TooLong) => Ok(Answer::refused(alloc, log, 0, Cause::TooLong)?),
+        Err(LogFault::Header) => Ok(Answer::refused(alloc, log, 0, Cause::Header)?),
         Err(LogFault::ReadFault) => Err(Fault::ReadFault),
         Err(LogFault::Memory) => Err(Fault::Memory),
     }

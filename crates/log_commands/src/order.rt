@@ -36,8 +36,9 @@ use command_line::{Answer, Fault, Status, are_logs};
 use entry_format::Sealed;
 use entry_graph::Graph;
 use entry_order::{Knot, Three, order_is_settled};
-use evidence::{AuditFault, RosterRead, graph_from, read_logs_by, read_roster};
+use evidence::{InputFault, RosterRead, graph_from, read_logs_by, read_roster};
 use hall_outside::Store;
+use input_causes::Cause;
 use log_files::{EntryWork, LogRead};
 use precedence::{Arrows, Rows};
 use roster::Roster;
@@ -79,7 +80,7 @@ fn order_of<S: Store>(
     read: &RosterRead,
     x: &str,
     y: &str,
-    logs: Result<Vec<LogRead>, AuditFault>,
+    logs: Result<Vec<LogRead>, InputFault>,
 ) -> Result<Answer, Fault>
     ensures { (roster : List ℕ) (names : List (List ℕ)) (old mid new : S) →
         IsReadFromFile S.Store (λ found. found) roster (GivesRoster roster) old (Ok read.now) mid →
@@ -126,10 +127,10 @@ fn order_among(
     ensures status { IfOk result (λ answer. answer.status ≢ Status.Absent) }
 {
     let Some(first) = place_of(roster, graph, x) else {
-        return Answer::refused(alloc, x, 0, "NoEntry");
+        return Answer::refused(alloc, x, 0, Cause::NoEntry);
     };
     let Some(second) = place_of(roster, graph, y) else {
-        return Answer::refused(alloc, y, 0, "NoEntry");
+        return Answer::refused(alloc, y, 0, Cause::NoEntry);
     };
     let word = word_at(alloc, graph, first, second)?;
     Answer::line(alloc, word.word())

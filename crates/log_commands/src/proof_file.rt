@@ -9,8 +9,9 @@ ghost use Rattle.log_commands.specs.ProofFile.{GivesProof, max_proof};
 
 use audit_proof::{Proof, ProofFault, read_proof};
 use entry_graph::Graph;
-use evidence::{AuditFault, file_fault};
+use evidence::{InputFault, file_fault};
 use hall_outside::{Store, read_file};
+use input_causes::Cause;
 use std::alloc::Global;
 
 /// The most bytes of a proof's file.
@@ -22,7 +23,7 @@ pub fn read_proof_file<S: Store>(
     store: &mut S,
     name: &str,
     graph: &Graph,
-) -> Result<Proof, AuditFault>
+) -> Result<Proof, InputFault>
     requires { IsEntryGraph node_of_sealed graph.now }
     ensures { IsReadFromFile S.Store (λ proof. proof) name.now
         (GivesProof name.now (nodes_of graph.now))
@@ -35,20 +36,20 @@ pub fn read_proof_file<S: Store>(
 }
 
 /// The proof for this graph that these bytes of the named file are the text of.
-fn proof_of(alloc: Global, name: &str, graph: &Graph, bytes: &[u8]) -> Result<Proof, AuditFault>
+fn proof_of(alloc: Global, name: &str, graph: &Graph, bytes: &[u8]) -> Result<Proof, InputFault>
     requires graph { IsEntryGraph node_of_sealed graph.now }
     requires fits { length bytes.now ≤ max_proof }
     ensures ok { IfOk result (λ proof.
         GivesProof name.now (nodes_of graph.now) (Some bytes.now) (Ok proof)) }
     ensures err { IfErr result (λ fault. IfSome (refusal_of fault) (λ refusal.
         GivesProof name.now (nodes_of graph.now) (Some bytes.now) (Err refusal))) }
-    ensures only { IfErr result (λ fault. (fault ≢ AuditFault.ReadFault) × (¬ IsAbsent fault)) }
+    ensures only { IfErr result (λ fault. (fault ≢ InputFault.ReadFault) × (¬ IsAbsent fault)) }
 {
     match read_proof(alloc, graph, bytes) {
         Ok(proof) => Ok(proof),
         Err(ProofFault::At { line, why }) => {
-            Err(AuditFault::refused(alloc, name, line as u64, why.word()))
+            Err(InputFault::refused(alloc, name, line as u64, Cause::Proof(why)))
         }
-        Err(ProofFault::Memory) => Err(AuditFault::Memory),
+        Err(ProofFault::Memory) => Err(InputFault::Memory),
     }
 }

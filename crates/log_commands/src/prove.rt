@@ -14,8 +14,9 @@ ghost use Rattle.command_line.specs.Promise.{IsAnsweredBy};
 use audit_proof::ProveFault;
 use command_line::{Answer, Fault, OutputFile};
 use entry_graph::Graph;
-use evidence::{AuditFault, RosterRead, graph_from, read_logs_by, read_roster};
+use evidence::{InputFault, RosterRead, graph_from, read_logs_by, read_roster};
 use hall_outside::Store;
+use input_causes::Cause;
 use log_files::{EntryWork, LogRead};
 use precedence::Arrows;
 use std::alloc::{AllocError, Global};
@@ -37,29 +38,29 @@ impl Model for ProofMade {
 }
 
 /// The proof of the graph's survivors, which is to go into the named file.
-fn proof_of(alloc: Global, name: &str, graph: &Graph) -> Result<ProofMade, AuditFault>
+fn proof_of(alloc: Global, name: &str, graph: &Graph) -> Result<ProofMade, InputFault>
     requires { IsEntryGraph node_of_sealed graph.now }
     ensures ok { IfOk result (λ made. GivesText name.now (nodes_of graph.now) (Ok made)) }
     ensures err { IfErr result (λ fault. IfSome (refusal_of fault)
         (λ refusal. GivesText name.now (nodes_of graph.now) (Err refusal))) }
-    ensures only { IfErr result (λ fault. (fault ≢ AuditFault.ReadFault) × (¬ IsAbsent fault)) }
+    ensures only { IfErr result (λ fault. (fault ≢ InputFault.ReadFault) × (¬ IsAbsent fault)) }
 {
     match audit_proof::prove(alloc, graph) {
         Ok(text) => Ok(ProofMade {
             entries: graph.count(),
             text,
         }),
-        Err(ProveFault::TooLong) => Err(AuditFault::refused(alloc, name, 0, "TooLong")),
-        Err(ProveFault::Memory) => Err(AuditFault::Memory),
+        Err(ProveFault::TooLong) => Err(InputFault::refused(alloc, name, 0, Cause::TooLong)),
+        Err(ProveFault::Memory) => Err(InputFault::Memory),
     }
 }
 
 /// The proof of the survivors of the entries that the logs keep.
-fn proof_of_logs(alloc: Global, name: &str, logs: Vec<LogRead>) -> Result<ProofMade, AuditFault>
+fn proof_of_logs(alloc: Global, name: &str, logs: Vec<LogRead>) -> Result<ProofMade, InputFault>
     ensures ok { IfOk result (λ made. ProvesLogs name.now logs.items (Ok made)) }
     ensures err { IfErr result (λ fault. IfSome (refusal_of fault)
         (λ refusal. ProvesLogs name.now logs.items (Err refusal))) }
-    ensures only { IfErr result (λ fault. (fault ≢ AuditFault.ReadFault) × (¬ IsAbsent fault)) }
+    ensures only { IfErr result (λ fault. (fault ≢ InputFault.ReadFault) × (¬ IsAbsent fault)) }
 {
     match graph_from(alloc, logs) {
         Ok(graph) => proof_of(alloc, name, &graph),
@@ -75,7 +76,7 @@ fn prove_under<W: EntryWork, S: Store>(
     read: &RosterRead,
     proof: &str,
     logs: &[String],
-) -> Result<ProofMade, AuditFault>
+) -> Result<ProofMade, InputFault>
     requires { W.may_share work.now }
     ensures { IsReadFrom S.Store (λ made. made) (map string_bytes logs.now)
         (ProvesFiles read.now proof.now (map string_bytes logs.now))
@@ -95,7 +96,7 @@ fn prove_all<W: EntryWork, S: Store>(
     roster: &str,
     proof: &str,
     logs: &[String],
-) -> Result<ProofMade, AuditFault>
+) -> Result<ProofMade, InputFault>
     requires { W.may_share work.now }
     ensures { IsReadFrom S.Store (λ made. made) (roster.now ∷ map string_bytes logs.now)
         (GivesMade roster.now proof.now (map string_bytes logs.now))

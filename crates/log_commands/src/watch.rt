@@ -48,9 +48,10 @@ use command_line::{Answer, Fault, Status, rules_from, status_by};
 use entry_format::Sealed;
 use entry_graph::Graph;
 use evidence::{
-    AuditFault, RosterRead, entries_give_one_graph, graph_of, read_logs_by, read_roster,
+    InputFault, RosterRead, entries_give_one_graph, graph_of, read_logs_by, read_roster,
 };
 use hall_outside::Store;
+use input_causes::Cause;
 use live_auditor::{Live, LiveFault, same_digest};
 use log_files::{EntryWork, Kept, LogRead};
 use roster::Roster;
@@ -76,7 +77,7 @@ fn read_with_rules<W: EntryWork, S: Store>(
     read: RosterRead,
     rules: Vec<Rule>,
     names: &[String],
-) -> Result<EvidenceRead, AuditFault>
+) -> Result<EvidenceRead, InputFault>
     requires { W.may_share work.now }
     ensures { IsReadFrom S.Store evidence_of (map string_bytes names.now)
         (ReadsLogs read (map rule_tree rules.items) (map string_bytes names.now))
@@ -100,7 +101,7 @@ fn read_with_roster<W: EntryWork, S: Store>(
     read: RosterRead,
     word: &str,
     names: &[String],
-) -> Result<EvidenceRead, AuditFault>
+) -> Result<EvidenceRead, InputFault>
     requires { W.may_share work.now }
     ensures { IsReadFrom S.Store evidence_of
         (rule_files (source_named word.now) ++ map string_bytes names.now)
@@ -110,7 +111,7 @@ fn read_with_roster<W: EntryWork, S: Store>(
     match rules_from(word) {
         RulesFrom::Standard => match standard(alloc) {
             Ok(rules) => read_with_rules(work, alloc, store, read, rules, names),
-            Err(_) => Err(AuditFault::Memory),
+            Err(_) => Err(InputFault::Memory),
         },
         RulesFrom::File(name) => match read_rules(alloc, store, name) {
             Ok(rules) => read_with_rules(work, alloc, store, read, rules, names),
@@ -127,7 +128,7 @@ fn read_evidence<W: EntryWork, S: Store>(
     roster: &str,
     word: &str,
     names: &[String],
-) -> Result<EvidenceRead, AuditFault>
+) -> Result<EvidenceRead, InputFault>
     requires { W.may_share work.now }
     ensures { IsReadFrom S.Store evidence_of
         (audit_files roster.now (source_named word.now) (map string_bytes names.now))
@@ -441,7 +442,7 @@ fn watch_few(
     logs: &[LogRead],
     graph: &Graph,
     entries: &[&Sealed],
-) -> Result<Answer, AuditFault>
+) -> Result<Answer, InputFault>
     requires entries { map (λ e. e.now) entries.now ≡ entries_of logs.now }
     requires machines { All (IsOfMachine roster.now.machines) (entries_of logs.now) }
     requires graphed { GivesGraph (entries_of logs.now) (Ok graph.now) }
@@ -451,20 +452,20 @@ fn watch_few(
     ensures err { (names : List (List ℕ)) → IfErr result (λ fault. IfSome (refusal_of fault)
         (λ refusal. Watches (source_named word.now) names
         (evidence_by roster.now.machines rules.items logs.now) (Err refusal))) }
-    ensures only { IfErr result (λ fault. (fault ≢ AuditFault.ReadFault) × (¬ IsAbsent fault)) }
+    ensures only { IfErr result (λ fault. (fault ≢ InputFault.ReadFault) × (¬ IsAbsent fault)) }
     ensures status { IfOk result (λ answer. answer.status ≢ Status.Absent) }
 {
     entries_give_one_graph();
     if let Some(place) = wide_among(alloc, roster, rules.as_slice(), graph, entries)? {
-        return Err(AuditFault::refused(alloc, word, place as u64, "TooWide"));
+        return Err(InputFault::refused(alloc, word, place as u64, Cause::TooWide));
     }
     let mut live = Live::make(alloc, roster, rules)?;
     match watch_entries(alloc, &mut live, entries) {
         Ok(lines) => Ok(answer_of(alloc, logs, graph, &live, lines)),
         Err(Unwatched::TooWide(place)) => {
-            Err(AuditFault::refused(alloc, word, place as u64, "TooWide"))
+            Err(InputFault::refused(alloc, word, place as u64, Cause::TooWide))
         }
-        Err(Unwatched::Memory) => Err(AuditFault::Memory),
+        Err(Unwatched::Memory) => Err(InputFault::Memory),
     }
 }
 
@@ -476,7 +477,7 @@ fn watch_graph(
     rules: Vec<Rule>,
     logs: &[LogRead],
     graph: &Graph,
-) -> Result<Answer, AuditFault>
+) -> Result<Answer, InputFault>
     requires machines { All (IsOfMachine roster.now.machines) (entries_of logs.now) }
     requires graphed { GivesGraph (entries_of logs.now) (Ok graph.now) }
     ensures ok { (names : List (List ℕ)) → IfOk result (λ answer. Watches (source_named word.now)
@@ -484,25 +485,25 @@ fn watch_graph(
     ensures err { (names : List (List ℕ)) → IfErr result (λ fault. IfSome (refusal_of fault)
         (λ refusal. Watches (source_named word.now) names
         (evidence_by roster.now.machines rules.items logs.now) (Err refusal))) }
-    ensures only { IfErr result (λ fault. (fault ≢ AuditFault.ReadFault) × (¬ IsAbsent fault)) }
+    ensures only { IfErr result (λ fault. (fault ≢ InputFault.ReadFault) × (¬ IsAbsent fault)) }
     ensures status { IfOk result (λ answer. answer.status ≢ Status.Absent) }
 {
     let entries = entries_in(alloc, logs)?;
     if are_few_distinct(alloc, entries.as_slice())? {
         watch_few(alloc, roster, word, rules, logs, graph, entries.as_slice())
     } else {
-        Err(AuditFault::refused(alloc, "entries", 0, "TooMany"))
+        Err(InputFault::refused(alloc, "entries", 0, Cause::TooMany))
     }
 }
 
 /// What the evidence gives.
-fn watch_evidence(alloc: Global, found: EvidenceRead, word: &str) -> Result<Answer, AuditFault>
+fn watch_evidence(alloc: Global, found: EvidenceRead, word: &str) -> Result<Answer, InputFault>
     requires { All (IsOfMachine found.roster.machines) (entries_of found.logs.items) }
     ensures ok { (names : List (List ℕ)) → IfOk result
         (λ answer. Watches (source_named word.now) names (evidence_of found) (Ok answer)) }
     ensures err { (names : List (List ℕ)) → IfErr result (λ fault. IfSome (refusal_of fault)
         (λ refusal. Watches (source_named word.now) names (evidence_of found) (Err refusal))) }
-    ensures only { IfErr result (λ fault. (fault ≢ AuditFault.ReadFault) × (¬ IsAbsent fault)) }
+    ensures only { IfErr result (λ fault. (fault ≢ InputFault.ReadFault) × (¬ IsAbsent fault)) }
     ensures status { IfOk result (λ answer. answer.status ≢ Status.Absent) }
 {
     let EvidenceRead {
@@ -524,7 +525,7 @@ fn watch_all<W: EntryWork, S: Store>(
     roster: &str,
     word: &str,
     logs: &[String],
-) -> Result<Answer, AuditFault>
+) -> Result<Answer, InputFault>
     requires { W.may_share work.now }
     ensures read { IsReadFrom S.Store (λ answer. answer)
         (audit_files roster.now (source_named word.now) (map string_bytes logs.now))

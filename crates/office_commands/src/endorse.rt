@@ -18,7 +18,7 @@ ghost use Rattle.command_line.specs.Promise.{IsAnsweredBy};
 use crate::named_bytes::{MAX_SIGNED, read_bytes};
 use crate::office_file::{office_file, read_office_file};
 use command_line::{Answer, Fault, OutputFile};
-use evidence::AuditFault;
+use evidence::InputFault;
 use hall_outside::Store;
 use lms_sign::LeafWork;
 use office_key::{Office, endorsements_are_good, write_office};
@@ -37,7 +37,7 @@ fn read_for<S: Store>(
     store: &mut S,
     office: Office,
     file: &str,
-) -> Result<ToSign, AuditFault>
+) -> Result<ToSign, InputFault>
     ensures { IsReadFrom S.Store unsigned_of (file.now ∷ [])
         (FileThen (GivesBytes max_signed file.now)
         (λ bytes. AtLast (record { office = office; bytes = bytes })))
@@ -56,7 +56,7 @@ fn read_to_sign<S: Store>(
     office: &str,
     name: &str,
     file: &str,
-) -> Result<ToSign, AuditFault>
+) -> Result<ToSign, InputFault>
     requires { office.now ≡ office_file name.now }
     ensures { IsReadFrom S.Store unsigned_of (office_file name.now ∷ file.now ∷ [])
         (GivesUnsigned name.now file.now)

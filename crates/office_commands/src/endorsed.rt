@@ -10,7 +10,7 @@ ghost use Rattle.command_line.specs.Promise.{IsAnsweredBy};
 
 use crate::named_bytes::{MAX_SIGNED, MAX_SMALL, read_bytes};
 use command_line::{Answer, Fault, Status};
-use evidence::AuditFault;
+use evidence::InputFault;
 use hall_outside::Store;
 use hss_sign::hss_verify;
 use std::alloc::{AllocError, Global};
@@ -30,7 +30,7 @@ fn read_signature<S: Store>(
     key: Vec<u8>,
     bytes: Vec<u8>,
     signature: &str,
-) -> Result<ToVerify, AuditFault>
+) -> Result<ToVerify, InputFault>
     ensures { IsReadFrom S.Store signed_of (signature.now ∷ [])
         (FileThen (GivesBytes max_small signature.now)
         (λ s. AtLast (record { key = key.items; bytes = bytes.items; signature = s })))
@@ -53,7 +53,7 @@ fn read_signed<S: Store>(
     key: Vec<u8>,
     file: &str,
     signature: &str,
-) -> Result<ToVerify, AuditFault>
+) -> Result<ToVerify, InputFault>
     ensures { IsReadFrom S.Store signed_of (file.now ∷ signature.now ∷ [])
         (FileThen (GivesBytes max_signed file.now)
         (λ m. FileThen (GivesBytes max_small signature.now)
@@ -73,7 +73,7 @@ fn read_to_verify<S: Store>(
     key: &str,
     file: &str,
     signature: &str,
-) -> Result<ToVerify, AuditFault>
+) -> Result<ToVerify, InputFault>
     ensures { IsReadFrom S.Store signed_of (key.now ∷ file.now ∷ signature.now ∷ [])
         (GivesSigned key.now file.now signature.now)
         store.old result store.new }

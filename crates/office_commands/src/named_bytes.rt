@@ -2,7 +2,7 @@
 ghost use Rattle.evidence.specs.Reading.{IsReadFromFile};
 ghost use Rattle.office_commands.specs.NamedBytes.{GivesBytes};
 
-use evidence::{AuditFault, file_fault};
+use evidence::{InputFault, file_fault};
 use hall_outside::{Store, read_file};
 use std::alloc::Global;
 
@@ -18,7 +18,7 @@ pub fn read_bytes<S: Store>(
     store: &mut S,
     name: &str,
     limit: usize,
-) -> Result<Vec<u8>, AuditFault>
+) -> Result<Vec<u8>, InputFault>
     ensures { IsReadFromFile S.Store (λ bytes. bytes.items) name.now (GivesBytes limit name.now)
         store.old result store.new }
 {

@@ -14,6 +14,7 @@ use crate::office_file::office_file;
 use command_line::{Answer, Fault, OutputFile};
 use hall_outside::{FileFault, Store, read_file};
 use hall_text::digest_hex;
+use input_causes::Cause;
 use lms_sign::LeafWork;
 use office_key::{Office, public_key_by, write_office};
 use std::alloc::{AllocError, Global};
@@ -82,7 +83,7 @@ pub fn office<W: LeafWork, S: Store>(
 {
     let file = office_file(alloc, name)?;
     match is_there(alloc, store, file.as_str()) {
-        Ok(true) => Ok(Answer::refused(alloc, file.as_str(), 0, "Exists")?),
+        Ok(true) => Ok(Answer::refused(alloc, file.as_str(), 0, Cause::Exists)?),
         Ok(false) => {
             let key = public_key_by(work, alloc, name.as_bytes(), &seed)?;
             Ok(made_of(alloc, file, name, seed, &key)?)

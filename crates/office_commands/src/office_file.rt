@@ -7,8 +7,9 @@ ghost use Rattle.office_commands.specs.NamedBytes.{max_small};
 ghost use Rattle.office_commands.specs.OfficeFile.{GivesOffice, office_file};
 
 use crate::named_bytes::MAX_SMALL;
-use evidence::{AuditFault, file_fault};
+use evidence::{InputFault, file_fault};
 use hall_outside::{Store, read_file};
+use input_causes::Cause;
 use office_key::{Office, read_office};
 use std::alloc::{AllocError, Global};
 
@@ -24,7 +25,7 @@ pub fn read_office_file<S: Store>(
     alloc: Global,
     store: &mut S,
     file: &str,
-) -> Result<Office, AuditFault>
+) -> Result<Office, InputFault>
     ensures { IsReadFromFile S.Store (λ office. office) file.now (GivesOffice file.now)
         store.old result store.new }
 {
@@ -35,20 +36,20 @@ pub fn read_office_file<S: Store>(
 }
 
 /// The office whose text these bytes of the named file are, if its key isn't spent.
-fn office_of(alloc: Global, file: &str, bytes: &[u8]) -> Result<Office, AuditFault>
+fn office_of(alloc: Global, file: &str, bytes: &[u8]) -> Result<Office, InputFault>
     requires { length bytes.now ≤ max_small }
     ensures ok { IfOk result (λ office. GivesOffice file.now (Some bytes.now) (Ok office)) }
     ensures err { IfErr result (λ fault. IfSome (refusal_of fault)
         (λ refusal. GivesOffice file.now (Some bytes.now) (Err refusal))) }
-    ensures only { IfErr result (λ fault. (fault ≢ AuditFault.ReadFault) × (¬ IsAbsent fault)) }
+    ensures only { IfErr result (λ fault. (fault ≢ InputFault.ReadFault) × (¬ IsAbsent fault)) }
 {
     match read_office(bytes) {
         Some(office) => {
             if office.is_spent() {
-                return Err(AuditFault::refused(alloc, file, 0, "Spent"));
+                return Err(InputFault::refused(alloc, file, 0, Cause::Spent));
             }
             Ok(office)
         }
-        None => Err(AuditFault::refused(alloc, file, 0, "Office")),
+        None => Err(InputFault::refused(alloc, file, 0, Cause::Office)),
     }
 }

@@ -38,7 +38,7 @@ pub use Rattle.evidence.proofs.Readings.{stands}
 pub use Rattle.evidence.specs.Reading.{IsReadFromFile}
 pub use Rattle.evidence.specs.NamedFiles.{OnOneFile}
 pub use Rattle.evidence.specs.Refusal.{Refusal, refused, too_long}
-pub use Rattle.evidence.specs.declared.fault.AuditFault.{AuditFault}
+pub use Rattle.evidence.specs.declared.fault.InputFault.{InputFault}
 pub use Rattle.finished_floor.specs.Floors.{ArePlayedAgain, IsFloorOf}
 pub use Rattle.finished_floor.specs.declared.loss.Loss.{Loss}
 pub use Rattle.hall_outside.specs.ReadFile.{IsFileRefused}

@@ -2,12 +2,12 @@
 use Rattle.std.proofs.Common.{◌↔◌, Option, Some}
 use Rattle.place_commands.proofs.Imports.{◌≡◌, ◌≢◌, ◌∙◌, ℕ, List, [], ◌∷◌, None, inl, inr, refl, sym, arith, Result}
 use Rattle.place_commands.proofs.Imports.{Ok, Err, IfOk, IfErr, All-from_recursion, Script, Status, Answer, Fault}
-use Rattle.place_commands.proofs.Imports.{StoreGhosts, AuditFault, Refusal, OnOneFile, IsReadFromFile, IsAnswered}
+use Rattle.place_commands.proofs.Imports.{StoreGhosts, InputFault, Refusal, OnOneFile, IsReadFromFile, IsAnswered}
 use Rattle.place_commands.proofs.Imports.{OrRefused, refusal_answer, GivesScript, IsScriptFile, play_statuses}
 use Rattle.place_commands.proofs.Imports.{status_of_undone, IsCarriedOut}
 use Rattle.place_commands.proofs.Imports.{on_one}
 use Rattle.std.specs.List.{All, Contains}
-use Rattle.evidence.specs.declared.fault.AuditFault.TheVariants as audit
+use Rattle.evidence.specs.declared.fault.InputFault.TheVariants as audit
 use Rattle.command_line.specs.declared.answer.Fault.TheVariants.{ReadFault}
 use Rattle.command_line.specs.declared.status.Status.TheVariants as status
 use Rattle.command_line.proofs.CommandProofs.{IsOfCommands, of_read}
@@ -64,7 +64,7 @@ module _ {S : Type 0} (of : StoreGhosts S) (name : List ℕ) (IsFor : Script →
   GivesOne files answer = OnOneFile (λ file. GivesScript name file answer) files
 
   -- a script that is refused is answered so
-  pub script_refused : (fault : AuditFault) (result : Result Answer Fault)
+  pub script_refused : (fault : InputFault) (result : Result Answer Fault)
       → IsReadFromFile of itself name (GivesScript name) old (Err fault) new → IfOk result (IsAnswerOfFault fault)
       → IfErr result (λ why. (why ≡ ReadFault) ↔ (fault ≡ audit.ReadFault))
       → IsAnswered of (IsRightAsRead of itself (name ∷ []) GivesOne IsDoneWith old new) IsAbsentAnswer old result new

@@ -7,7 +7,7 @@ use Rattle.hall_outside.specs.declared.stores.Store.{Ghosts as StoreGhosts}
 use Rattle.log_files.specs.declared.sealed_log.LogRead.{LogRead}
 use Rattle.rule_language.specs.Forms.{rule_tree}
 use Rattle.rule_language.specs.Trees.{RuleTree}
-use Rattle.evidence.specs.declared.fault.AuditFault.{AuditFault}
+use Rattle.evidence.specs.declared.fault.InputFault.{InputFault}
 use Rattle.evidence.specs.declared.roster_file.RosterRead.{RosterRead}
 use Rattle.evidence.specs.Logs.{GivesLogs}
 use Rattle.evidence.specs.Refusal.{Refusal}
@@ -31,19 +31,19 @@ WithRoster read source names = RulesThen source (λ rules files. WithRules read 
 
 module _ {S : Type 0} (of : StoreGhosts S) where
   -- the logs of these names were read by the roster
-  abbrev pub AreLogsOf : Begun → List (List ℕ) → S → Result (Vec LogRead Global) AuditFault → S → Type 0
+  abbrev pub AreLogsOf : Begun → List (List ℕ) → S → Result (Vec LogRead Global) InputFault → S → Type 0
   AreLogsOf begun names =
       IsReadFrom of (λ logs. logs.items) names (GivesLogs begun.read.roster.machines begun.read.election names)
 
   -- this is what they give by the rules
-  abbrev pub IsEndOf : Begun → RuleSource → List (List ℕ) → S → Result ReportParts AuditFault → S → Type 0
+  abbrev pub IsEndOf : Begun → RuleSource → List (List ℕ) → S → Result ReportParts InputFault → S → Type 0
   IsEndOf begun source names =
       IsReadFrom of report_of names (WithRules begun.read source (map rule_tree begun.rules.items) names)
 
   -- the rules are read after the roster
-  abbrev pub HasRules : RosterRead → RuleSource → S → Result Begun AuditFault → S → Type 0
+  abbrev pub HasRules : RosterRead → RuleSource → S → Result Begun InputFault → S → Type 0
   HasRules read source old (Ok begun) mid =
-      (names : List (List ℕ)) (result : Result ReportParts AuditFault) (new : S) →
+      (names : List (List ℕ)) (result : Result ReportParts InputFault) (new : S) →
       IsEndOf begun source names mid result new →
       IsReadFrom of report_of (rule_files source ++ names) (WithRoster read source names) old result new
   HasRules read source old (Err fault) new =
@@ -51,9 +51,9 @@ module _ {S : Type 0} (of : StoreGhosts S) where
       IsReadFrom of report_of (rule_files source ++ names) (WithRoster read source names) old (Err fault) new
 
   -- the roster and the rules are read
-  abbrev pub HasBegun : List ℕ → RuleSource → S → Result Begun AuditFault → S → Type 0
+  abbrev pub HasBegun : List ℕ → RuleSource → S → Result Begun InputFault → S → Type 0
   HasBegun roster source old (Ok begun) mid =
-      (names : List (List ℕ)) (result : Result ReportParts AuditFault) (new : S) →
+      (names : List (List ℕ)) (result : Result ReportParts InputFault) (new : S) →
       IsEndOf begun source names mid result new →
       IsReadFrom of report_of (audit_files roster source names) (GivesReport roster source names) old result new
   HasBegun roster source old (Err fault) new =

@@ -2,8 +2,8 @@ use Rattle.auditorium_core.proofs.Imports.{map, string_bytes, IsStill}
 use Rattle.auditorium_core.proofs.Endings.{was_done}
 use Rattle.auditorium_core.proofs.program.done_by.Goals as goal
 
-pub returns : goal.returns
-returns g c =
+pub returns-clause-done : goal.returns-clause-done
+returns-clause-done g c =
     was_done g.S.Store g.K.Sink IsStill (map string_bytes c.args.words.now) c.args.store.now
-    c.answer_of-answer.new.store c.end_with.new.store c.args.out.now c.end_with.new.out c.answer_of-answer.result
-    c.end_with.result c.answer_of-answer.ensures c.end_with.ensures
+    c.answer_of-answer.new.store c.end_heard.new.store c.args.out.now c.end_heard.new.out c.answer_of-answer.result
+    c.end_heard.result c.answer_of-answer.ensures c.end_heard.ensures.ended
