@@ -1,5 +1,5 @@
 //! Days of sessions as texts. The expected ones are those of an independent program.
-use crate::{make, write};
+use election_script::{make, write};
 use std::alloc::Global;
 use std::test::Fail;
 
