@@ -29,6 +29,7 @@ use hall_outside::Store;
 use item_list::Items;
 use report_page::{Input, What, write_page};
 use std::alloc::{AllocError, Global};
+use ways_of_work::Alone;
 
 /// The digest at a place, if it is known.
 fn known_digest(digests: &[Option<[u8; 32]>], place: usize) -> Option<[u8; 32]>
