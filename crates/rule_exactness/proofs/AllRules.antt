@@ -1,132 +1,86 @@
 -- The law of all standard rules.
-use Rattle.std.proofs.Common.{◌≡◌, ◌≢◌, ℕ, Bool, List, [], ◌∷◌, map, inl, inr, refl, sym, subst}
-use Rattle.std.specs.List.{Contains}
-use Rattle.entry_order.specs.declared.three.Three.TheVariants.{Unknown}
-use Rattle.entry_order.specs.Node.{Node}
-use Rattle.entry_order.specs.Settled.{IsGraphOf}
-use Rattle.entry_order.proofs.Lists.{Contains-none, Contains-cons_cases}
-use Rattle.rule_language.specs.declared.row.Row.{Row}
-use Rattle.rule_language.specs.Trees.{Trees, RuleTree}
-use Rattle.rule_language.specs.Standard.{standard_rules, o1_body, o2_body, a1_body, a2_body, c1_body, c2_body, c3_body}
-use Rattle.rule_language.specs.Standard.{c4_body, c5_body, c6_body, c7_body, v1_body, v2_body, v3_body, v4_body}
-use Rattle.rule_language.specs.Standard.{p1_body, p2_body, p3_body, p4_body, m1_body, k1_body}
-use Rattle.rule_meaning.specs.Sound.{HasNoDouble}
-use Rattle.rule_meaning.specs.Values.{three_in}
-use Rattle.entry_order.specs.Precedes.{IsAcyclic}
-use Rattle.rule_exactness.specs.Exact.{Saying, CanSay, AreWellFormed, IsMade, IsOpen, IsAllThatIsTold, StandardRulesAreExact}
+use Rattle.rule_exactness.proofs.Imports.{Bool, CanSay, Contains, IsAcyclic, IsAllThatIsTold, IsMade, IsOpen, Kind}
+use Rattle.rule_exactness.proofs.Imports.{List, Node, Row, RuleTree, Saying, StandardRulesAreExact, Unknown, [], arith}
+use Rattle.rule_exactness.proofs.Imports.{false, first_test, is_kind, is_real, leads, map, not, p3_body, refl}
+use Rattle.rule_exactness.proofs.Imports.{standard_rules, subst, suc, sym, three_in, true, zero, ℕ, ◌||◌, ◌∷◌, ◌≡◌, ◌≢◌}
+use Rattle.rule_language.specs.declared.kind.Kind.TheVariants as kind
+use Rattle.rule_exactness.proofs.Led.{Setting}
 use Rattle.rule_exactness.proofs.Exact.{all_told}
-use Rattle.rule_exactness.specs.TwoSided.{IsTwoSided}
 use Rattle.rule_exactness.proofs.K2.{k2_open}
-use Rattle.rule_exactness.proofs.Sides.{o1, o2, a1, a2, c1, c2, c3, c4, c5, c6, c7, v1, v2, v3, v4, p1, p2, p4, m1, k1}
 use Rattle.rule_exactness.proofs.TwoSided.{two_sided_open}
 use Rattle.rule_exactness.proofs.P3.{p3_exact}
 
-module _ {T : Type 0} (node : T → Node) (row : T → Row)
-    (make : Saying → ℕ → List (List ℕ) → List ℕ → T) (can : CanSay node row make) where
-  module _ (machines : ℕ) (S : List T) (are : AreWellFormed node row machines S) (parents : ℕ → List ℕ)
-      (ragged : ℕ → Bool) (single : HasNoDouble S) (graph : IsGraphOf node S parents ragged) where
-    -- where the rule is unsettled it is open
-    abbrev IsOpenThen : Trees → Type 0
-    IsOpenThen rule =
-        three_in (map row S) parents ragged rule ≡ Unknown → IsOpen node row (IsMade make) (IsAcyclic node) machines S rule
+module _ {T : Type 0} {node : T → Node} {row : T → Row} {make : Saying → ℕ → List (List ℕ) → List ℕ → T}
+    {machines : ℕ} {S : List T} {parents : ℕ → List ℕ} {ragged : ℕ → Bool}
+    (it : Setting node row make machines S parents ragged) where
+  -- where the rule is unsettled it is open
+  abbrev IsItExact : RuleTree → Type 0
+  IsItExact rule = rule.body ≢ p3_body → three_in (map row S) parents ragged rule.body ≡ Unknown →
+      IsOpen node row (IsMade make) (IsAcyclic node) machines S rule.body
 
-    abbrev IsItExact : RuleTree → Type 0
-    IsItExact rule = rule.body ≢ p3_body → IsOpenThen rule.body
+  -- so is each of them
+  data AreExact : List RuleTree → Type 0 where
+    none : AreExact []
+    more : {rule : RuleTree} {rules : List RuleTree} → IsItExact rule → AreExact rules → AreExact (rule ∷ rules)
 
-    -- so it is of a rule that is two-sided
-    sided : (rule : Trees) → IsTwoSided rule → rule ≢ p3_body → IsOpenThen rule
-    sided rule two other = two_sided_open node row make can machines S are parents ragged single graph rule two
+  pick : {rules : List RuleTree} → AreExact rules → (rule : RuleTree) → Contains rules rule → IsItExact rule
+  pick none rule (k, l, e) = absurd (omega arith)
+  pick (more first others) rule (zero, l, is) = subst IsItExact is first
+  pick (more first others) rule (suc k, l, at) = pick others rule (k, omega arith, at)
 
-    abbrev AreExact : List RuleTree → Type 0
-    AreExact [] = Unit {0}
-    AreExact (rule ∷ rules) = IsItExact rule × AreExact rules
+  -- a rule is two-sided by kinds that are asked for, and others
+  by_kinds : {rule : RuleTree} {rules : List RuleTree} (asked : Kind → Bool) (some other : Kind) →
+      is_real some ≡ true → asked some ≡ true → is_real other ≡ true → not (asked other) ≡ true →
+      first_test (leads asked rule.body []) true ≡ true →
+      first_test (leads (λ k. not (asked k)) rule.body []) false ≡ true → AreExact rules → AreExact (rule ∷ rules)
+  by_kinds {rule = rule} asked some other real is_asked other_real not_asked up down rest =
+      more (λ _. two_sided_open it rule.body (record {
+        up = record { filled = asked; some = some; real = real; is_filled = is_asked; led = up };
+        down = record { filled = λ k. not (asked k); some = other; real = other_real; is_filled = not_asked; led = down };
+      })) rest
 
-    pick : (rules : List RuleTree) → AreExact rules → (rule : RuleTree) → Contains rules rule → IsItExact rule
-    pick [] are_exact rule c = absurd (Contains-none rule c)
-    pick (first ∷ rules) are_exact rule c =
-        elim (Contains-cons_cases first rules rule c) [
-          | inl is ↦ subst IsItExact is are_exact.0
-          | inr later ↦ pick rules are_exact.1 rule later
-        ]
+  asks : {rule : RuleTree} {rules : List RuleTree} (some other : Kind) → is_real some ≡ true →
+      is_kind some some ≡ true → is_real other ≡ true → not (is_kind some other) ≡ true →
+      first_test (leads (is_kind some) rule.body []) true ≡ true →
+      first_test (leads (λ k. not (is_kind some k)) rule.body []) false ≡ true → AreExact rules →
+      AreExact (rule ∷ rules)
+  asks some other = by_kinds (is_kind some) some other
 
-    all_exact : AreExact standard_rules
-    all_exact = (
-      sided o1_body o1,
-      (
-        sided o2_body o2,
-        (
-          sided a1_body a1,
-          (
-            sided a2_body a2,
-            (
-              sided c1_body c1,
-              (
-                sided c2_body c2,
-                (
-                  sided c3_body c3,
-                  (
-                    sided c4_body c4,
-                    (
-                      sided c5_body c5,
-                      (
-                        sided v1_body v1,
-                        (
-                          sided v2_body v2,
-                          (
-                            sided p1_body p1,
-                            (
-                              sided p2_body p2,
-                              (
-                                λ other. absurd (other refl),
-                                (
-                                  sided p4_body p4,
-                                  (
-                                    sided m1_body m1,
-                                    (
-                                      sided k1_body k1,
-                                      (
-                                        λ _. k2_open node row make can machines S are parents ragged single graph,
-                                        (
-                                          sided c6_body c6,
-                                          (
-                                            sided c7_body c7,
-                                            (
-                                              sided v3_body v3,
-                                              (
-                                                sided v4_body v4,
-                                                tt,
-                                              ),
-                                            ),
-                                          ),
-                                        ),
-                                      ),
-                                    ),
-                                  ),
-                                ),
-                              ),
-                            ),
-                          ),
-                        ),
-                      ),
-                    ),
-                  ),
-                ),
-              ),
-            ),
-          ),
-        ),
-      ),
-    )
+  -- all but P3 and K2 are two-sided
+  all_exact : AreExact standard_rules
+  all_exact =
+      asks kind.Opened kind.Closed refl refl refl refl refl refl
+      (asks kind.Opened kind.Closed refl refl refl refl refl refl
+      (asks kind.Authorise kind.Closed refl refl refl refl refl refl
+      (asks kind.Opened kind.Closed refl refl refl refl refl refl
+      (asks kind.Activate kind.Closed refl refl refl refl refl refl
+      (asks kind.Commit kind.Closed refl refl refl refl refl refl
+      (asks kind.Opened kind.Closed refl refl refl refl refl refl
+      (asks kind.Opened kind.Closed refl refl refl refl refl refl
+      (asks kind.Authorise kind.Closed refl refl refl refl refl refl
+      (asks kind.Authorise kind.Closed refl refl refl refl refl refl
+      (asks kind.Opened kind.Override refl refl refl refl refl refl
+      (asks kind.Opened kind.Closed refl refl refl refl refl refl
+      (asks kind.Opened kind.Closed refl refl refl refl refl refl
+      (more (λ other. absurd (other refl))
+      (asks kind.Opened kind.Closed refl refl refl refl refl refl
+      (asks kind.Opened kind.Closed refl refl refl refl refl refl
+      (asks kind.Opened kind.Closed refl refl refl refl refl refl
+      (more (λ _. k2_open it)
+      (asks kind.Commit kind.Closed refl refl refl refl refl refl
+      (asks kind.Opened kind.Closed refl refl refl refl refl refl
+      (asks kind.Opened kind.Override refl refl refl refl refl refl
+      (by_kinds (λ k. is_kind kind.Authorise k || is_kind kind.Commit k) kind.Authorise kind.Closed refl refl refl refl
+      refl refl none)))))))))))))))))))))
 
-  pub standard_rules_are_exact : StandardRulesAreExact node row (IsMade make)
-  standard_rules_are_exact machines S parents ragged single are graph rule standard = record {
-    all = λ other.
-        all_told node row make can machines S are parents ragged single graph rule.body (IsAcyclic node) (λ G c. c)
-        (pick machines S are parents ragged single graph standard_rules
-        (all_exact machines S are parents ragged single graph) rule standard other);
-    ends = λ is early.
-        subst (λ body. IsAllThatIsTold node row (IsMade make) (λ G. Unit {0}) machines S body (three_in (map row S) parents ragged body))
-        (sym is)
-        (all_told node row make can machines S are parents ragged single graph p3_body (λ G. Unit {0}) (λ G c. tt)
-        (p3_exact node row make can machines S are parents ragged single graph early));
-  }
+pub standard_rules_are_exact : {T : Type 0} (node : T → Node) (row : T → Row)
+    (make : Saying → ℕ → List (List ℕ) → List ℕ → T) → CanSay node row make → StandardRulesAreExact node row (IsMade make)
+standard_rules_are_exact node row make can machines S parents ragged single are graph rule standard =
+    let it : Setting node row make machines S parents ragged =
+    record { can = can; are = are; single = single; graph = graph } in
+    record {
+      all = λ other. all_told it rule.body (IsAcyclic node) (λ G c. c) (pick it (all_exact it) rule standard other);
+      ends = λ is early.
+          subst (λ body. IsAllThatIsTold node row (IsMade make) (λ G. Unit {0}) machines S body (three_in (map row S) parents ragged body))
+          (sym is) (all_told it p3_body (λ G. Unit {0}) (λ G c. tt) (p3_exact it early));
+    }

@@ -1,13 +1,10 @@
 -- Digests of 32 octets, and one that is none of fewer than all of them.
-use Rattle.std.proofs.Common.{◌≡◌, ℕ, zero, suc, ◌+◌, ◌*◌, ◌/◌, ◌%◌, ◌^◌, ◌<◌, ◌≤◌, Bool, true, false, cond, List, [], ◌∷◌}
-use Rattle.std.proofs.Common.{map, length, length-append, refl, sym, ap, subst, arith, ◌∙◌}
-use Rattle.std.specs.Prelude.{not, ◌==◌, ◌||◌}
-use Rattle.std.specs.List.{Contains, list_any, filter, flat_map}
-use Rattle.std.proofs.lemmas.List.{length-map}
-use Rattle.std.proofs.Math.Nat.{mul-le-mul_left}
-use Rattle.std.proofs.lemmas.Bool.{eq-eqb, eqb-true, false≢true}
-use Rattle.entry_order.proofs.Lists.{Contains-none, Contains-map}
-use Rattle.entry_order.proofs.Lists.{Contains-filter, list_any_of}
+use Rattle.rule_exactness.proofs.Imports.{Bool, Contains, Contains-filter, Contains-flat_map, Contains-flat_map_cases}
+use Rattle.rule_exactness.proofs.Imports.{Contains-head, Contains-later, Contains-map, Contains-map_cases}
+use Rattle.rule_exactness.proofs.Imports.{Contains-none, List, [], arith, cond, eq-eqb, false, false_from_ne_true}
+use Rattle.rule_exactness.proofs.Imports.{false≢true, filter, flat_map, length, length-append, length-map, list_any}
+use Rattle.rule_exactness.proofs.Imports.{list_any_of, map, mul-le-mul_left, ne_eqb, not, refl, subst, suc, sym, true}
+use Rattle.rule_exactness.proofs.Imports.{zero, ℕ, ◌%◌, ◌*◌, ◌+◌, ◌/◌, ◌<◌, ◌==◌, ◌^◌, ◌||◌, ◌∙◌, ◌∷◌, ◌≡◌, ◌≤◌}
 
 -- the number's octets, the lowest first
 abbrev pub octets : ℕ → ℕ → List ℕ
@@ -32,11 +29,14 @@ number_of-octets (suc k) n low =
 -- a filter adds none
 pub few_filtered : {X : Type 0} (p : X → Bool) (xs : List X) → length (filter p xs) ≤ length xs
 few_filtered p [] = omega arith
-few_filtered p (x ∷ xs) = by (p x) (few_filtered p xs)
-  where
-    by : (b : Bool) → length (filter p xs) ≤ length xs → length (cond b (x ∷ filter p xs) (filter p xs)) ≤ length (x ∷ xs)
-    by true less = omega arith
-    by false less = omega arith
+few_filtered p (x ∷ xs) =
+    let less = few_filtered p xs in
+    elim (p x) as (λ b. length (cond b (x ∷ filter p xs) (filter p xs)) ≤ suc (length xs))
+    [ true ↦ omega arith | false ↦ omega arith ]
+
+-- where none passes, a member doesn't
+pub none_of : {X : Type 0} (p : X → Bool) (xs : List X) (x : X) → list_any p xs ≡ false → Contains xs x → p x ≡ false
+none_of p xs x none c = false_from_ne_true (p x) (λ e. false≢true (sym none ∙ list_any_of p xs x c e))
 
 -- without the number
 abbrev without : ℕ → List ℕ → List ℕ
@@ -49,11 +49,10 @@ free (suc k) xs = cond (list_any (λ x. suc k == x) xs) (free k (without (suc k)
 
 pub free_low : (k : ℕ) (xs : List ℕ) → free k xs ≤ k
 free_low zero xs = omega arith
-free_low (suc k) xs = by (list_any (λ x. suc k == x) xs) (free_low k (without (suc k) xs))
-  where
-    by : (b : Bool) → free k (without (suc k) xs) ≤ k → cond b (free k (without (suc k) xs)) (suc k) ≤ suc k
-    by true low = omega arith
-    by false low = omega arith
+free_low (suc k) xs =
+    let low = free_low k (without (suc k) xs) in
+    elim (list_any (λ x. suc k == x) xs) as (λ b. cond b (free k (without (suc k) xs)) (suc k) ≤ suc k)
+    [ true ↦ omega arith | false ↦ omega arith ]
 
 -- it is shorter, if the number was there
 dropped : (n : ℕ) (xs : List ℕ) → list_any (λ x. n == x) xs ≡ true → length (without n xs) < length xs
@@ -72,17 +71,13 @@ free_new zero (x ∷ xs) few c = absurd (omega arith)
 free_new (suc k) xs few c =
     by (list_any (λ x. suc k == x) xs) refl c (free_low k (without (suc k) xs)) (free_new k (without (suc k) xs))
   where
-    other : (b : Bool) (n : ℕ) → (suc k == n) ≡ b → n ≤ k → not b ≡ true
-    other true n is low = let same = eqb-true (suc k) n is in absurd (omega arith)
-    other false n is low = refl
-
     by : (b : Bool) → list_any (λ x. suc k == x) xs ≡ b →
         Contains xs (cond b (free k (without (suc k) xs)) (suc k)) → free k (without (suc k) xs) ≤ k →
         (length (without (suc k) xs) ≤ k → Contains (without (suc k) xs) (free k (without (suc k) xs)) → ⊥) → ⊥
     by true is c low on =
         let less = dropped (suc k) xs is in
         let n : ℕ = free k (without (suc k) xs) in
-        on (omega arith) (Contains-filter (λ x. not (suc k == x)) xs n c (other (suc k == n) n refl low))
+        on (omega arith) (Contains-filter (λ x. not (suc k == x)) xs n c (rw (ne_eqb (suc k) n (λ e. omega arith)) refl))
     by false is c low on =
         false≢true (sym is ∙ list_any_of (λ x. suc k == x) xs (suc k) c (eq-eqb (suc k) (suc k) refl))
 
@@ -93,33 +88,49 @@ fresh ds = octets 32 (free (length ds) (map number_of ds))
 pub fresh_length : (ds : List (List ℕ)) → length (fresh ds) ≡ 32
 fresh_length ds = length-octets 32 (free (length ds) (map number_of ds))
 
-length-numbers : (ds : List (List ℕ)) → length (map number_of ds) ≡ length ds
-length-numbers [] = refl
-length-numbers (d ∷ ds) = ap suc (length-numbers ds)
-
 -- if they aren't all
 pub fresh_new : (ds : List (List ℕ)) → length ds < 256 ^ 32 → Contains ds (fresh ds) → ⊥
 fresh_new ds few c =
     let n : ℕ = free (length ds) (map number_of ds) in
     let low = free_low (length ds) (map number_of ds) in
-    let same = length-numbers ds in
+    let same = length-map ds number_of in
     let back : number_of (octets 32 n) ≡ n = number_of-octets 32 n (omega (arith, low, few)) in
     free_new (length ds) (map number_of ds) (omega arith)
     (subst (λ (m : ℕ). Contains (map number_of ds) m) back (Contains-map number_of ds (fresh ds) c))
 
 -- ---- how many there are
 
-pub map_few : {X Y : Type 0} (f : X → Y) (xs : List X) (a : ℕ) → length xs ≤ a → length (map f xs) ≤ a
-map_few f xs a few = let same = length-map xs f in omega arith
-
-flat_length : {X Y : Type 0} (f : X → List Y) (xs : List X) (m : ℕ) → ((x : X) → length (f x) ≤ m) →
+flat_length : {X Y : Type 0} (f : X → List Y) (xs : List X) (m : ℕ) → ((x : X) → Contains xs x → length (f x) ≤ m) →
     length (flat_map f xs) ≤ m * length xs
 flat_length f [] m each = omega arith
 flat_length f (x ∷ xs) m each =
-    let first = each x in
-    let rest = flat_length f xs m each in
+    let first = each x (Contains-head x xs) in
+    let rest = flat_length f xs m (λ y c. each y (Contains-later x xs y c)) in
     let all = length-append (f x) (flat_map f xs) in omega arith
 
-pub flat_few : {X Y : Type 0} (f : X → List Y) (xs : List X) (a m : ℕ) → length xs ≤ a → ((x : X) → length (f x) ≤ m) →
-    length (flat_map f xs) ≤ m * a
+pub flat_few : {X Y : Type 0} (f : X → List Y) (xs : List X) (a m : ℕ) → length xs ≤ a →
+    ((x : X) → Contains xs x → length (f x) ≤ m) → length (flat_map f xs) ≤ m * a
 flat_few f xs a m few each = omega (arith, flat_length f xs m each, mul-le-mul_left m few)
+
+-- all pairs
+abbrev pub product : {X Y : Type 0} → List X → List Y → List (X × Y)
+product xs ys = flat_map (λ x. map (λ y. (x, y)) ys) xs
+
+pub Contains-product : {X Y : Type 0} (xs : List X) (ys : List Y) (x : X) (y : Y) → Contains xs x → Contains ys y →
+    Contains (product xs ys) (x, y)
+Contains-product {X} {Y} xs ys x y cx cy =
+    let row = λ (x : X). map (λ (y : Y). (x, y)) ys in
+    Contains-flat_map row xs x (x, y) cx (Contains-map (λ (y : Y). (x, y)) ys y cy)
+
+pub Contains-product_cases : {X Y : Type 0} (xs : List X) (ys : List Y) (p : X × Y) → Contains (product xs ys) p →
+    Contains xs p.0 × Contains ys p.1
+Contains-product_cases {X} {Y} xs ys p c =
+    let (x, cx, among) = Contains-flat_map_cases (λ (x : X). map (λ (y : Y). (x, y)) ys) xs p c in
+    let (y, cy, is) = Contains-map_cases (λ (y : Y). (x, y)) ys p among in
+    subst (λ (q : X × Y). Contains xs q.0 × Contains ys q.1) is (cx, cy)
+
+pub product_few : {X Y : Type 0} (xs : List X) (ys : List Y) (a b : ℕ) → length xs ≤ a → length ys ≤ b →
+    length (product xs ys) ≤ b * a
+product_few {X} {Y} xs ys a b few others =
+    flat_few (λ (x : X). map (λ (y : Y). (x, y)) ys) xs a b few
+    (λ x _. let with_x : Y → X × Y = λ y. (x, y) in let same = length-map ys with_x in omega arith)

@@ -1,35 +1,15 @@
 -- What the class of two-sided rules leaves out: for each of its limits a rule that is unsettled, though
 -- all completions agree on it.
-use Rattle.std.proofs.Common.{◌≡◌, ℕ, ◌<◌, Bool, true, List, [], ◌∷◌, map, inl, inr, refl, sym, ap, subst}
-use Rattle.std.proofs.Common.{◌∙◌, ◌⊎◌, arith}
-use Rattle.std.specs.Prelude.{◌==◌, ◌+◌}
-use Rattle.std.specs.List.{Contains}
-use Rattle.std.proofs.lemmas.Bool.{and_parts, eqb-true, true≢false}
-use Rattle.std.proofs.lemmas.Option.{slice_get_within}
-use Rattle.roster.specs.declared.post.Role.TheVariants.{Supervisor}
-use Rattle.entry_order.specs.declared.three.Three.TheVariants.{Unknown}
-use Rattle.entry_order.specs.Node.{Node}
-use Rattle.entry_order.specs.Naming.{Names}
-use Rattle.entry_order.specs.Precedes.{Precedes}
-use Rattle.entry_order.specs.Survivors.{gaps}
-use Rattle.entry_order.specs.Settled.{IsGraphOf}
-use Rattle.entry_order.specs.Completion.{Completion}
-use Rattle.entry_order.specs.Exact.{AreSurvivors}
-use Rattle.entry_order.proofs.Completions.{gap_or_bearer}
-use Rattle.entry_order.proofs.Lists.{Contains-none, Contains-head, Contains-cons_cases}
-use Rattle.entry_order.proofs.Places.{member_at}
-use Rattle.rule_language.specs.declared.row.Row.{Row}
-use Rattle.rule_language.specs.declared.kind.Kind.{Kind}
+use Rattle.rule_exactness.proofs.Imports.{AreSurvivors, Bool, Completion, Contains, Contains-cons_cases, Contains-head}
+use Rattle.rule_exactness.proofs.Imports.{Contains-none, Form, HasNoDouble, IsGraphOf, IsOpen, Kind, List, Names, Node}
+use Rattle.rule_exactness.proofs.Imports.{Of, Precedes, Row, Saying, Supervisor, Trees, Unknown, [], and_parts, ap}
+use Rattle.rule_exactness.proofs.Imports.{arith, eqb-true, gap_or_bearer, gaps, inl, inr, is_kind, is_real, map}
+use Rattle.rule_exactness.proofs.Imports.{member_at, no_trees, refl, slice_get_within, subst, suc, sym, three_in}
+use Rattle.rule_exactness.proofs.Imports.{tree_then, true, true≢false, zero, ℕ, ◌+◌, ◌<◌, ◌==◌, ◌∙◌, ◌∷◌, ◌≡◌, ◌⊎◌}
 use Rattle.rule_language.specs.declared.kind.Kind.TheVariants as kind
 use Rattle.rule_language.specs.declared.kind.Field.TheVariants as field
-use Rattle.rule_language.specs.declared.term.Term.TheVariants.{Of}
-use Rattle.rule_language.specs.declared.form.Form.{Form}
 use Rattle.rule_language.specs.declared.form.Form.TheVariants as form
-use Rattle.rule_language.specs.Trees.{Trees, no_trees, tree_then}
-use Rattle.rule_meaning.specs.Tests.{is_kind}
-use Rattle.rule_meaning.specs.Sound.{HasNoDouble}
-use Rattle.rule_meaning.specs.Values.{three_in}
-use Rattle.rule_exactness.specs.Exact.{Saying, IsOpen}
+use Rattle.rule_exactness.proofs.TwoSided.{kinds, kind_there, same_kind}
 
 -- an entry, by what it shows and what it says
 record Entry : Type 0 where
@@ -86,27 +66,16 @@ are_survivors = record {
   distinct = λ e f ce cf same. sym (is_last e ce) ∙ is_last f cf;
 }
 
-abbrev first : List ℕ → ℕ
-first [] = 0
-first (n ∷ ns) = n
-
-gap≢one : gap ≡ 1 ∷ [] → ⊥
-gap≢one is = let same : 2 ≡ 1 = ap first is in omega (arith, same)
-
 names_no_survivor : Names node last last → ⊥
-names_no_survivor names =
-    elim (Contains-cons_cases gap [] (1 ∷ []) names) [
-      | inl is ↦ gap≢one is
-      | inr none ↦ Contains-none (1 ∷ []) none
-    ]
+names_no_survivor (zero, l, is) = cc
+names_no_survivor (suc k, l, is) = absurd (omega arith)
 
 is_lost : Contains (gaps node survivors) gap
 is_lost =
     elim (gap_or_bearer node survivors last gap (Contains-head last []) (Contains-head gap [])) [
       | inl lost ↦ lost
-      | inr borne ↦
-          let (e, c, is) = borne in
-          absurd (gap≢one (sym is ∙ sym (ap (λ (u : Entry). (node u).digest) (is_last e c))))
+      | inr (e, c, is) ↦
+          let other : 1 ∷ [] ≡ gap = ap (λ (u : Entry). (node u).digest) (is_last e c) ∙ is in absurd (cc)
     ]
 
 single : HasNoDouble survivors
@@ -196,16 +165,19 @@ next_after = every_x (some_y_before kind.Opened (atom (form.Next 121 120) no_tre
 
 -- ---- each is unsettled, and yet all completions keep it, or none does
 
+-- an entry of the kind precedes x
+abbrev IsBefore : List Entry → Entry → Kind → Type 0
+IsBefore G x k = (y : Entry) × (is_kind k (row y).kind ≡ true) × Precedes node G y x × Unit {0}
+
 either_way_in_vain : IsUnsettledInVain either_way
 either_way_in_vain = record {
   unsettled = refl;
   closed = λ o.
       let (G, completes, breaks) = o.broken in
-      let none = λ (some : (y : Entry) × (is_kind kind.Opened (row y).kind ≡ true) × Precedes node G y last × Unit {0}).
-      breaks (λ x cx k. inl (let (y, l, path, t) = some in
-      (y, l, subst (λ (u : Entry). Precedes node G y u) (is_last x cx) path, tt))) in
-      breaks (λ x cx k. inr (inl (λ some. let (y, l, path, t) = some in
-      none (y, l, subst (λ (u : Entry). Precedes node G y u) (sym (is_last x cx)) path, tt))));
+      let none = λ (some : IsBefore G last kind.Opened).
+      breaks (λ x cx k. inl (subst (λ (u : Entry). IsBefore G u kind.Opened) (is_last x cx) some)) in
+      breaks (λ x cx k. inr (inl (λ some. none (subst (λ (u : Entry). IsBefore G u kind.Opened) (sym (is_last x cx))
+      some))));
 }
 
 any_before_in_vain : IsUnsettledInVain any_before
@@ -217,9 +189,20 @@ any_before_in_vain = record {
       breaks (λ x cx k. (f, refl, subst (λ (u : Entry). Precedes node G f u) (is_last x cx) path, tt));
 }
 
--- an entry of the kind precedes x
-abbrev IsBefore : List Entry → Entry → Kind → Type 0
-IsBefore G x k = (y : Entry) × (is_kind k (row y).kind ≡ true) × Precedes node G y x × Unit {0}
+-- an entry of one of the kinds precedes x
+abbrev IsOneBefore : List Entry → Entry → List Kind → Type 0
+IsOneBefore G x [] = ⊥
+IsOneBefore G x (k ∷ ks) = IsBefore G x k ⊎ IsOneBefore G x ks
+
+one_before : (G : List Entry) (x : Entry) (ks : List Kind) (k : Kind) → Contains ks k → IsBefore G x k →
+    IsOneBefore G x ks
+one_before G x [] k c is = absurd (Contains-none k c)
+one_before G x (l ∷ ks) k (zero, m, same) is = inl (subst (λ k. IsBefore G x k) (sym same) is)
+one_before G x (l ∷ ks) k (suc i, m, at) is = inr (one_before G x ks k (i, omega arith, at) is)
+
+always_real : (k : Kind) → is_real (real k) ≡ true
+always_real kind.Any = refl
+always_real k = refl
 
 one_of_ten_in_vain : IsUnsettledInVain one_of_ten
 one_of_ten_in_vain = record {
@@ -227,36 +210,10 @@ one_of_ten_in_vain = record {
   closed = λ o.
       let (G, completes, breaks) = o.broken in
       let (f, path) = lost G completes.whole in
-      breaks (λ x cx k. by G f x (subst (λ (u : Entry). Precedes node G f u) (is_last x cx) path) f.says.kind refl);
+      let k = real f.says.kind in
+      breaks (λ x cx _. one_before G x kinds k (kind_there k (always_real f.says.kind))
+      (f, same_kind k, subst (λ (u : Entry). Precedes node G f u) (is_last x cx) path, tt));
 }
-  where
-    is : (f : Entry) (k wanted : Kind) → f.says.kind ≡ k → is_kind wanted (real k) ≡ true →
-        is_kind wanted (row f).kind ≡ true
-    is f k wanted same test = ap (λ (l : Kind). is_kind wanted (real l)) same ∙ test
-
-    by : (G : List Entry) (f x : Entry) → Precedes node G f x → (k : Kind) → f.says.kind ≡ k →
-        IsBefore G x kind.Opened ⊎ (IsBefore G x kind.Authorise ⊎ (IsBefore G x kind.Override
-        ⊎ (IsBefore G x kind.Forced ⊎ (IsBefore G x kind.Closed ⊎ (IsBefore G x kind.Activate
-        ⊎ (IsBefore G x kind.Commit ⊎ (IsBefore G x kind.Cast ⊎ (IsBefore G x kind.Cancel
-        ⊎ (IsBefore G x kind.Challenge ⊎ ⊥)))))))))
-    by G f x path kind.Any same = inl (f, is f kind.Any kind.Opened same refl, path, tt)
-    by G f x path kind.Opened same = inl (f, is f kind.Opened kind.Opened same refl, path, tt)
-    by G f x path kind.Authorise same = inr (inl (f, is f kind.Authorise kind.Authorise same refl, path, tt))
-    by G f x path kind.Override same = inr (inr (inl (f, is f kind.Override kind.Override same refl, path, tt)))
-    by G f x path kind.Forced same = inr (inr (inr (inl (f, is f kind.Forced kind.Forced same refl, path, tt))))
-    by G f x path kind.Closed same =
-        inr (inr (inr (inr (inl (f, is f kind.Closed kind.Closed same refl, path, tt)))))
-    by G f x path kind.Activate same =
-        inr (inr (inr (inr (inr (inl (f, is f kind.Activate kind.Activate same refl, path, tt))))))
-    by G f x path kind.Commit same =
-        inr (inr (inr (inr (inr (inr (inl (f, is f kind.Commit kind.Commit same refl, path, tt)))))))
-    by G f x path kind.Cast same =
-        inr (inr (inr (inr (inr (inr (inr (inl (f, is f kind.Cast kind.Cast same refl, path, tt))))))))
-    by G f x path kind.Cancel same =
-        inr (inr (inr (inr (inr (inr (inr (inr (inl (f, is f kind.Cancel kind.Cancel same refl, path, tt)))))))))
-    by G f x path kind.Challenge same =
-        inr (inr (inr (inr (inr (inr (inr (inr (inr (inl
-        (f, is f kind.Challenge kind.Challenge same refl, path, tt))))))))))
 
 made_by_booth_in_vain : IsUnsettledInVain made_by_booth
 made_by_booth_in_vain = record {

@@ -1,3 +1,4 @@
+mod Imports
 pub mod Digests
 pub mod Fresh
 pub mod Wished
@@ -11,5 +12,4 @@ pub mod P3Exact
 pub mod AllRules
 pub mod Asked
 pub mod TwoSided
-pub mod Sides
 pub mod Excluded

@@ -1,17 +1,10 @@
 -- A place that isn't found whole has a gap at it or behind it.
-use Rattle.std.proofs.Common.{◌≡◌, ℕ, zero, suc, ◌++◌, List, [], ◌∷◌, Bool, true, false, Some, refl, sym, subst, inl, inr}
-use Rattle.std.proofs.Common.{◌⊎◌, ◌∙◌}
-use Rattle.std.specs.List.{Contains, list_all}
-use Rattle.std.specs.Prelude.{slice_get, not, ◌&&◌}
-use Rattle.std.proofs.lemmas.Bool.{true≢false}
-use Rattle.entry_order.specs.Node.{Node}
-use Rattle.entry_order.specs.Naming.{Names, IsBorneIn}
-use Rattle.entry_order.specs.Survivors.{gaps}
-use Rattle.entry_order.specs.Ancestors.{is_whole}
-use Rattle.entry_order.specs.Settled.{IsGraphOf, NamesNoGap}
-use Rattle.entry_order.proofs.Lists.{Contains-none, Contains-head, Contains-later, Contains-cons_cases}
-use Rattle.entry_order.proofs.Completions.{gap_cases, gap_or_bearer}
-use Rattle.entry_order.proofs.Places.{member_at}
+use Rattle.rule_exactness.proofs.Imports.{Bool, Contains, Contains-head, Contains-later, IsGraphOf, List, Names, Node}
+use Rattle.rule_exactness.proofs.Imports.{Some, [], false, gap_cases, gap_or_bearer, has_digest, has_digest_from}
+use Rattle.rule_exactness.proofs.Imports.{has_digest_of, inl, inr, is_whole, list_all, list_any, list_any_some}
+use Rattle.rule_exactness.proofs.Imports.{member_at, not, not-false, not-true, refl, slice_get, subst, suc, sym, true}
+use Rattle.rule_exactness.proofs.Imports.{true≢false, zero, ℕ, ◌&&◌, ◌++◌, ◌∙◌, ◌∷◌, ◌≡◌}
+use Rattle.rule_exactness.proofs.Digests.{none_of}
 use Rattle.rule_exactness.proofs.Fresh.{path_on}
 use Rattle.rule_exactness.proofs.Wished.{IsGapped}
 
@@ -28,65 +21,43 @@ list_all_not {X} p (z ∷ xs) e = by (p z) refl e (list_all_not p xs)
 
 module _ {T : Type 0} (node : T → Node) (S : List T) (parents : ℕ → List ℕ) (ragged : ℕ → Bool)
     (graph : IsGraphOf node S parents ragged) where
-  -- of what a survivor names one is a gap, or each is borne
-  gap_among : (e : T) → Contains S e → (ds : List (List ℕ)) →
-      ((d : List ℕ) → Contains ds d → Contains (node e).names d) →
-      ((d : List ℕ) × Contains (node e).names d × Contains (gaps node S) d)
-      ⊎ ((d : List ℕ) → Contains ds d → IsBorneIn node S d)
-  gap_among e ce [] inside = inr (λ d there. absurd (Contains-none d there))
-  gap_among e ce (c ∷ ds) inside =
-      let first : Contains (node e).names c = inside c (Contains-head c ds) in
-      elim (gap_or_bearer node S e c ce first) [
-        | inl gap ↦ inl (c, first, gap)
-        | inr borne ↦
-            elim (gap_among e ce ds (λ d there. inside d (Contains-later c ds d there))) [
-              | inl found ↦ inl found
-              | inr rest ↦
-                  inr (λ d there.
-                  elim (Contains-cons_cases c ds d there) [
-                    | inl is ↦ subst (λ (x : List ℕ). IsBorneIn node S x) is borne
-                    | inr later ↦ rest d later
-                  ])
-            ]
-      ]
-
   -- a ragged place names a gap
   ragged_names : (x : ℕ) (e : T) → slice_get S x ≡ Some e → ragged x ≡ true → IsGapped node S e
-  ragged_names x e at is =
-      let ce : Contains S e = member_at S x e at in
-      elim (gap_among e ce (node e).names (λ d there. there)) [
-        | inl found ↦
-            let (d, named, gap) = found in
-            record { at = e; gap = d; survives = ce; near = inl refl; named = named; lost = gap }
-        | inr borne ↦
-            let none : NamesNoGap node S e = λ d named gap. (gap_cases node S d gap).1 (borne d named) in
-            absurd (true≢false (sym is ∙ (graph.gaps_shown x e at).1 none))
-      ]
+  ragged_names x e at is = by (list_any free (node e).names) refl
+    where
+      free : List ℕ → Bool
+      free d = not (has_digest node S d)
+
+      by : (b : Bool) → list_any free (node e).names ≡ b → IsGapped node S e
+      by true some =
+          let (d, named, lost) = list_any_some free (node e).names some in
+          elim (gap_or_bearer node S e d (member_at S x e at) named) [
+            | inl gap ↦
+                record { at = e; gap = d; survives = member_at S x e at; near = inl refl; named = named; lost = gap }
+            | inr borne ↦
+                absurd (true≢false (sym (has_digest_of node S d borne) ∙ not-true (has_digest node S d) lost))
+          ]
+      by false none =
+          absurd (true≢false (sym is ∙ (graph.gaps_shown x e at).1 (λ d named gap. (gap_cases node S d gap).1
+          (has_digest_from node S d (not-false (has_digest node S d) (none_of free (node e).names d none named))))))
 
   -- what is behind a named survivor is behind the one that names it
   gapped_on : (e f : T) → Contains S e → Contains S f → Names node e f → IsGapped node S f → IsGapped node S e
-  gapped_on e f ce cf names gapped =
-      record {
-        at = gapped.at;
-        gap = gapped.gap;
-        survives = gapped.survives;
-        near = elim gapped.near [
-          | inl is ↦ inr (gapped.survives, ce, [], subst (λ (y : T). Names node e y) (sym is) names)
-          | inr before ↦
-              let (cz, _, gs, path) = before in
-              inr (cz, ce, gs ++ f ∷ [], path_on node S gapped.at gs f e path cf names)
-        ];
-        named = gapped.named;
-        lost = gapped.lost;
-      }
+  gapped_on e f ce cf names gapped = record {
+    at = gapped.at;
+    gap = gapped.gap;
+    survives = gapped.survives;
+    near = elim gapped.near [
+      | inl is ↦ inr (gapped.survives, ce, [], subst (λ (y : T). Names node e y) (sym is) names)
+      | inr (cz, _, gs, path) ↦ inr (cz, ce, gs ++ f ∷ [], path_on node S gapped.at gs f e path cf names)
+    ];
+    named = gapped.named;
+    lost = gapped.lost;
+  }
 
   -- a place that isn't found whole
   pub gapped : (n x : ℕ) (e : T) → slice_get S x ≡ Some e → is_whole parents ragged n x ≡ false → IsGapped node S e
-  gapped zero x e at is = by (ragged x) refl is
-    where
-      by : (b : Bool) → ragged x ≡ b → not b ≡ false → IsGapped node S e
-      by true r t = ragged_names x e at r
-      by false r t = absurd (true≢false t)
+  gapped zero x e at is = ragged_names x e at (not-false (ragged x) is)
   gapped (suc n) x e at is = by (ragged x) refl is (gapped n)
     where
       by : (b : Bool) → ragged x ≡ b → (not b && list_all (λ z. is_whole parents ragged n z) (parents x)) ≡ false →

@@ -1,19 +1,13 @@
 -- A completion of survivors in which wished entries stand behind every gap.
-use Rattle.std.proofs.Common.{◌≡◌, ℕ, ◌+◌, ◌^◌, ◌<◌, ◌≤◌, ◌++◌, List, [], ◌∷◌, map, length, refl, sym, ap, subst, inl, inr, ◌∙◌, ◌⊎◌}
-use Rattle.std.specs.List.{Contains}
-use Rattle.std.proofs.lemmas.List.Elements.{Contains-append_cases, Contains-append_left, Contains-append_right}
-use Rattle.entry_order.specs.Node.{Node}
-use Rattle.entry_order.specs.Naming.{Names, IsNamedIn, IsBorneIn, Distinct}
-use Rattle.entry_order.specs.Precedes.{IsPath, Precedes}
-use Rattle.entry_order.specs.Survivors.{gaps}
-use Rattle.entry_order.specs.Completion.{Completion}
-use Rattle.entry_order.specs.Exact.{AreSurvivors}
-use Rattle.rule_exactness.specs.Exact.{AreDigests}
-use Rattle.entry_order.proofs.Lists.{Contains-none, Contains-map, Contains-map_cases}
-use Rattle.entry_order.proofs.Completions.{gap_cases, gap_or_bearer, before_in_completion}
+use Rattle.rule_exactness.proofs.Imports.{AreDigests, AreSurvivors, Completion, Contains, Contains-append_cases}
+use Rattle.rule_exactness.proofs.Imports.{Contains-append_left, Contains-append_right, Contains-map, Contains-map_cases}
+use Rattle.rule_exactness.proofs.Imports.{Contains-none, Distinct, IsBorneIn, IsNamedIn, IsPath, List, Names, Node}
+use Rattle.rule_exactness.proofs.Imports.{Precedes, [], ap, before_in_completion, gap_cases, gap_or_bearer, gaps, inl}
+use Rattle.rule_exactness.proofs.Imports.{inr, length, map, refl, subst, sym, ℕ, ◌++◌, ◌+◌, ◌<◌, ◌^◌, ◌∙◌, ◌∷◌, ◌≡◌}
+use Rattle.rule_exactness.proofs.Imports.{◌≤◌, ◌⊎◌}
 use Rattle.rule_exactness.proofs.Fresh.{Wish, head_name, head_borne, path_on, granted, granted_cases, granted_each}
 use Rattle.rule_exactness.proofs.Fresh.{granted_named, granted_new, granted_distinct, one_before, granted_acyclic}
-use Rattle.rule_exactness.proofs.Fresh.{granted_path, granted_may_be, head_digests, IsFair}
+use Rattle.rule_exactness.proofs.Fresh.{granted_path, granted_may_be, granted_digests, IsFair}
 
 module _ {T : Type 0} (node : T → Node) (S : List T) where
   -- x, or an ancestor of it in S, names a gap
@@ -48,8 +42,8 @@ no_tie node machines S wishes room = record { kept = λ t c. absurd (Contains-no
 
 -- a hub stands for each gap; it names these survivors and the last of a chain of entries, one for
 -- each wish, of which each names the one before
-module _ {T : Type 0} (node : T → Node) (machines : ℕ) (S : List T) (are : AreSurvivors node machines S)
-    (hub : Wish node machines) (wishes : List (Wish node machines)) (ties : List T)
+module _ {T : Type 0} {node : T → Node} {machines : ℕ} {S : List T} (are : AreSurvivors node machines S)
+    (hub : Wish node machines) {wishes : List (Wish node machines)} {ties : List T}
     (apt : AreApt node machines S wishes ties) where
   -- an entry's digest
   abbrev digest_of : T → List ℕ
@@ -58,10 +52,6 @@ module _ {T : Type 0} (node : T → Node) (machines : ℕ) (S : List T) (are : A
   -- the digests that are taken
   abbrev used : List (List ℕ)
   used = taken node S
-
-  -- hubs name survivors
-  abbrev kept : (t : T) → Contains ties t → Contains S t
-  kept = apt.kept
 
   -- the entries that were wished
   abbrev pub extras : List T
@@ -98,9 +88,10 @@ module _ {T : Type 0} (node : T → Node) (machines : ℕ) (S : List T) (are : A
       (e : T) → Contains added e → P e
   added_each P at_hub at_wish e there =
       elim (added_cases e there) [
-        | inl h ↦ let (d, _, is) = h in subst P is (at_hub hub_names d)
+        | inl (d, _, is) ↦ subst P is (at_hub hub_names d)
         | inr c ↦
-            let (w, ns, d, wished, is) = granted_cases node machines used wishes e c in subst P is (at_wish w wished ns d)
+            let g = granted_cases node machines used wishes e c in
+            subst P g.is (at_wish g.wish g.wished g.names g.digest)
       ]
 
   -- a wish is granted by what is added
@@ -116,7 +107,7 @@ module _ {T : Type 0} (node : T → Node) (machines : ℕ) (S : List T) (are : A
   pub apart : (e f : T) → Contains S e → Contains added f → (node e).digest ≡ (node f).digest → ⊥
   apart e f old new same =
       elim (added_cases f new) [
-        | inl h ↦ let (d, gap, is) = h in (gap_cases node S d gap).1 (e, old, same ∙ hub_digest f d is)
+        | inl (d, gap, is) ↦ (gap_cases node S d gap).1 (e, old, same ∙ hub_digest f d is)
         | inr c ↦
             granted_new node machines used wishes apt.room f c
             (Contains-append_left (map digest_of S) (gaps node S) (node f).digest
@@ -130,53 +121,36 @@ module _ {T : Type 0} (node : T → Node) (machines : ℕ) (S : List T) (are : A
       (Contains-append_right (map digest_of S) (gaps node S) (node f).digest
       (subst (λ (x : List ℕ). Contains (gaps node S) x) (sym (hub_digest e d is) ∙ same) gap))
 
-  -- no two that are added have one digest
-  added_distinct : (e f : T) → Contains added e → Contains added f → (node e).digest ≡ (node f).digest → e ≡ f
-  added_distinct e f ce cf same =
-      elim (added_cases e ce) [
-        | inl h ↦
-            elim (added_cases f cf) [
-              | inl k ↦
-                  let (d, _, is) = h in
-                  let (c, _, also) = k in
-                  let digests : d ≡ c = sym (hub_digest e d is) ∙ same ∙ hub_digest f c also in
-                  sym is ∙ ap hub_at digests ∙ also
-              | inr c ↦ absurd (hub_apart e f h c same)
-            ]
-        | inr c ↦
-            elim (added_cases f cf) [
-              | inl k ↦ absurd (hub_apart f e k c (sym same))
-              | inr g ↦ granted_distinct node machines used wishes apt.room e f c g same
-            ]
-      ]
-
+  -- no two have one digest
   distinct : Distinct node all
-  distinct e f ce cf same =
-      elim (Contains-append_cases S added e ce) [
-        | inl old ↦
-            elim (Contains-append_cases S added f cf) [
-              | inl also ↦ are.distinct e f old also same
-              | inr new ↦ absurd (apart e f old new same)
-            ]
-        | inr new ↦
-            elim (Contains-append_cases S added f cf) [
-              | inl old ↦ absurd (apart f e old new (sym same))
-              | inr also ↦ added_distinct e f new also same
-            ]
-      ]
+  distinct e f ce cf same = by (Contains-append_cases S added e ce) (Contains-append_cases S added f cf)
+    where
+      both_new : IsHub e ⊎ Contains extras e → IsHub f ⊎ Contains extras f → e ≡ f
+      both_new (inl (d, _, is)) (inl (c, _, also)) =
+          sym is ∙ ap hub_at (sym (hub_digest e d is) ∙ same ∙ hub_digest f c also) ∙ also
+      both_new (inl h) (inr c) = absurd (hub_apart e f h c same)
+      both_new (inr c) (inl h) = absurd (hub_apart f e h c (sym same))
+      both_new (inr c) (inr g) = granted_distinct node machines used wishes apt.room e f c g same
+
+      by : Contains S e ⊎ Contains added e → Contains S f ⊎ Contains added f → e ≡ f
+      by (inl old) (inl also) = are.distinct e f old also same
+      by (inl old) (inr new) = absurd (apart e f old new same)
+      by (inr new) (inl old) = absurd (apart f e old new (sym same))
+      by (inr new) (inr also) = both_new (added_cases e new) (added_cases f also)
 
   in_roster : (e : T) → Contains all e → (node e).maker < machines
   in_roster e c =
       elim (Contains-append_cases S added e c) [
         | inl old ↦ are.in_roster e old
-        | inr new ↦
-            added_each (λ (x : T). (node x).maker < machines) hub.maker (λ w _ ns d. w.maker ns d) e new
+        | inr new ↦ added_each (λ (x : T). (node x).maker < machines) hub.maker (λ w _. w.maker) e new
       ]
 
   -- what was wished is there, and so is each hub
+  extra_added : (e : T) → Contains extras e → Contains added e
+  extra_added e c = Contains-append_right (map hub_at (gaps node S)) extras e c
+
   pub extra_there : (e : T) → Contains extras e → Contains all e
-  extra_there e c =
-      Contains-append_right S added e (Contains-append_right (map hub_at (gaps node S)) extras e c)
+  extra_there e c = Contains-append_right S added e (extra_added e c)
 
   hub_there : (d : List ℕ) → Contains (gaps node S) d → Contains all (hub_at d)
   hub_there d gap =
@@ -184,17 +158,20 @@ module _ {T : Type 0} (node : T → Node) (machines : ℕ) (S : List T) (are : A
       (Contains-append_left (map hub_at (gaps node S)) extras (hub_at d) (Contains-map hub_at (gaps node S) d gap))
 
   -- what a hub names: something wished, or one of the survivors
-  hub_named : (c : List ℕ) → Contains hub_names c →
-      ((e : T) × Contains extras e × ((node e).digest ≡ c)) ⊎ ((t : T) × Contains ties t × ((node t).digest ≡ c))
+  abbrev IsNamed : List ℕ → Type 0
+  IsNamed c = ((e : T) × Contains extras e × ((node e).digest ≡ c)) ⊎ ((t : T) × Contains ties t × ((node t).digest ≡ c))
+
+  hub_named : (c : List ℕ) → Contains hub_names c → IsNamed c
   hub_named c there =
       elim (Contains-append_cases (head_name node extras) (map digest_of ties) c there) [
         | inl l ↦ inl (head_borne node extras c l)
         | inr r ↦ inr (Contains-map_cases digest_of ties c r)
       ]
 
-  -- the names of a hub
-  names_of_hub : (e : T) (d : List ℕ) → hub_at d ≡ e → (node e).names ≡ hub_names
-  names_of_hub e d is = subst (λ (x : T). (node x).names ≡ hub_names) is (hub.names hub_names d)
+  named_by_hub : (e : T) (c : List ℕ) → IsHub e → Contains (node e).names c → IsNamed c
+  named_by_hub e c (d, _, is) there =
+      hub_named c (subst (λ ns. Contains ns c) (hub.names hub_names d)
+      (subst (λ (x : T). Contains (node x).names c) (sym is) there))
 
   lacks_nothing : (d : List ℕ) → IsNamedIn node all d → IsBorneIn node all d
   lacks_nothing d (e, c, names) =
@@ -202,21 +179,18 @@ module _ {T : Type 0} (node : T → Node) (machines : ℕ) (S : List T) (are : A
         | inl old ↦
             elim (gap_or_bearer node S e d old names) [
               | inl gap ↦ (hub_at d, hub_there d gap, hub.bears hub_names d)
-              | inr has ↦ let (f, there, is) = has in (f, Contains-append_left S added f there, is)
+              | inr (f, there, is) ↦ (f, Contains-append_left S added f there, is)
             ]
         | inr new ↦
-            elim (added_cases e new) [
-              | inl h ↦
-                  let (g, _, is) = h in
-                  elim (hub_named d (subst (λ ns. Contains ns d) (names_of_hub e g is) names)) [
-                    | inl l ↦ let (f, there, bears) = l in (f, extra_there f there, bears)
-                    | inr r ↦ let (t, there, bears) = r in (t, Contains-append_left S added t (kept t there), bears)
-                  ]
-              | inr x ↦
-                  let (f, there, bears) = granted_named node machines used wishes e x d names in
-                  (f, extra_there f there, bears)
+            elim (by (added_cases e new)) [
+              | inl (f, there, bears) ↦ (f, extra_there f there, bears)
+              | inr (t, there, bears) ↦ (t, Contains-append_left S added t (apt.kept t there), bears)
             ]
       ]
+    where
+      by : IsHub e ⊎ Contains extras e → IsNamed d
+      by (inl h) = named_by_hub e d h names
+      by (inr x) = inl (granted_named node machines used wishes e x d names)
 
   -- each entry that is added may be, where hubs name at most one entry
   pub added_may_be : (MayBe : T → Type 0) → IsFair MayBe hub →
@@ -225,30 +199,25 @@ module _ {T : Type 0} (node : T → Node) (machines : ℕ) (S : List T) (are : A
       Contains added e → MayBe e
   added_may_be MayBe at_hub at_wishes short tied lost e there =
       elim (added_cases e there) [
-        | inl h ↦
-            let (d, gap, is) = h in
-            subst MayBe is (at_hub hub_names d short names_right (lost d gap))
+        | inl (d, gap, is) ↦ subst MayBe is (at_hub hub_names d short names_right (lost d gap))
         | inr c ↦ granted_may_be node machines used MayBe wishes at_wishes e c
       ]
     where
       names_right : AreDigests hub_names
       names_right d c =
-          elim (Contains-append_cases (head_name node extras) (map digest_of ties) d c) [
-            | inl l ↦ head_digests node machines used wishes d l
-            | inr r ↦
-                let (t, named, is) = Contains-map_cases digest_of ties d r in
-                subst (λ (x : List ℕ). length x ≡ 32) is (tied t named)
+          elim (hub_named d c) [
+            | inl (f, named, is) ↦ subst (λ x. length x ≡ 32) is (granted_digests node machines used wishes f named)
+            | inr (t, named, is) ↦ subst (λ x. length x ≡ 32) is (tied t named)
           ]
 
   -- it completes the survivors
   pub completes : Completion node machines S all
-  completes =
-      record {
-        in_roster = in_roster;
-        keeps = λ e there. Contains-append_left S added e there;
-        distinct = distinct;
-        lacks_nothing = lacks_nothing;
-      }
+  completes = record {
+    in_roster = in_roster;
+    keeps = λ e there. Contains-append_left S added e there;
+    distinct = distinct;
+    lacks_nothing = lacks_nothing;
+  }
 
   -- what is before a hub for a gap behind a survivor precedes that survivor
   following : (x : T) → Contains S x → (gapped : IsGapped node S x) → (e : T) → Contains all e → (between : List T) →
@@ -260,41 +229,33 @@ module _ {T : Type 0} (node : T → Node) (machines : ℕ) (S : List T) (are : A
       subst (λ (c : List ℕ). Contains (node z).names c) (sym (hub.bears hub_names d)) gapped.named in
       let to_z : IsPath node all e (between ++ hub_at d ∷ []) z =
       path_on node all e between (hub_at d) z path (hub_there d gapped.lost) z_names_hub in
+      let cx_too = completes.keeps x cx in
       elim gapped.near [
-        | inl is ↦ (
-          ce,
-          completes.keeps x cx,
-          between ++ hub_at d ∷ [],
-          subst (λ (y : T). IsPath node all e (between ++ hub_at d ∷ []) y) is to_z,
-        )
+        | inl is ↦
+            (ce, cx_too, between ++ hub_at d ∷ [], subst (λ (y : T). IsPath node all e (between ++ hub_at d ∷ []) y) is to_z)
         | inr before ↦
-            let (in_z, _, on, path) = before_in_completion node S machines all completes z x before in (
-              ce,
-              completes.keeps x cx,
-              (between ++ hub_at d ∷ []) ++ z ∷ on,
-              paths_meet node all e (between ++ hub_at d ∷ []) z on x to_z in_z path,
-            )
+            let (in_z, _, on, path) = before_in_completion node S machines all completes z x before in
+            let meet = paths_meet node all e (between ++ hub_at d ∷ []) z on x to_z in_z path in
+            (ce, cx_too, (between ++ hub_at d ∷ []) ++ z ∷ on, meet)
       ]
 
-  -- a hub names what it is to name
-  hub_names_it : (d : List ℕ) (e : T) → Contains hub_names (node e).digest → Names node (hub_at d) e
-  hub_names_it d e named =
-      subst (λ (ns : List (List ℕ)). Contains ns (node e).digest) (sym (hub.names hub_names d)) named
+  -- what is among a hub's names is named by it
+  hub_naming : (d c : List ℕ) → Contains hub_names c → Contains (node (hub_at d)).names c
+  hub_naming d c named = subst (λ (ns : List (List ℕ)). Contains ns c) (sym (hub.names hub_names d)) named
 
   -- what was wished precedes it
   pub extra_after : (x : T) → Contains S x → IsGapped node S x → (e : T) → Contains extras e → Precedes node all e x
   extra_after x cx gapped e c =
       let (between, path) =
       granted_path node machines used all distinct wishes extra_there (hub_at gapped.gap)
-      (λ d there. subst (λ (ns : List (List ℕ)). Contains ns d) (sym (hub.names hub_names gapped.gap))
-      (Contains-append_left (head_name node extras) (map digest_of ties) d there)) e c in
+      (λ d there. hub_naming gapped.gap d (Contains-append_left (head_name node extras) (map digest_of ties) d there)) e c in
       following x cx gapped e (extra_there e c) between path
 
   -- and so do the survivors that hubs name
   pub tie_after : (x : T) → Contains S x → IsGapped node S x → (t : T) → Contains ties t → Precedes node all t x
   tie_after x cx gapped t c =
-      following x cx gapped t (completes.keeps t (kept t c)) []
-      (hub_names_it gapped.gap t
+      following x cx gapped t (completes.keeps t (apt.kept t c)) []
+      (hub_naming gapped.gap (node t).digest
       (Contains-append_right (head_name node extras) (map digest_of ties) (node t).digest (Contains-map digest_of ties t c)))
 
   -- one of the named survivors, or an ancestor of it
@@ -303,35 +264,21 @@ module _ {T : Type 0} (node : T → Node) (machines : ℕ) (S : List T) (are : A
 
   -- a survivor that a tied one names is tied
   tied_on : (f g : T) → Contains S f → Names node g f → IsTied g → IsTied f
-  tied_on f g cf names (t, there, cg, near) = (
-    t,
-    there,
-    cf,
-    elim near [
-      | inl is ↦ inr (cf, kept t there, [], subst (λ (y : T). Names node y f) is names)
-      | inr before ↦ let (_, ct, between, path) = before in inr (cf, ct, g ∷ between, (cg, names, path))
-    ],
-  )
+  tied_on f g cf names (t, there, cg, inl is) =
+      (t, there, cf, inr (cf, apt.kept t there, [], subst (λ (y : T). Names node y f) is names))
+  tied_on f g cf names (t, there, cg, inr (_, ct, between, path)) =
+      (t, there, cf, inr (cf, ct, g ∷ between, (cg, names, path)))
 
   -- a survivor that is named by what is added is one that hubs name
   named_by_added : (f g : T) → Contains S f → Contains added g → Names node g f → IsTied f
-  named_by_added f g cf cg names =
-      elim (added_cases g cg) [
-        | inl h ↦
-            let (d, _, is) = h in
-            elim (hub_named (node f).digest
-            (subst (λ (ns : List (List ℕ)). Contains ns (node f).digest) (names_of_hub g d is) names)) [
-              | inl l ↦
-                  let (e, there, same) = l in
-                  absurd (apart f e cf (Contains-append_right (map hub_at (gaps node S)) extras e there) (sym same))
-              | inr r ↦
-                  let (t, there, same) = r in
-                  (t, there, cf, inl (are.distinct f t cf (kept t there) (sym same)))
-            ]
-        | inr c ↦
-            let (e, there, same) = granted_named node machines used wishes g c (node f).digest names in
-            absurd (apart f e cf (Contains-append_right (map hub_at (gaps node S)) extras e there) (sym same))
-      ]
+  named_by_added f g cf cg names = elim (by (added_cases g cg)) [
+    | inl (e, there, same) ↦ absurd (apart f e cf (extra_added e there) (sym same))
+    | inr (t, there, same) ↦ (t, there, cf, inl (are.distinct f t cf (apt.kept t there) (sym same)))
+  ]
+    where
+      by : IsHub g ⊎ Contains extras g → IsNamed (node f).digest
+      by (inl h) = named_by_hub g (node f).digest h names
+      by (inr x) = inl (granted_named node machines used wishes g x (node f).digest names)
 
   -- where a path to a survivor may begin
   abbrev pub IsSource : T → T → Type 0
@@ -348,13 +295,9 @@ module _ {T : Type 0} (node : T → Node) (machines : ℕ) (S : List T) (are : A
       elim (Contains-append_cases S added f cf) [
         | inl old ↦
             elim (sources_on x cx g between cg path) [
-              | inl before ↦
-                  let (in_g, in_x, gs, through) = before in inl (old, in_x, g ∷ gs, (in_g, names, through))
-              | inr other ↦
-                  elim other [
-                    | inl new ↦ inr (inr (named_by_added f g old new names))
-                    | inr tied ↦ inr (inr (tied_on f g old names tied))
-                  ]
+              | inl (in_g, in_x, gs, through) ↦ inl (old, in_x, g ∷ gs, (in_g, names, through))
+              | inr (inl new) ↦ inr (inr (named_by_added f g old new names))
+              | inr (inr tied) ↦ inr (inr (tied_on f g old names tied))
             ]
         | inr new ↦ inr (inl new)
       ]
@@ -366,11 +309,9 @@ module _ {T : Type 0} (node : T → Node) (machines : ℕ) (S : List T) (are : A
   -- where hubs name no survivor, what precedes a hub was wished
   before_hub : ties ≡ [] → (h : T) → IsHub h → (f : T) (between : List T) → Contains all f →
       IsPath node all f between h → Contains extras f
-  before_hub none h (d, gap, is) f [] cf names =
-      elim (hub_named (node f).digest
-      (subst (λ (ns : List (List ℕ)). Contains ns (node f).digest) (names_of_hub h d is) names)) [
-        | inl l ↦
-            let (e, there, same) = l in
+  before_hub none h hub_is f [] cf names =
+      elim (named_by_hub h (node f).digest hub_is names) [
+        | inl (e, there, same) ↦
             subst (λ (y : T). Contains extras y) (distinct e f (extra_there e there) cf same) there
         | inr r ↦ absurd (Contains-none r.0 (subst (λ ts. Contains ts r.0) none r.1))
       ]
@@ -385,11 +326,8 @@ module _ {T : Type 0} (node : T → Node) (machines : ℕ) (S : List T) (are : A
         | inl old ↦
             elim (sources e e old path) [
               | inl among ↦ before e among
-              | inr other ↦
-                  elim other [
-                    | inl new ↦ apart e e old new refl
-                    | inr tied ↦ Contains-none tied.0 (subst (λ ts. Contains ts tied.0) none tied.1)
-                  ]
+              | inr (inl new) ↦ apart e e old new refl
+              | inr (inr tied) ↦ Contains-none tied.0 (subst (λ ts. Contains ts tied.0) none tied.1)
             ]
         | inr new ↦
             let (ce, _, between, through) = path in
