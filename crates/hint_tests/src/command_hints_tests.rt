@@ -171,42 +171,42 @@ play,s,p|s 2 NotPlain|seed 01/key\tw4 h5/|a line has only bytes from space to ~\
 |     2 | key?w4 h5/       |    ^/
 play,s,p|s 3 OutOfOrder|seed 01/key w4 h5/|lines come in the order|
 play,s,p|s 9 OutOfOrder|seed 01/key w4 h5/|lines come in the order|
-audit,x,r,l|r 17 UnknownKind|(rule A (every x casts true))/|\"casts\" is no kind; the nearest is \
+audit,x,c,l|c 17 UnknownKind|(rule A (every x casts true))/|\"casts\" is no kind; the nearest is \
 cast; a kind is entry|     1 | (rule A (every x casts true))/       |                  ^^^^^/
-audit,x,r,l|r 17 UnknownKind|(rule A (every x entries true))/|\"entries\" is no kind; the nearest \
+audit,x,c,l|c 17 UnknownKind|(rule A (every x entries true))/|\"entries\" is no kind; the nearest \
 is entry; a|     1 | (rule A (every x entries true))/       |                  ^^^^^^^/
-audit,x,r,l|r 33 Unbound|(rule A (every x cast (= x.maker y.maker)))/|no every or some around this \
+audit,x,c,l|c 33 Unbound|(rule A (every x cast (= x.maker y.maker)))/|no every or some around this \
 place binds \"y\"; bound here: \"x\"/\
 |     1 | (rule A (every x cast (= x.maker y.maker)))/       \
 |                                  ^^^^^^^/
-audit,x,r,l|r 52 Unbound|(rule A (every x cast (some y commit before x (same z x))))/|no every or \
+audit,x,c,l|c 52 Unbound|(rule A (every x cast (some y commit before x (same z x))))/|no every or \
 some around this place binds \"z\"; bound here: \"y\", \"x\"/\
 |     1 | (rule A (every x cast (some y commit before x (same z x))))/       \
 |                                                     ^/
-audit,x,r,l|r 31 Unbound|(rule A (every x commit before y true))/|no every or some around this \
+audit,x,c,l|c 31 Unbound|(rule A (every x commit before y true))/|no every or some around this \
 place binds \"y\"/|     1 | (rule A (every x commit before y true))/       \
 |                                ^/
-audit,x,r,l|r 60 Unbound|(rule A (and (some z cast (same z z)) (every x cast (same x z))))/\
+audit,x,c,l|c 60 Unbound|(rule A (and (some z cast (same z z)) (every x cast (same x z))))/\
 |no every \
 or some around|     1 | (rule A (and (some z cast (same z z)) (every x cast (same x z))))/       \
 |                                                             ^/
-audit,x,r,l|r 25 WrongField|(rule A (every x cast (= x.sesion 1)))/\
+audit,x,c,l|c 25 WrongField|(rule A (every x cast (= x.sesion 1)))/\
 |entries of the kind cast have no \
 field \"sesion\"; the nearest is session; they have maker, number, session, ballot/\
 |     1 | (rule A (every x cast (= x.sesion 1)))/       |                          ^^^^^^^^/
-audit,x,r,l|r 27 WrongField|(rule A (every x opened (= x.ballot 1)))/|entries of the kind opened \
+audit,x,c,l|c 27 WrongField|(rule A (every x opened (= x.ballot 1)))/|entries of the kind opened \
 have no field \"ballot\"; they have maker, number/\
 |     1 | (rule A (every x opened (= x.ballot 1)))/       |                            ^^^^^^^^/
-audit,x,r,l|r 35 WrongField|(rule A (every x cast (= x.session 1)))/|\"1\": entries of the \
+audit,x,c,l|c 35 WrongField|(rule A (every x cast (= x.session 1)))/|\"1\": entries of the \
 variable's kind|     1 | (rule A (every x cast (= x.session 1)))/       \
 |                                    ^/
-audit,x,r,l|r 13 SameName|(rule A true)(rule A true)/|\"(\": a rule has this name already\
+audit,x,c,l|c 13 SameName|(rule A true)(rule A true)/|\"(\": a rule has this name already\
 |     1 | (rule A true)(rule A true)/       |              ^/
-audit,x,r,l|r 40 Shape|(rule A true)/|a rule begins with|
-audit,x,r,l|r 32 Shape|(rule A true)/(rule B (every x (|a rule begins with\
+audit,x,c,l|c 40 Shape|(rule A true)/|a rule begins with|
+audit,x,c,l|c 32 Shape|(rule A true)/(rule B (every x (|a rule begins with\
 |     2 | (rule B (every x (/       |                   ^/
-audit,x,r,l|r 14 Shape|(rule A true)/|a rule begins with|     2 | /       | ^/
-audit,x,r,l|r 62 Token|01234567890123456789012345678901234567890123456789012345678901\
+audit,x,c,l|c 14 Shape|(rule A true)/|a rule begins with|     2 | /       | ^/
+audit,x,c,l|c 62 Token|01234567890123456789012345678901234567890123456789012345678901\
 #abcdefghijabcdefghijabcdefghijabcdefghijabcdefghijabcdefghijabcdefghij|a text of rules has\
 |     1 | ..234567890123456789012345678901234567890123456789012345678901\
 #abcdefghijabcdefghijabcdefghijabcdefghijabcdefghijabcdefghi\
