@@ -1,5 +1,5 @@
--- What reading a proof's text answers: the lines of the proof, or the first fault. It goes line by line, and on a
--- line word by word from the left.
+-- What reading a proof's text answers: the lines of the proof, or the first fault. It goes line by
+-- line, and on a line word by word from the left.
 use Rattle.std.specs.Prelude.{ℕ, ◌+◌, ◌&&◌, ◌||◌, ◌==◌, nat_lt, Bool, true, false, List, [], ◌∷◌, ◌++◌, length, codes}
 use Rattle.std.specs.Prelude.{Result, Ok, Err, ok_or}
 use Rattle.std.specs.List.{slice_split, before_first, after_first, list_all, list_any}
@@ -31,7 +31,8 @@ last_line (byte ∷ bytes) = record { bytes = byte ∷ bytes; is_ended = false }
 abbrev pub lines_between : List (List ℕ) → List TextLine
 lines_between [] = []
 lines_between (last ∷ []) = last_line last
-lines_between (part ∷ next ∷ parts) = record { bytes = part; is_ended = true } ∷ lines_between (next ∷ parts)
+lines_between (part ∷ next ∷ parts) =
+    record { bytes = part; is_ended = true } ∷ lines_between (next ∷ parts)
 
 -- the lines of a text
 abbrev pub lines_in : List ℕ → List TextLine
@@ -126,7 +127,8 @@ lists_parents graph line x =
 -- whether it lists the parents of its entry and of all that it lists
 abbrev pub lacks_no_parent : Graph → Line → Bool
 lacks_no_parent graph line =
-    lists_parents graph line line.entry && list_all (lists_parents graph line) (listed_in line.steps)
+    lists_parents graph line line.entry
+    && list_all (lists_parents graph line) (listed_in line.steps)
 
 -- the end of a line: nothing is missing
 unfoldable pub end_read : Graph → Bool → Line → ProofRead Line
@@ -156,7 +158,8 @@ at_number number (Ok value) = Ok value
 at_number number (Err why) = Err (At number why)
 
 -- the lines after the first, of which this is read
-abbrev pub after_line : (TextLine → ProofRead (Unit {0})) → List TextLine → ProofRead (List TextLine)
+abbrev pub after_line : (TextLine → ProofRead (Unit {0})) → List TextLine
+    → ProofRead (List TextLine)
 after_line read [] = Err Form
 after_line read (line ∷ lines) = read line >>= λ it. Ok lines
 

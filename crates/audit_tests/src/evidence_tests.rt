@@ -68,8 +68,8 @@ r a b a = 0 7 0 0 0
 x y = there is no file x
 r y x = there is no file y
 r a c x = c is refused at 0: Header
-a a = a is refused at 0: Roster(WrongShape)
-c a = c is refused at 6: Roster(NotCanonical(6))";
+a a = a is refused at 0: WrongShape
+c a = c is refused at 6: NotCanonical";
 
 #[test]
 fn the_first_refusal_is_told(rt: HostRuntime) -> Result<(), Fail> {

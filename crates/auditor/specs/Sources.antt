@@ -35,7 +35,8 @@ max_rules = 4194304
 -- the file of rules is refused with the place and the cause of its first fault
 abbrev pub IsRulesRefusal : List ℕ → List ℕ → Refusal → Type 0
 IsRulesRefusal name bytes refusal =
-    (at : ℕ) × (why : RuleWhy) × IsFirstFault bytes at why × (refusal ≡ refused name at (rule_why_word why))
+    (at : ℕ) × (why : RuleWhy) × IsFirstFault bytes at why
+    × (refusal ≡ refused name at (rule_why_word why))
 
 -- what the file of rules gives, or that there is none
 abbrev pub GivesRules : List ℕ → Option (List ℕ) → Result (List RuleTree) Refusal → Type 0

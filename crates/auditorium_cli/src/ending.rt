@@ -29,8 +29,8 @@ pub(crate) fn after_name(line: &[String]) -> &[String]
     }
 }
 
-/// Does what the command line asks for, by its words as they are given after the program's name, and
-/// the listener hears why an input was refused.
+/// Does what the command line asks for, by its words as they are given after the program's name.
+/// The listener hears why an input was refused.
 /// What `main` adds is trusted: `env::args` gives the words of the command line; what an
 /// `OutputSink` counts as written went to the standard output, since it exposes nothing; and
 /// `ExitCode` ends the process with the number.

@@ -1,4 +1,5 @@
-//! Why an input is refused: the causes against each kind of input, and their words in lines of output.
+//! Why an input is refused: the causes against each kind of input, and their words in lines of
+//! output.
 #![tactic(auto)]
 
 mod cause;

@@ -33,7 +33,8 @@ pub record IsNumbered (first line : List ℕ) (found : Numbered) : Type 0 where
   pub next : Follows 32 (drop found.end line)
   pub is : number_after first (words_on line) ≡ Ok (found.number, spaced (drop found.end line))
 
--- whether a step goes on a line, by a table of what is reached there and a bound below which ancestors fall
+-- whether a step goes on a line, by a table of what is reached there and a bound below which
+-- ancestors fall
 unfoldable pub step_tests : Graph → List Bool → ℕ → ProofStep → ProofRead (Unit {0})
 step_tests graph reached bound step = do
   survivors ← need (nat_lt step.ancestor graph.count && nat_lt step.via graph.count) OutOfRange

@@ -23,11 +23,13 @@ pub record IsLineAt (bytes : List ℕ) (start : ℕ) (found : LineAt) : Type 0 w
   pub on : start < length bytes → start < found.next
   pub past : length bytes ≤ start → (found.end ≡ start) × (found.is_ended ≡ false)
   pub is : start < length bytes → lines_in (drop start bytes)
-      ≡ text_line (take (found.end - start) (drop start bytes)) found.is_ended ∷ lines_in (drop found.next bytes)
+      ≡ text_line (take (found.end - start) (drop start bytes)) found.is_ended
+        ∷ lines_in (drop found.next bytes)
 
 -- the lines before `at` were read, and the next entry has to be at least the least
-pub record IsReadingLines (graph : Graph) (bytes : List ℕ) (start : ℕ) (lines : List Line) (least at : ℕ)
-    : Type 0 where
+pub record IsReadingLines (graph : Graph) (bytes : List ℕ) (start : ℕ) (lines : List Line)
+    (least at : ℕ) : Type 0 where
   pub within : at ≤ length bytes
-  pub goes_on : lines_read graph [] (lines_in (drop start bytes)) ≡ lines_read graph lines (lines_in (drop at bytes))
+  pub goes_on : lines_read graph [] (lines_in (drop start bytes))
+      ≡ lines_read graph lines (lines_in (drop at bytes))
   pub rises : (x : ℕ) → is_above lines x ≡ nat_le least x

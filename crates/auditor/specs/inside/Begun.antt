@@ -31,12 +31,14 @@ WithRoster read source names = RulesThen source (λ rules files. WithRules read 
 
 module _ {S : Type 0} (of : StoreGhosts S) where
   -- the logs of these names were read by the roster
-  abbrev pub AreLogsOf : Begun → List (List ℕ) → S → Result (Vec LogRead Global) InputFault → S → Type 0
+  abbrev pub AreLogsOf : Begun → List (List ℕ) → S → Result (Vec LogRead Global) InputFault → S
+      → Type 0
   AreLogsOf begun names =
       IsReadFrom of (λ logs. logs.items) names (GivesLogs begun.read.roster.machines begun.read.election names)
 
   -- this is what they give by the rules
-  abbrev pub IsEndOf : Begun → RuleSource → List (List ℕ) → S → Result ReportParts InputFault → S → Type 0
+  abbrev pub IsEndOf : Begun → RuleSource → List (List ℕ) → S → Result ReportParts InputFault → S
+      → Type 0
   IsEndOf begun source names =
       IsReadFrom of report_of names (WithRules begun.read source (map rule_tree begun.rules.items) names)
 
