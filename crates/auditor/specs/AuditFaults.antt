@@ -14,7 +14,7 @@ IsSaidAs (input.Absent file) said = said ≡ Absent file
 IsSaidAs (input.Refused file place cause) said =
     (said ≡ Memory)
     ⊎ ((text : String Global) × (string_bytes text ≡ cause_text cause)
-      × (said ≡ Refused file place text))
+    × (said ≡ Refused file place text))
 IsSaidAs input.ReadFault said = said ≡ ReadFault
 IsSaidAs input.Memory said = said ≡ Memory
 

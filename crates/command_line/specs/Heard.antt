@@ -19,7 +19,7 @@ abbrev pub IsSaid : Option (List ℕ) → Status → Option (List ℕ) → Refus
 IsSaid old how new refusal =
     (how ≡ WriteFault)
     ⊎ ((how ≡ (refusal_answer refusal).status)
-      × (new ≡ appended old (refusal_answer refusal).output))
+    × (new ≡ appended old (refusal_answer refusal).output))
 
 -- a listener heard nothing, and is as before, or it heard of a fault whose refusal is such a one
 abbrev pub HasHeard : {N : Type 0} → (N → InputFault → N → Type 0) → (Refusal → Type 0) → N → N

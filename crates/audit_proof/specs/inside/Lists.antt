@@ -24,7 +24,7 @@ pub record IsLineAt (bytes : List ℕ) (start : ℕ) (found : LineAt) : Type 0 w
   pub past : length bytes ≤ start → (found.end ≡ start) × (found.is_ended ≡ false)
   pub is : start < length bytes → lines_in (drop start bytes)
       ≡ text_line (take (found.end - start) (drop start bytes)) found.is_ended
-        ∷ lines_in (drop found.next bytes)
+      ∷ lines_in (drop found.next bytes)
 
 -- the lines before `at` were read, and the next entry has to be at least the least
 pub record IsReadingLines (graph : Graph) (bytes : List ℕ) (start : ℕ) (lines : List Line)
