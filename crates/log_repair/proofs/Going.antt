@@ -24,6 +24,7 @@ Joins b First Next Both first =
     First after (world_of b.machines) first mid → Next after mid rest new →
     Both after (world_of b.machines) (first ++ rest) new
 
+-- what the function says stays so, and so does what the machines are made of
 says_on : {a b : WorldState} {next : ℕ → List (Event SealedEntry) → Option SealedEntry} {log : ℕ} →
     IsMadeAsBefore a b → Says a.machines next log → Says b.machines next log
 says_on {a = a} {b = b} made says = record {
@@ -53,6 +54,7 @@ going_start so = record {
   leads = so;
 }
 
+-- all of it is left
 pub going_none : {Way : WorldWay} {w : WorldState} {start : List Step} → Going Way Way w start start w
 going_none = going_start (λ next log says rest last way. way)
 
@@ -113,6 +115,7 @@ fails_here {a = a} {b = b} one goes = record {
       (one.taken, steps, last, one.leads next log says steps last way, one.played next log says);
 }
 
+-- a way after which nothing is left
 then_none : (Way : WorldWay) (b : WorldState) (first : List Step) → Joins b Way Stays Way first
 then_none Way b first after mid new rest way (bare, same) = rw (bare, same, append-nil) way
 
@@ -123,11 +126,13 @@ going_all {Rest = Rest} {b = b} one two = going_more one two (then_none Rest b t
 
 pub fails_all : {Rest Whole : WorldWay} {a b c : WorldState} {start middle : List Step} →
     Going Rest Whole a start middle b → Fails Rest b c → Fails Whole a c
-fails_all {Rest = Rest} {b = b} one two = going_fails one two (then_none Rest b) (λ next log says u. ([], u, (refl, refl)))
+fails_all {Rest = Rest} {b = b} one two =
+    going_fails one two (then_none Rest b) (λ next log says u. ([], u, (refl, refl)))
 
 -- the first of some things, and then the rest
 pub next_joins : {X : Type 0} (b : WorldState)
-    (Way : (World SealedEntry → Step → World SealedEntry) → X → World SealedEntry → List Step → World SealedEntry → Type 0)
+    (Way : (World SealedEntry → Step → World SealedEntry) → X → World SealedEntry → List Step → World SealedEntry →
+    Type 0)
     (x : X) (xs ys : List X) → xs ≡ x ∷ ys → (first : List Step) →
     Joins b (λ after. Way after x) (λ after. InOrder (Way after) ys) (λ after. InOrder (Way after) xs) first
 next_joins b Way x xs ys is first after mid new rest one others = rw is (mid, first, rest, one, others, refl)
@@ -157,6 +162,7 @@ shrinks {start = start} adds true still =
 
 -- ---- again and again
 
+-- where the list stayed nothing was added
 none_added : (start end taken : List Step) → end ≡ start ++ taken → end ≡ start → taken ≡ []
 none_added start end [] added same = refl
 none_added start end (s ∷ taken) added same =
@@ -173,6 +179,7 @@ module _ (Way : WorldWay)
       moves two.taken (λ none. none_added middle end two.taken two.added (still.0 none)) (world_of b.machines) mid new
       rest part more)
 
+  -- it broke off
   pub loop_fails : {Whole : WorldWay} {a b c : WorldState} {start middle : List Step} →
       Going (λ after. Loops (Way after)) Whole a start middle b → Fails Way b c →
       GoesOn (λ after. Loops (Way after)) a.machines → Fails Whole a c

@@ -1,6 +1,6 @@
 -- What is taken on a way, that a way is the only one from a world, and that there is one.
-use Rattle.log_repair.proofs.Imports.{◌≡◌, ◌≢◌, ◌∙◌, ℕ, zero, suc, ◌+◌, ◌<◌, ◌≤◌, arith, Bool, true, false, List, [], ◌∷◌}
-use Rattle.log_repair.proofs.Imports.{◌++◌, length, Option, Some, None, refl, sym, ap, inl, inr, slice_get}
+use Rattle.log_repair.proofs.Imports.{◌≡◌, ◌≢◌, ◌∙◌, ℕ, zero, suc, ◌+◌, ◌<◌, ◌≤◌, arith, Bool, true, false, List, []}
+use Rattle.log_repair.proofs.Imports.{◌∷◌, ◌++◌, length, Option, Some, None, refl, sym, ap, inl, inr, slice_get}
 use Rattle.log_repair.proofs.Imports.{range_with_len, Step, Act, Hear, Node, World, Asks, ActsOn, Finishes, HearsOf}
 use Rattle.log_repair.proofs.Imports.{Repairs, TakesRound, TakesTurn, bearer, wants, is_mended, goes_on, is_idle, acts}
 use Rattle.log_repair.proofs.Imports.{InOrder, TakesNone, TakesStep, AddsEvent, SendsWithRoom, WorldsAreMendedInOneWay}
@@ -189,11 +189,11 @@ module _ {T : Type 0} (node : T → Node) (after : World T → Step → World T)
   -- there is no other way
   pub repairs_is_one : (old new : World T) (steps : List Step) → Repairs node after old steps new → (other : World T)
       (others : List Step) → Repairs node after old others other → (others ≡ steps) × (other ≡ new)
-  repairs_is_one old new steps way = (repairs_sure (λ w s. Unit {0}) (λ at from number w differ. tt) old new steps way).1
+  repairs_is_one old new steps way = (repairs_sure (λ _ _. Unit {0}) (λ _ _ _ _ _. tt) old new steps way).1
 
   pub finishes_is_one : (old new : World T) (steps : List Step) → Finishes node after old steps new →
       (other : World T) (others : List Step) → Finishes node after old others other → (others ≡ steps) × (other ≡ new)
-  finishes_is_one old new steps way = (finishes_sure (λ w s. Unit {0}) (λ m w differ. tt) old new steps way).1
+  finishes_is_one old new steps way = (finishes_sure (λ _ _. Unit {0}) (λ _ _ _. tt) old new steps way).1
 
 module _ {T : Type 0} (node : T → Node) (next : ℕ → List (Event T) → Option T) (log : ℕ) where
   -- the world after a step

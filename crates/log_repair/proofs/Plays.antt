@@ -22,14 +22,14 @@ module _ {T : Type 0} (node : T → Node) (next : ℕ → List (Event T) → Opt
   pub repairs_is_a_play : (old new : World T) (steps : List Step) →
       Repairs node (happens node next log) old steps new → new ≡ play node next log old steps
   repairs_is_a_play old new steps mended =
-      taken_is_a_play (λ w s. Unit {0}) steps old new
-      (repairs_sure node (happens node next log) (λ w s. Unit {0}) (λ at from number w differ. tt) old new steps mended).0
+      taken_is_a_play (λ _ _. Unit {0}) steps old new
+      (repairs_sure node (happens node next log) (λ _ _. Unit {0}) (λ _ _ _ _ _. tt) old new steps mended).0
 
   pub finishes_is_a_play : (old new : World T) (steps : List Step) →
       Finishes node (happens node next log) old steps new → new ≡ play node next log old steps
   finishes_is_a_play old new steps done =
-      taken_is_a_play (λ w s. Unit {0}) steps old new
-      (finishes_sure node (happens node next log) (λ w s. Unit {0}) (λ m w differ. tt) old new steps done).0
+      taken_is_a_play (λ _ _. Unit {0}) steps old new
+      (finishes_sure node (happens node next log) (λ _ _. Unit {0}) (λ _ _ _. tt) old new steps done).0
 
   -- a history is the old one and what came after it
   abbrev Grows : List (Event T) → List (Event T) → Type 0

@@ -19,8 +19,8 @@ total_few most (a ∷ w) small =
 
 module _ {T : Type 0} (node : T → Node) (next : ℕ → List (Event T) → Option T) (log : ℕ) where
   -- an orderly world stays so with the same sent entries, and has as many more events as there were steps
-  kept : (steps : List Step) (old new : World T) → AreTaken (happens node next log) (Heard node next log) old steps new →
-      IsOrderly node old →
+  kept : (steps : List Step) (old new : World T) →
+      AreTaken (happens node next log) (Heard node next log) old steps new → IsOrderly node old →
       IsOrderly node new × (sent_in new ≡ sent_in old) × (total new ≡ length steps + total old)
   kept [] old new is orderly = rw is (orderly, refl, omega arith)
   kept (s ∷ steps) old new (heard, more) orderly =

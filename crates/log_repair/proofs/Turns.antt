@@ -9,18 +9,21 @@ use Rattle.log_repair.proofs.Imports.{Asks, InOrder, SealedEntry, Step, TakesTur
 abbrev pub numbers : WorldState → List ℕ
 numbers w = range_with_len 0 (length (world_of w.machines))
 
--- the next number, and those after it
-pub next_number : (w : WorldState) (m : ℕ) → m < length w.machines → drop m (numbers w) ≡ m ∷ drop (m + 1) (numbers w)
-next_number w m within =
+-- the next number, and those after it, by the machines that are read
+pub next_number : {v w : WorldState} (m : ℕ) → v ≡ w → m < length v.machines →
+    drop m (numbers w) ≡ m ∷ drop (m + 1) (numbers w)
+next_number {w = w} m seen within =
     let count = length (world_of w.machines) in
-    let low : m < count = omega (arith, within, length-map w.machines machine_of) in
+    let here : m < length w.machines = rw seen at within in
+    let low : m < count = omega (arith, here, length-map w.machines machine_of) in
     let below : m < length (numbers w) = omega (arith, low, length-range_with_len 0 count) in
-    let here : get_or (numbers w) m m ≡ m = omega (arith, get_or-range_with_len 0 count m m low) in
-    drop_more (numbers w) m m below ∙ ap (λ (n : ℕ). n ∷ drop (m + 1) (numbers w)) here
+    let is : get_or (numbers w) m m ≡ m = omega (arith, get_or-range_with_len 0 count m m low) in
+    drop_more (numbers w) m m below ∙ ap (λ (n : ℕ). n ∷ drop (m + 1) (numbers w)) is
 
 -- past the last machine there is none
-pub no_number : (w : WorldState) (m : ℕ) → length w.machines ≤ m → drop m (numbers w) ≡ []
-no_number w m past =
+pub no_number : {v w : WorldState} (m : ℕ) → v ≡ w → length v.machines ≤ m → drop m (numbers w) ≡ []
+no_number {w = w} m seen far =
+    let past : length w.machines ≤ m = rw seen at far in
     drop_all m (numbers w) (omega (
       arith,
       past,

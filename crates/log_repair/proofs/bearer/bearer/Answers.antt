@@ -13,12 +13,12 @@ none_or f (Some a) p is = cc is
 
 pub returns-in-Some : goal.returns-in-Some
 returns-in-Some c =
-    let next = drop_more c.args.machines.now c.loop-machine.machine-index c.machine-item.result c.loop-machine-test.true in
+    let next = drop_more c.args.machines.now _ c.machine-item.result c.loop-machine-test.true in
     rw (c.loop-machine.invariant, next, ← c.machine-item.is)
     (some_or _ _ _ c.in-Some.found (sym c.answer_of.ensures ∙ c.in-Some.is))
 
 pub loop-machine-preserved : goal.loop-machine-preserved
 loop-machine-preserved c =
-    let next = drop_more c.args.machines.now c.loop-machine.machine-index c.machine-item.result c.loop-machine-test.true in
+    let next = drop_more c.args.machines.now _ c.machine-item.result c.loop-machine-test.true in
     rw (c.loop-machine.invariant, next, ← c.machine-item.is)
     (none_or _ _ _ (sym c.answer_of.ensures ∙ c.in-None.is))

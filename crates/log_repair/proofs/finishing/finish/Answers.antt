@@ -1,4 +1,4 @@
-use Rattle.log_repair.proofs.Imports.{◌≡◌, ◌∙◌, ◌<◌, ◌≤◌, [], length, rules, ap, node_of_sealed, WorldState, ActsOn}
+use Rattle.log_repair.proofs.Imports.{◌≡◌, ◌∙◌, [], rules, node_of_sealed, ActsOn}
 use Rattle.log_repair.proofs.Going.{going_fails, going_more, going_start, if_failed, led_from_none, next_joins}
 use Rattle.log_repair.proofs.Making.{sends_with_room}
 use Rattle.log_repair.proofs.OneWay.{finishes_continue}
@@ -13,14 +13,13 @@ loop-m-init c =
 pub loop-m-preserved : goal.loop-m-preserved
 loop-m-preserved c =
     let acts = c.in_ok-act_on.ensures.ok in
-    let below : c.loop-m.m < length c.world.inside.machines.items = search rules in
-    let next = next_number c.args.world.now c.loop-m.m (rw (ap (λ (s : WorldState). s.machines) c.world.view_is) at below) in
-    going_more c.loop-m.invariant acts (next_joins c.loop-m.world (ActsOn node_of_sealed) c.loop-m.m _ _ next acts.taken)
+    let next = next_number c.loop-m.m c.world.view_is (search rules) in
+    going_more c.loop-m.invariant acts
+    (next_joins c.loop-m.world (ActsOn node_of_sealed) c.loop-m.m _ _ next acts.taken)
 
 pub returns-in_err-act_on-clause-err : goal.returns-in_err-act_on-clause-err
 returns-in_err-act_on-clause-err c =
-    let below : c.loop-m.m < length c.world.inside.machines.items = search rules in
-    let next = next_number c.args.world.now c.loop-m.m (rw (ap (λ (s : WorldState). s.machines) c.world.view_is) at below) in
+    let next = next_number c.loop-m.m c.world.view_is (search rules) in
     if_failed c.from_residual.result (going_fails c.loop-m.invariant c.in_err-act_on.ensures.err
     (next_joins c.loop-m.world (ActsOn node_of_sealed) c.loop-m.m _ _ next)
     (λ next log says u. finishes_continue node_of_sealed next log (sends_with_room says) _ u)).broken
@@ -37,6 +36,4 @@ returns-in_err-act_on-clause-stops c = c.in_err-act_on.ensures.err.made.stops �
 
 pub returns-clause-ok : goal.returns-clause-ok
 returns-clause-ok c =
-    let past : length c.world.inside.machines.items ≤ c.loop-m.m = search rules in
-    led_from_none (rw (no_number c.args.world.now c.loop-m.m
-    (rw (ap (λ (s : WorldState). s.machines) c.world.view_is) at past)) at c.loop-m.invariant)
+    led_from_none (rw (no_number c.loop-m.m c.world.view_is (search rules)) at c.loop-m.invariant)

@@ -49,7 +49,8 @@ returns-in-Some c =
     hears_of c.in-Some.from c.in-Some.number after c.args.m
     (bearer node_of_sealed c.args.digest.now (world_of w.machines)) told (world_of w.machines) new steps in
     record {
-      ok = on_ok_weaker c.take.result (λ adds. going_all (going_start (λ next log says. hears (happens node_of_sealed next log))) adds) c.take.ensures.ok;
+      ok = on_ok_weaker c.take.result (λ adds. going_all (going_start
+          (λ next log says. hears (happens node_of_sealed next log))) adds) c.take.ensures.ok;
       err = on_err_weaker c.take.result (λ fails. fails_all (going_start {start = c.args.steps.now.items}
           (λ next log says. hears (happens node_of_sealed next log))) fails) c.take.ensures.err;
     }

@@ -1,4 +1,4 @@
-use Rattle.log_repair.proofs.Imports.{◌<◌, ◌≤◌, length, rules, ap, node_of_sealed, WorldState, TakesTurn}
+use Rattle.log_repair.proofs.Imports.{rules, node_of_sealed, TakesTurn}
 use Rattle.log_repair.proofs.Going.{going_fails, going_more, going_start, if_failed, next_joins}
 use Rattle.log_repair.proofs.OneWay.{turns_continue}
 use Rattle.log_repair.proofs.Turns.{next_number, no_number}
@@ -10,20 +10,17 @@ loop-m-init c = going_start (λ next log says rest last turns. turns)
 pub loop-m-preserved : goal.loop-m-preserved
 loop-m-preserved c =
     let turn = c.in_ok-take_turn.ensures.ok in
-    let below : c.loop-m.m < length c.world.inside.machines.items = search rules in
-    let next = next_number c.args.world.now c.loop-m.m (rw (ap (λ (s : WorldState). s.machines) c.world.view_is) at below) in
-    going_more c.loop-m.invariant turn (next_joins c.loop-m.world (TakesTurn node_of_sealed) c.loop-m.m _ _ next turn.taken)
+    let next = next_number c.loop-m.m c.world.view_is (search rules) in
+    going_more c.loop-m.invariant turn
+    (next_joins c.loop-m.world (TakesTurn node_of_sealed) c.loop-m.m _ _ next turn.taken)
 
 pub returns-in_err-take_turn-clause-err : goal.returns-in_err-take_turn-clause-err
 returns-in_err-take_turn-clause-err c =
-    let below : c.loop-m.m < length c.world.inside.machines.items = search rules in
-    let next = next_number c.args.world.now c.loop-m.m (rw (ap (λ (s : WorldState). s.machines) c.world.view_is) at below) in
+    let next = next_number c.loop-m.m c.world.view_is (search rules) in
     if_failed c.from_residual.result (going_fails c.loop-m.invariant c.in_err-take_turn.ensures.err
     (next_joins c.loop-m.world (TakesTurn node_of_sealed) c.loop-m.m _ _ next)
     (λ next log says u. turns_continue node_of_sealed next log _ u))
 
 pub returns-clause-ok : goal.returns-clause-ok
 returns-clause-ok c =
-    let past : length c.world.inside.machines.items ≤ c.loop-m.m = search rules in
-    rw (no_number c.args.world.now c.loop-m.m (rw (ap (λ (s : WorldState). s.machines) c.world.view_is) at past))
-    at c.loop-m.invariant
+    rw (no_number c.loop-m.m c.world.view_is (search rules)) at c.loop-m.invariant

@@ -15,7 +15,7 @@ returns-then-stopped-clause-ok c =
     let seen : c.world.inside.machines.items ≡ ms = ap (λ (s : WorldState). s.machines) c.world.view_is in
     let at = rw seen at c.index-machine.ensures in
     let stopped : has_stopped a ≡ true = sym c.stopped.ensures ∙ c.if-stopped.true in
-    going_start (λ next log says rest last none. turn_of (happens node_of_sealed next log) ms c.args.m a c.requires at [] (rw stopped) rest last none)
+    going_start (λ next log says. turn_of (happens node_of_sealed next log) ms c.args.m a c.requires at [] (rw stopped))
 
 -- no digest was asked for yet
 pub returns-in_err-missing-clause-err : goal.returns-in_err-missing-clause-err
@@ -36,8 +36,8 @@ returns c =
     let runs : has_stopped a ≡ false = sym c.stopped.ensures ∙ c.if-stopped.false in
     let wanted : (if has_stopped a then [] else gaps node_of_sealed (held a.events)) ≡ ds = rw runs (sym missed) in
     record {
-      ok = on_ok_weaker c.ask_all.result (λ adds. going_all (going_start (λ next log says.
-          turn_of (happens node_of_sealed next log) ms c.args.m a c.requires at ds wanted)) adds) c.ask_all.ensures.ok;
-      err = on_err_weaker c.ask_all.result (λ fails. fails_all (going_start {start = []} (λ next log says.
-          turn_of (happens node_of_sealed next log) ms c.args.m a c.requires at ds wanted)) fails) c.ask_all.ensures.err;
+      ok = on_ok_weaker c.ask_all.result (λ adds. going_all (going_start (λ next log says. turn_of
+          (happens node_of_sealed next log) ms c.args.m a c.requires at ds wanted)) adds) c.ask_all.ensures.ok;
+      err = on_err_weaker c.ask_all.result (λ fails. fails_all (going_start {start = []} (λ next log says. turn_of
+          (happens node_of_sealed next log) ms c.args.m a c.requires at ds wanted)) fails) c.ask_all.ensures.err;
     }
