@@ -1,97 +1,107 @@
 -- Entries that a machine is answered: a machine of the world that runs holds them, and their maker
 -- sent them.
-use Rattle.log_repair.proofs.Imports.{◌≡◌, ◌∙◌, ℕ, zero, suc, ◌<◌, Bool, true, false, cond, List, [], ◌∷◌, length}
-use Rattle.log_repair.proofs.Imports.{inl, inr, Option, Some, None, refl, sym, ap, subst, find, slice_get, Contains}
+use Rattle.log_repair.proofs.Imports.{◌≡◌, ◌≢◌, ◌∙◌, ℕ, zero, suc, true, false, cond, List, [], ◌∷◌, ◌++◌}
+use Rattle.log_repair.proofs.Imports.{inl, inr, Option, Some, None, refl, sym, ap, slice_get, Contains}
 use Rattle.log_repair.proofs.Imports.{option_or, bytes_eq, bytes_eq-Decides, Event, Sent, Got, IsBorneIn, Node}
-use Rattle.log_repair.proofs.Imports.{entry_of, held, sent, IsOrderly, Machine, World, history, sent_in, Contains-at}
+use Rattle.log_repair.proofs.Imports.{entry_of, held, sent, IsOrderly, Machine, World, history, sent_in}
 use Rattle.log_repair.proofs.Imports.{Contains-later, Contains-cons_cases, Contains-none, Contains-map_cases}
-use Rattle.log_repair.proofs.Imports.{in_world, nth_of_sent, sent_in_from, was_sent, answer_of, bearer}
-use Rattle.log_repair.proofs.Imports.{found_by_digest, NoneAnswers}
+use Rattle.log_repair.proofs.Imports.{nth_of_sent, sent_in_from, was_sent, answer_of, bearer}
+use Rattle.log_repair.proofs.Imports.{found_by_digest, NoneAnswers, Contains-head, Contains-map, DigestsDiffer, IsLegal}
+use Rattle.log_repair.proofs.Imports.{append_assoc, member_split, new_from_may, Contains-append_right}
 use Rattle.std.proofs.lemmas.Bool.{true≢false}
 
-module _ {X : Type 0} (p : X → Bool) where
-  -- what is found is one of them, and passes
-  found_among : (xs : List X) (x : X) → find p xs ≡ Some x → Contains xs x × (p x ≡ true)
-  found_among [] x found = absurd (cc found)
-  found_among (y ∷ xs) x found = by (p y) refl found (λ f. found_among xs x f)
-    where
-      by : (b : Bool) → p y ≡ b → cond b (Some y) (find p xs) ≡ Some x →
-          (find p xs ≡ Some x → Contains xs x × (p x ≡ true)) → Contains (y ∷ xs) x × (p x ≡ true)
-      by true passes is rest =
-          let same : y ≡ x = cc is in (Contains-at y xs x same, ap p (sym same) ∙ passes)
-      by false fails is rest = let (c, passes) = rest is in (Contains-later y xs x c, passes)
+module _ {T : Type 0} (node : T → Node) where
+  -- the entries of a legal history have different digests
+  pub differ_after : (owner : ℕ) (before h : List (Event T)) → IsLegal node owner (before ++ h) →
+      DigestsDiffer node (held h)
+  differ_after owner before [] legal = tt
+  differ_after owner before (x ∷ h) legal = (
+    λ e c same.
+        let (y, there, is) = Contains-map_cases entry_of h e c in
+        let (between, later, split) = member_split h y there in
+        new_from_may node owner (before ++ x ∷ between) y
+        (legal (before ++ x ∷ between) y later (cc (split, append_assoc before (x ∷ between) (y ∷ later)))) (entry_of x)
+        (Contains-map entry_of (before ++ x ∷ between) x
+        (Contains-append_right before (x ∷ between) x (Contains-head x between))) (rw (is, same)),
+    differ_after owner (before ++ x ∷ []) h (rw (append_assoc before (x ∷ []) h) legal),
+  )
 
-  -- where none is found none passes
-  none_passes : (xs : List X) (x : X) → find p xs ≡ None → Contains xs x → p x ≡ true → ⊥
-  none_passes [] x none c passes = Contains-none x c
-  none_passes (y ∷ xs) x none c passes = by (p y) refl none (λ f later. none_passes xs x f later passes)
-    where
-      by : (b : Bool) → p y ≡ b → cond b (Some y) (find p xs) ≡ None → (find p xs ≡ None → Contains xs x → ⊥) → ⊥
-      by true it is rest = cc is
-      by false fails is rest =
-          elim (Contains-cons_cases y xs x c) [
-            | inl same ↦ true≢false (sym passes ∙ ap p (sym same) ∙ fails)
-            | inr later ↦ rest is later
-          ]
+  one_with : (es : List T) (e f : T) → DigestsDiffer node es → Contains es e → Contains es f →
+      (node e).digest ≡ (node f).digest → e ≡ f
+  one_with [] e f differ c d same = absurd (Contains-none e c)
+  one_with (x ∷ es) e f (first, differ) c d same =
+      elim (Contains-cons_cases x es e c) [
+        | inl is ↦ elim (Contains-cons_cases x es f d) [
+          | inl also ↦ cc
+          | inr later ↦ absurd (first f later (rw is (sym same)))
+        ]
+        | inr later ↦ elim (Contains-cons_cases x es f d) [
+          | inl also ↦ absurd (first e later (rw also same))
+          | inr too ↦ one_with es e f differ later too same
+        ]
+      ]
 
-  -- where none passes none is found
-  pub none_found : (xs : List X) → ((x : X) → Contains xs x → p x ≡ true → ⊥) → find p xs ≡ None
-  none_found [] fails = refl
-  none_found (y ∷ xs) fails = by (p y) refl (none_found xs (λ x c. fails x (Contains-later y xs x c)))
-    where
-      by : (b : Bool) → p y ≡ b → find p xs ≡ None → cond b (Some y) (find p xs) ≡ None
-      by true it rest = absurd (fails y (Contains-at y xs y refl) it)
-      by false it rest = rest
+  module _ (d : List ℕ) where
+    -- one of the entries has the digest, or where Runs is so none has
+    abbrev pub Bears : Type 0 → List T → Option T → Type 0
+    Bears Runs es None = Runs → (IsBorneIn node es d) → ⊥
+    Bears Runs es (Some e) = Contains es e × ((node e).digest ≡ d)
 
-module _ {T : Type 0} (node : T → Node) (d : List ℕ) where
-  -- what no entry has isn't found
-  pub none_with : (es : List T) → ((IsBorneIn node es d) → ⊥) → found_by_digest node d es ≡ None
-  none_with es lacks =
-      none_found (λ e. bytes_eq (node e).digest d) es
-      (λ e c is. lacks (e, c, (bytes_eq-Decides (node e).digest d).0 is))
+    bears_more : (Runs : Type 0) (x : T) (es : List T) → ((node x).digest ≢ d) → (o : Option T) → Bears Runs es o →
+        Bears Runs (x ∷ es) o
+    bears_more Runs x es other None none = λ runs (e, c, is).
+        elim (Contains-cons_cases x es e c) [ inl same ↦ other (rw same is) | inr later ↦ none runs (e, later, is) ]
+    bears_more Runs x es other (Some e) (c, is) = (Contains-later x es e c, is)
 
-  -- a machine answers an entry that it holds, with the digest
-  answer_held : (a : Machine T) (e : T) → answer_of node d a ≡ Some e →
-      Contains (held a.history) e × ((node e).digest ≡ d)
-  answer_held a e is = by a.stopped is
-    where
-      by : (b : Bool) → cond b None (found_by_digest node d (held a.history)) ≡ Some e →
-          Contains (held a.history) e × ((node e).digest ≡ d)
-      by true f = absurd (cc f)
-      by false f =
-          let (c, passes) = found_among (λ e. bytes_eq (node e).digest d) (held a.history) e f in
-          (c, (bytes_eq-Decides (node e).digest d).0 passes)
+    found_bears : (Runs : Type 0) (es : List T) → Bears Runs es (found_by_digest node d es)
+    found_bears Runs [] = λ runs (e, c, is). Contains-none e c
+    found_bears Runs (x ∷ es) =
+        (elim (bytes_eq (node x).digest d) as (λ b. bytes_eq (node x).digest d ≡ b →
+        Bears Runs (x ∷ es) (cond b (Some x) (found_by_digest node d es))) [
+          | true ↦ λ is. (Contains-head x es, (bytes_eq-Decides (node x).digest d).0 is)
+          | false ↦ λ is. bears_more Runs x es
+              (λ same. true≢false (sym ((bytes_eq-Decides (node x).digest d).1 same) ∙ is))
+              (found_by_digest node d es) (found_bears Runs es)
+        ]) refl
 
-  -- a bearer that is found is held by some machine, and has the digest
-  pub bearer_held : (w : World T) (e : T) → bearer node d w ≡ Some e →
-      (m : ℕ) × Contains (held (history w m)) e × ((node e).digest ≡ d)
-  bearer_held [] e is = absurd (cc is)
-  bearer_held (a ∷ w) e is = by (answer_of node d a) refl is (λ f. bearer_held w e f)
-    where
-      by : (o : Option T) → answer_of node d a ≡ o → option_or o (bearer node d w) ≡ Some e →
-          (bearer node d w ≡ Some e → (m : ℕ) × Contains (held (history w m)) e × ((node e).digest ≡ d)) →
-          (m : ℕ) × Contains (held (history (a ∷ w) m)) e × ((node e).digest ≡ d)
-      by None none f later = let (m, c, digest) = later f in (suc m, c, digest)
-      by (Some g) answers f later = let (c, digest) = answer_held a e (answers ∙ f) in (zero, c, digest)
+    -- of a legal history it is that entry
+    pub one_bears : (owner : ℕ) (h : List (Event T)) → IsLegal node owner h → (o : Option T) →
+        Bears (Unit {0}) (held h) o → o ≡ found_by_digest node d (held h)
+    one_bears owner h legal o bears = by o (found_by_digest node d (held h)) bears (found_bears (Unit {0}) (held h))
+      where
+        by : (o p : Option T) → Bears (Unit {0}) (held h) o → Bears (Unit {0}) (held h) p → o ≡ p
+        by None None none _ = refl
+        by None (Some f) none has = absurd (none tt (f, has.0, has.1))
+        by (Some e) None has none = absurd (none tt (e, has.0, has.1))
+        by (Some e) (Some f) (c, is) (d, also) =
+            ap Some (one_with (held h) e f (differ_after owner [] h legal) c d (is ∙ sym also))
 
-  -- where no machine answers none that runs holds the digest
-  pub none_answers : (w : World T) → bearer node d w ≡ None → NoneAnswers node w d
-  none_answers [] none m a is runs (e, c, digest) = cc is
-  none_answers (b ∷ w) none m a is runs borne =
-      by (answer_of node d b) refl none m is (λ f n at. none_answers w f n a at runs borne)
-    where
-      -- by the answer of the first
-      by : (o : Option T) → answer_of node d b ≡ o → option_or o (bearer node d w) ≡ None → (m : ℕ) →
-          slice_get (b ∷ w) m ≡ Some a → (bearer node d w ≡ None → (n : ℕ) → slice_get w n ≡ Some a → ⊥) → ⊥
-      by (Some g) answers f m is later = cc f
-      by None lacks f (suc m) is later = later f m is
-      by None lacks f zero is later =
-          let same : b ≡ a = cc is in
-          let (e, c, digest) = borne in
-          none_passes (λ e. bytes_eq (node e).digest d) (held a.history) e
-          (sym (ap (λ (s : Bool). cond s None (found_by_digest node d (held a.history))) runs)
-          ∙ ap (answer_of node d) (sym same) ∙ lacks) c
-          ((bytes_eq-Decides (node e).digest d).1 digest)
+    -- a machine of the world holds the answer, or none that runs holds one
+    abbrev pub IsAnswerIn : World T → Option T → Type 0
+    IsAnswerIn w None = NoneAnswers node w d
+    IsAnswerIn w (Some e) = (m : ℕ) × Contains (held (history w m)) e × ((node e).digest ≡ d)
+
+    none_more : (a : Machine T) (w : World T) → Bears (a.stopped ≡ false) (held a.history) None →
+        NoneAnswers node w d → NoneAnswers node (a ∷ w) d
+    none_more a w none rest zero b at runs borne =
+        let same : a ≡ b = cc in none (rw same runs) (rw same borne)
+    none_more a w none rest (suc m) b at runs borne = rest m b at runs borne
+
+    answer_more : (a : Machine T) (w : World T) (o p : Option T) → Bears (a.stopped ≡ false) (held a.history) o →
+        IsAnswerIn w p → IsAnswerIn (a ∷ w) (option_or o p)
+    answer_more a w (Some e) p (c, is) rest = (zero, c, is)
+    answer_more a w None (Some e) none (m, c, is) = (suc m, c, is)
+    answer_more a w None None none rest = none_more a w none rest
+
+    pub bearer_answers : (w : World T) → IsAnswerIn w (bearer node d w)
+    bearer_answers [] = λ m a at. cc
+    bearer_answers (a ∷ w) =
+        answer_more a w (answer_of node d a) (bearer node d w)
+        ((elim a.stopped as (λ b. a.stopped ≡ b →
+        Bears (a.stopped ≡ false) (held a.history) (cond b None (found_by_digest node d (held a.history)))) [
+          | true ↦ λ is runs. absurd (true≢false (sym is ∙ runs))
+          | false ↦ λ is. found_bears (a.stopped ≡ false) (held a.history)
+        ]) refl) (bearer_answers w)
 
 module _ {T : Type 0} (node : T → Node) (w : World T) (orderly : IsOrderly node w) where
   -- what is held was sent
@@ -99,8 +109,8 @@ module _ {T : Type 0} (node : T → Node) (w : World T) (orderly : IsOrderly nod
   held_in m e c = let (x, there, same) = Contains-map_cases entry_of (history w m) e c in by x there same
     where
       by : (x : Event T) → Contains (history w m) x → entry_of x ≡ e → Contains (sent_in w) e
-      by (Sent f) there same = subst (λ (g : T). Contains (sent_in w) g) same (sent_in_from w m f there)
-      by (Got f) there same = subst (λ (g : T). Contains (sent_in w) g) same (orderly.heard m f there)
+      by (Sent f) there same = rw same at (sent_in_from w m f there)
+      by (Got f) there same = rw same at (orderly.heard m f there)
 
   -- it is its maker's entry with its number
   pub held_sent : (m : ℕ) (e : T) → Contains (held (history w m)) e →
@@ -108,13 +118,4 @@ module _ {T : Type 0} (node : T → Node) (w : World T) (orderly : IsOrderly nod
   held_sent m e c =
       let (past, (by_whom, later, is)) = was_sent w e (held_in m e c) in
       let own = (orderly.legal by_whom past (Sent e) later is).1 in
-      ap (λ (n : ℕ). slice_get (sent (history w n)) (node e).number) own.maker
-      ∙ ap (λ (k : ℕ). slice_get (sent (history w by_whom)) k) own.number
-      ∙ ap (λ (h : List (Event T)). slice_get (sent h) (length (sent past))) is ∙ nth_of_sent past e later
-
-  -- the maker of an entry that a machine holds is in the world
-  pub held_maker : (m : ℕ) (e : T) → Contains (held (history w m)) e → (node e).maker < length w
-  held_maker m e c =
-      let (past, (by_whom, later, is)) = was_sent w e (held_in m e c) in
-      let own = (orderly.legal by_whom past (Sent e) later is).1 in
-      subst (λ (n : ℕ). n < length w) (sym own.maker) (in_world w by_whom past (Sent e) later is)
+      rw (own.maker, own.number, is) (nth_of_sent past e later)

@@ -1,133 +1,151 @@
 -- A step that is taken adds one event to one machine.
-use Rattle.log_repair.proofs.Imports.{◌≡◌, ◌∙◌, ◌⊎◌, ℕ, zero, suc, ◌+◌, ◌-◌, ◌<◌, ◌==◌, arith, Bool, ◌||◌, true}
-use Rattle.log_repair.proofs.Imports.{false, List, [], ◌∷◌, ◌++◌, length, Option, Some, None, refl, ap, inl, inr}
-use Rattle.log_repair.proofs.Imports.{slice_get, if◌then◌else◌, nat_le, leb-false, or_parts, length-append, Event}
-use Rattle.log_repair.proofs.Imports.{Sent, Got, Step, Act, Hear, has_digest, Node, held, sent, Machine, World}
+use Rattle.log_repair.proofs.Imports.{◌≡◌, ◌≢◌, ◌⊎◌, ℕ, zero, suc, ◌+◌, ◌<◌, ◌==◌, arith, Bool, true}
+use Rattle.log_repair.proofs.Imports.{false, List, [], ◌∷◌, length, Option, Some, None, refl, ap, inl, inr}
+use Rattle.log_repair.proofs.Imports.{slice_get, if◌then◌else◌, leb-false, or_parts, length-append, Event}
+use Rattle.log_repair.proofs.Imports.{Sent, Got, Step, Act, Hear, Stop, Node, sent, Machine, World}
 use Rattle.log_repair.proofs.Imports.{append, cannot_hear, happens, hear, history, send, with_machine, SendsWithRoom}
-use Rattle.log_repair.proofs.Imports.{Repairs, TakesRound, TakesStep}
-use Rattle.log_repair.proofs.Ways.{step_so, round_so, repairs_so}
+use Rattle.log_repair.proofs.Imports.{IsOrderly, IsOrderly-play, AddsEvent, room, total, sent_in, IsStepOf, append-nil, sent-append}
 
--- the machine is as it was, or has one event more, and where it had fewer than log events
-abbrev Adds : {T : Type 0} → (log : ℕ) → Type 0 → Machine T → Machine T → Type 0
-Adds {T} log Room old new = (new ≡ old) ⊎ ((x : Event T) × (new ≡ append x old) × (Room → length old.history < log))
+-- a machine is as it was, or has one event more, and P is so of that and the machine before
+abbrev pub Gets : {T : Type 0} → (Event T → Machine T → Type 0) → Machine T → Machine T → Type 0
+Gets {T} P old new = (new ≡ old) ⊎ ((x : Event T) × (new ≡ append x old) × P x old)
 
--- how many events the world has
-abbrev pub total : {T : Type 0} → World T → ℕ
-total [] = 0
-total (a ∷ w) = length a.history + total w
+-- one machine of the world has one event more
+record OneMore {T : Type 0} (P : Event T → Machine T → Type 0) (log at : ℕ) (old new : World T) : Type 0 where
+  event : Event T
+  before : Machine T
+  so : P event before
+  within : at < length old
+  total : total new ≡ 1 + total old
+  room : length before.history < log → 1 + room log new ≡ room log old
+  sends : sent (event ∷ []) ≡ [] → sent_in new ≡ sent_in old
 
--- how many more it can have, if each machine has at most log
-abbrev pub room : {T : Type 0} → ℕ → World T → ℕ
-room log [] = 0
-room log (a ∷ w) = (log - length a.history) + room log w
+one_more : {T : Type 0} (P : Event T → Machine T → Type 0) (log : ℕ) (change : Machine T → Machine T) →
+    ((a : Machine T) → Gets P a (change a)) → (at : ℕ) (w : World T) →
+    (with_machine at change w ≡ w) ⊎ OneMore P log at w (with_machine at change w)
+one_more P log change each at [] = inl refl
+one_more {T} P log change each zero (a ∷ w) =
+    elim (each a) [
+      | inl same ↦ inl (rw same)
+      | inr (x, is, so) ↦
+          let long : length (change a).history ≡ length a.history + 1 = rw (is, length-append) in
+          inr (record {
+            event = x;
+            before = a;
+            so = so;
+            within = omega arith;
+            total = omega (arith, long);
+            room = λ low. omega (arith, long);
+            sends = λ none. rw (is, sent-append, none, append-nil);
+          })
+    ]
+one_more {T} P log change each (suc at) (a ∷ w) =
+    elim (one_more P log change each at w) [
+      | inl same ↦ inl (ap (λ (v : World T). a ∷ v) same)
+      | inr more ↦ inr (record {
+        event = more.event;
+        before = more.before;
+        so = more.so;
+        within = omega (arith, more.within);
+        total = omega (arith, more.total);
+        room = λ low. omega (arith, more.room low);
+        sends = λ none. rw (more.sends none);
+      })
+    ]
 
--- a world is as it was, or has one event more, and there is room for one less
-abbrev OneMore : {T : Type 0} → ℕ → Type 0 → World T → World T → Type 0
-OneMore log Room old new =
-    (new ≡ old) ⊎ ((total new ≡ 1 + total old) × (Room → 1 + room log new ≡ room log old))
-
-module _ {T : Type 0} (log : ℕ) (Room : Type 0) where
-  -- the machine that is changed
-  here_more : (old new : Machine T) (w : World T) → Adds log Room old new → OneMore log Room (old ∷ w) (new ∷ w)
-  here_more old new w (inl same) = inl (ap (λ (a : Machine T). a ∷ w) same)
-  here_more old new w (inr (x, is, within)) =
-      let long : length new.history ≡ length old.history + 1 =
-      ap (λ (a : Machine T). length a.history) is ∙ length-append old.history (x ∷ []) in
-      inr (omega (arith, long), λ fits. let low = within fits in omega (arith, long, low))
-
-  changed_more : (at : ℕ) (change : Machine T → Machine T) → ((a : Machine T) → Adds log Room a (change a)) →
-      (w : World T) → OneMore log Room w (with_machine at change w)
-  changed_more at change each [] = inl refl
-  changed_more zero change each (a ∷ w) = here_more a (change a) w (each a)
-  changed_more (suc at) change each (a ∷ w) =
-      elim (changed_more at change each w) [
-        | inl same ↦ inl (ap (λ (v : World T). a ∷ v) same)
-        | inr (more, less) ↦ inr (omega (arith, more), λ fits. let low = less fits in omega (arith, low))
-      ]
+-- a machine with a number among what it sent is in the world
+pub sender_within : {T : Type 0} (w : World T) (from number : ℕ) (e : T) →
+    slice_get (sent (history w from)) number ≡ Some e → from < length w
+sender_within [] from number e is = cc
+sender_within (a ∷ w) zero number e is = omega arith
+sender_within (a ∷ w) (suc from) number e is = omega (arith, sender_within w from number e is)
 
 module _ {T : Type 0} (node : T → Node) (log : ℕ) where
-  -- a machine that hears has room
-  hears_more : (o : Option T) (a : Machine T) → Adds log (Unit {0}) a (hear node log o a)
-  hears_more None a = inl refl
-  hears_more (Some e) a = by (cannot_hear node log a (node e).digest) refl
+  -- what a machine hears is what it is given, and it has room
+  abbrev pub IsHeard : Option T → Event T → Machine T → Type 0
+  IsHeard o x a = (e : T) × (o ≡ Some e) × (x ≡ Got e) × (length a.history < log)
+
+  pub hear_gets : (o : Option T) (a : Machine T) → Gets (IsHeard o) a (hear node log o a)
+  hear_gets None a = inl refl
+  hear_gets (Some e) a = by (cannot_hear node log a (node e).digest) refl
     where
       by : (b : Bool) → cannot_hear node log a (node e).digest ≡ b →
-          Adds log (Unit {0}) a (if b then a else append (Got e) a)
+          Gets (IsHeard (Some e)) a (if b then a else append (Got e) a)
       by true is = inl refl
-      by false is =
-          let low = (or_parts (a.stopped || has_digest node (held a.history) (node e).digest)
-          (nat_le log (length a.history)) is).1 in
-          inr (Got e, refl, λ fits. leb-false log (length a.history) low)
+      by false is = inr (Got e, refl, (e, refl, refl, leb-false log (length a.history) (or_parts _ _ is).1))
 
-  -- a machine that sends has, if it may send only with room
-  sends_more : (next : ℕ → List (Event T) → Option T) (m : ℕ) (o : Option T) (a : Machine T) →
-      next m a.history ≡ o → Adds log (SendsWithRoom next log) a (send o a)
-  sends_more next m None a is = inl refl
-  sends_more next m (Some e) a is = by a.stopped
+module _ {T : Type 0} (next : ℕ → List (Event T) → Option T) (m : ℕ) where
+  -- what a machine sends is what it may
+  abbrev pub IsSent : Event T → Machine T → Type 0
+  IsSent x a = (e : T) × (next m a.history ≡ Some e)
+
+  pub send_gets : (o : Option T) (a : Machine T) → next m a.history ≡ o → Gets IsSent a (send o a)
+  send_gets None a is = inl refl
+  send_gets (Some e) a is =
+      elim a.stopped as (λ b. Gets IsSent a (if b then a else append (Sent e) a)) [
+        | true ↦ inl refl
+        | false ↦ inr (Sent e, refl, (e, is))
+      ]
+
+module _ {T : Type 0} (node : T → Node) (next : ℕ → List (Event T) → Option T) (log : ℕ) where
+  -- an entry that was sent was heard
+  pub record Heard (w : World T) (s : Step) : Type 0 where
+    pub total : total (happens node next log w s) ≡ 1 + total w
+    pub room : 1 + room log (happens node next log w s) ≡ room log w
+    pub sends : sent_in (happens node next log w s) ≡ sent_in w
+    pub of : IsStepOf (length w) s
+    pub orderly : IsOrderly node w → IsOrderly node (happens node next log w s)
+
+  pub hear_more : (at from number : ℕ) (w : World T) → (happens node next log w (Hear at from number) ≡ w)
+      ⊎ Heard w (Hear at from number)
+  hear_more at from number w =
+      elim (by (at == from)) [
+        | inl same ↦ inl same
+        | inr more ↦
+            let (e, there, got, low) = more.so in
+            inr (record {
+              total = more.total;
+              room = more.room low;
+              sends = more.sends (rw got);
+              of = (more.within, sender_within w from number e there);
+              orderly = IsOrderly-play node (λ m h. None) log (λ m h f none. absurd (cc none)) w
+                  (Hear at from number ∷ []);
+            })
+      ]
     where
-      by : (b : Bool) → Adds log (SendsWithRoom next log) a (if b then a else append (Sent e) a)
+      o : Option T
+      o = slice_get (sent (history w from)) number
+
+      by : (b : Bool) → let v = if b then w else with_machine at (hear node log o) w in
+          (v ≡ w) ⊎ OneMore (IsHeard node log o) log at w v
       by true = inl refl
-      by false = inr (Sent e, refl, λ fits. fits m a.history e is)
+      by false = one_more (IsHeard node log o) log (hear node log o) (hear_gets node log o) at w
 
-  module _ (next : ℕ → List (Event T) → Option T) where
-    pub hear_adds : (at from number : ℕ) (w : World T) →
-        OneMore log (Unit {0}) w (happens node next log w (Hear at from number))
-    hear_adds at from number w = by (at == from)
-      where
-        by : (b : Bool) → OneMore log (Unit {0}) w
-            (if b then w else with_machine at (hear node log (slice_get (sent (history w from)) number)) w)
-        by true = inl refl
-        by false =
-            let o = slice_get (sent (history w from)) number in
-            changed_more log (Unit {0}) at (hear node log o) (hears_more o) w
+  -- a step that adds an event changes the world, or doesn't
+  pub step_moves : (s : Step) → AddsEvent s → (w : World T) → (happens node next log w s ≡ w)
+      ⊎ ((total (happens node next log w s) ≡ 1 + total w)
+      × (SendsWithRoom next log → 1 + room log (happens node next log w s) ≡ room log w))
+  step_moves (Act m) adds w =
+      elim (one_more (IsSent next m) log (λ a. send (next m a.history) a)
+      (λ a. send_gets next m (next m a.history) a refl) m w) [
+        | inl same ↦ inl same
+        | inr more ↦ inr (more.total, λ fits. more.room (fits m more.before.history more.so.0 more.so.1))
+      ]
+  step_moves (Hear at from number) adds w =
+      elim (hear_more at from number w) [ inl same ↦ inl same | inr heard ↦ inr (heard.total, λ fits. heard.room) ]
+  step_moves (Stop m) adds w = absurd adds
 
-    pub act_adds : (m : ℕ) (w : World T) → OneMore log (SendsWithRoom next log) w (happens node next log w (Act m))
-    act_adds m w =
-        changed_more log (SendsWithRoom next log) m (λ a. send (next m a.history) a)
-        (λ a. sends_more next m (next m a.history) a refl) w
+  -- so is each that changes something
+  pub heard_if : (at from number : ℕ) (w : World T) → happens node next log w (Hear at from number) ≢ w →
+      Heard w (Hear at from number)
+  heard_if at from number w differ =
+      elim (hear_more at from number w) [ inl same ↦ absurd (differ same) | inr heard ↦ heard ]
 
-    -- there are as many more events as steps
-    abbrev CountsSteps : World T → List Step → World T → Type 0
-    CountsSteps old steps new = total new ≡ length steps + total old
+  -- the logs have room for one event less
+  abbrev pub FillsRoom : World T → Step → Type 0
+  FillsRoom w s = 1 + room log (happens node next log w s) ≡ room log w
 
-    counts_join : (old mid new : World T) (first rest : List Step) → CountsSteps old first mid →
-        CountsSteps mid rest new → CountsSteps old (first ++ rest) new
-    counts_join old mid new first rest one two = omega (arith, one, two, length-append first rest)
-
-    pub repair_counts : (old new : World T) (steps : List Step) → Repairs node (happens node next log) old steps new →
-        total new ≡ length steps + total old
-    repair_counts old new steps mended =
-        repairs_so node (happens node next log) CountsSteps (λ w. omega arith) counts_join
-        (λ at from number w differ. elim (hear_adds at from number w) [
-          | inl same ↦ absurd (differ same)
-          | inr (more, _) ↦ more
-        ]) old new steps mended
-
-    -- the logs have room for as many fewer events as there were steps
-    abbrev pub TakesRoom : World T → List Step → World T → Type 0
-    TakesRoom old steps new = room log new + length steps ≡ room log old
-
-    takes_join : (old mid new : World T) (first rest : List Step) → TakesRoom old first mid → TakesRoom mid rest new →
-        TakesRoom old (first ++ rest) new
-    takes_join old mid new first rest one two = omega (arith, one, two, length-append first rest)
-
-    takes_none : (w : World T) → TakesRoom w [] w
-    takes_none w = omega arith
-
-    pub round_takes : (old new : World T) (steps : List Step) → TakesRound node (happens node next log) old steps new →
-        TakesRoom old steps new
-    round_takes old new steps round =
-        round_so node (happens node next log) TakesRoom takes_none takes_join
-        (λ at from number w differ. elim (hear_adds at from number w) [
-          | inl same ↦ absurd (differ same)
-          | inr (_, less) ↦ let low = less tt in omega (arith, low)
-        ]) old new steps round
-
-    pub act_takes : SendsWithRoom next log → (m : ℕ) (old new : World T) (steps : List Step) →
-        TakesStep (happens node next log) (Act m) old steps new → TakesRoom old steps new
-    act_takes fits m old new steps takes =
-        step_so node (happens node next log) TakesRoom takes_none takes_join (Act m)
-        (λ w differ. elim (act_adds m w) [
-          | inl same ↦ absurd (differ same)
-          | inr (_, less) ↦ let low = less fits in omega (arith, low)
-        ]) old new steps takes
+  pub fills_if : SendsWithRoom next log → (s : Step) → AddsEvent s → (w : World T) → happens node next log w s ≢ w →
+      FillsRoom w s
+  fills_if fits s adds w differ =
+      elim (step_moves s adds w) [ inl same ↦ absurd (differ same) | inr (_, less) ↦ less fits ]

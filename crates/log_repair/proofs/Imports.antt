@@ -30,8 +30,10 @@ pub use Rattle.log_repair.specs.Mending.{ActsOn, Asks, Finishes, HearsOf, Repair
 pub use Rattle.log_repair.specs.Mending.{answer_of, bearer, found_by_digest, goes_on, is_idle, is_mended, wants}
 pub use Rattle.log_repair.specs.Outcomes.{AreMended, IsMended, LeadsTo, NoneAnswers, WorldWay}
 pub use Rattle.log_repair.specs.Sequences.{InOrder, TakesNone, TakesStep}
-pub use Rattle.log_repair.specs.inside.Adding.{Adds, Fails, IsMadeAsBefore}
-pub use Rattle.log_repair.specs.inside.Totals.{spare}
+pub use Rattle.log_repair.specs.inside.Adding.{Adds, AddsEvent, Fails, Going, IsMadeAsBefore, Says, Stays}
+pub use Rattle.log_repair.specs.inside.Totals.{room, spare, total}
+pub use Rattle.polling_world.proofs.NextTold.{next_of, tells_next}
+pub use Rattle.polling_world.proofs.Placing.{stopped_by_mark}
 pub use Rattle.polling_world.specs.Configs.{Config}
 pub use Rattle.polling_world.specs.Machines.{MachineState, has_stopped, is_reached}
 pub use Rattle.polling_world.specs.Sending.{MaySend}

@@ -1,325 +1,253 @@
--- Mending and finishing lead one way.
-use Rattle.log_repair.proofs.Imports.{◌≡◌, ◌≢◌, ◌∙◌, ◌⊎◌, ℕ, zero, suc, ◌+◌, ◌≤◌, arith, Bool, true, false, List, []}
-use Rattle.log_repair.proofs.Imports.{◌∷◌, ◌++◌, drop, Option, Some, None, refl, sym, ap, subst, inl, inr, Event}
-use Rattle.log_repair.proofs.Imports.{Step, Act, Hear, Stop, Node, World, happens, stop, with_machine, SendsWithRoom}
-use Rattle.log_repair.proofs.Imports.{WorldsAreMendedInOneWay, Asks, ActsOn, Finishes, HearsOf, Repairs, TakesRound}
-use Rattle.log_repair.proofs.Imports.{TakesTurn, bearer, is_mended, goes_on, is_idle, acts, InOrder, TakesStep}
-use Rattle.std.proofs.Common.{true≢false}
-use Rattle.log_repair.proofs.Events.{room, total, hear_adds, act_adds, act_takes, round_takes}
-use Rattle.log_repair.proofs.Sequences.{Continues, in_order_continues, in_order_is_one}
-use Rattle.log_repair.proofs.Ways.{asks_so, round_so, turn_so}
+-- What is taken on a way, that a way is the only one from a world, and that there is one.
+use Rattle.log_repair.proofs.Imports.{◌≡◌, ◌≢◌, ◌∙◌, ℕ, zero, suc, ◌+◌, ◌<◌, ◌≤◌, arith, Bool, true, false, List, []}
+use Rattle.log_repair.proofs.Imports.{◌∷◌, ◌++◌, length, Option, Some, None, refl, sym, ap, inl, inr, slice_get}
+use Rattle.log_repair.proofs.Imports.{range_with_len, Step, Act, Hear, Node, World, Asks, ActsOn, Finishes, HearsOf}
+use Rattle.log_repair.proofs.Imports.{Repairs, TakesRound, TakesTurn, bearer, wants, is_mended, goes_on, is_idle, acts}
+use Rattle.log_repair.proofs.Imports.{InOrder, TakesNone, TakesStep, AddsEvent, SendsWithRoom, WorldsAreMendedInOneWay}
+use Rattle.log_repair.proofs.Imports.{Event, happens, room, total}
+use Rattle.log_repair.proofs.Events.{FillsRoom, Heard, fills_if, heard_if, step_moves}
 
--- of two lists that are empty together each is empty
-pub both_none : (first rest : List Step) → first ++ rest ≡ [] → (first ≡ []) × (rest ≡ [])
-both_none [] rest none = (refl, none)
-both_none (s ∷ first) rest none = absurd (cc none)
+-- from here the way leads on by some steps
+abbrev pub Continues : {W : Type 0} → (W → List Step → W → Type 0) → W → Type 0
+Continues {W} Way old = (steps : List Step) × (new : W) × Way old steps new
 
--- two answers by which steps are one
-abbrev Agrees : {W : Type 0} → W → List Step → W → List Step → Type 0
-Agrees new steps other others = (others ≡ steps) × (other ≡ new)
+-- goes the way again and again, up to the first time that nothing changes
+pub data Loops {W : Type 0} (Way : W → List Step → W → Type 0) : W → List Step → W → Type 0 where
+  ends : (w : W) → Way w [] w → Loops Way w [] w
+  goes : (old mid new : W) (first rest : List Step) → Way old first mid → first ≢ [] → Loops Way mid rest new →
+      Loops Way old (first ++ rest) new
+
+-- what is left of it: all, or nothing
+abbrev pub LoopsWhile : {W : Type 0} → Bool → (W → List Step → W → Type 0) → W → List Step → W → Type 0
+LoopsWhile true Way = Loops Way
+LoopsWhile false Way = TakesNone
+
+-- the steps are taken one after another, and P is so of each
+module _ {W : Type 0} (after : W → Step → W) (P : W → Step → Type 0) where
+  abbrev pub AreTaken : W → List Step → W → Type 0
+  AreTaken old [] new = new ≡ old
+  AreTaken old (s ∷ steps) new = P old s × AreTaken (after old s) steps new
+
+  taken_on : (first rest : List Step) (old mid new : W) → AreTaken old first mid → AreTaken mid rest new →
+      AreTaken old (first ++ rest) new
+  taken_on [] rest old mid new is more = rw is at more
+  taken_on (s ∷ first) rest old mid new (so, one) more = (so, taken_on first rest (after old s) mid new one more)
+
+  -- what is taken on the way is so, and there is no other way from there
+  abbrev pub IsSure : (W → List Step → W → Type 0) → Type 0
+  IsSure Way =
+      (old new : W) (steps : List Step) → Way old steps new → AreTaken old steps new
+      × ((other : W) (others : List Step) → Way old others other → (others ≡ steps) × (other ≡ new))
+
+  none_sure : IsSure TakesNone
+  none_sure old new steps (none, same) = (rw none same, λ other others (also, too). (cc, cc))
+
+  pub step_sure : (step : Step) → ((w : W) → after w step ≢ w → P w step) → IsSure (TakesStep after step)
+  step_sure step so old new steps (is, inl (differ, listed)) = (
+    rw listed (so old (λ same. differ (is ∙ same)), is),
+    λ other others (also, by). elim by [ inl (_, too) ↦ (cc, cc) | inr (same, _) ↦ absurd (differ cc) ],
+  )
+  step_sure step so old new steps (is, inr (same, none)) = (
+    rw none same,
+    λ other others (also, by). elim by [ inl (differ, _) ↦ absurd (differ cc) | inr (_, too) ↦ (cc, cc) ],
+  )
+
+  pub order_sure : {X : Type 0} (Way : X → W → List Step → W → Type 0) → ((x : X) → IsSure (Way x)) → (xs : List X) →
+      IsSure (InOrder Way xs)
+  order_sure Way each [] old new steps stays = none_sure old new steps stays
+  order_sure Way each (x ∷ xs) old new steps (mid, first, rest, one, others, is) =
+      let (here, only) = each x old mid first one in
+      let (later, alone) = order_sure Way each xs mid new rest others in (
+        rw is (taken_on first rest old mid new here later),
+        λ other more (mid', first', rest', one', others', is').
+            let (starts, meets) = only mid' first' one' in
+            let (finish, same) = alone other rest' (rw meets at others') in (cc, same),
+      )
+
+  module _ (Way : W → List Step → W → Type 0) (each : IsSure Way) where
+    loop_taken : (old new : W) (steps : List Step) → Loops Way old steps new → AreTaken old steps new
+    loop_taken _ _ _ (ends w way) = refl
+    loop_taken _ _ _ (goes old mid new first rest one some later) =
+        taken_on first rest old mid new (each old mid first one).0 (loop_taken mid new rest later)
+
+    loop_one : (old new : W) (steps : List Step) → Loops Way old steps new → (other : W) (others : List Step) →
+        Loops Way old others other → (others ≡ steps) × (other ≡ new)
+    loop_one _ _ _ (ends w way) _ _ (ends _ _) = (refl, refl)
+    loop_one _ _ _ (ends w way) _ _ (goes _ mid' new' first' rest' one' some' later') =
+        absurd (some' ((each w w [] way).1 mid' first' one').0)
+    loop_one _ _ _ (goes old mid new first rest one some later) _ _ (ends _ way) =
+        absurd (some (sym ((each old mid first one).1 old [] way).0))
+    loop_one _ _ _ (goes old mid new first rest one some later) _ _
+        (goes _ mid' new' first' rest' one' some' later') =
+        let (starts, meets) = (each old mid first one).1 mid' first' one' in
+        let (finish, same) = loop_one mid new rest later new' rest' (rw meets at later') in (cc, same)
+
+    -- so is a way that is made of going it again and again
+    pub loop_sure : (Other : W → List Step → W → Type 0) → ((old new : W) (steps : List Step) → Other old steps new →
+        Loops Way old steps new) → IsSure Other
+    loop_sure Other loop old new steps way = (
+      loop_taken old new steps (loop old new steps way),
+      λ other others also. loop_one old new steps (loop old new steps way) other others (loop old other others also),
+    )
+
+    -- going it once more, and then on unless nothing moved
+    pub goes_further : (moves : Bool) (first : List Step) → (moves ≡ false → first ≡ []) → (old mid new : W)
+        (rest : List Step) → Way old first mid → LoopsWhile moves Way mid rest new → Loops Way old (first ++ rest) new
+    goes_further true [] none old mid new rest one more = rw (each old mid [] one).0 at more
+    goes_further true (s ∷ first) none old mid new rest one more =
+        goes old mid new (s ∷ first) rest one (λ no. cc) more
+    goes_further false (s ∷ first) none old mid new rest one (bare, same) = absurd (cc (none refl))
+    goes_further false [] none old mid new rest one (bare, same) =
+        let still = (each old mid [] one).0 in
+        rw (bare, same, still) (ends old (rw still at one))
+
+    module _ (left : W → ℕ) (falls : (w : W) (s : Step) → P w s → 1 + left (after w s) ≡ left w) where
+      pub left_taken : (steps : List Step) (old new : W) → AreTaken old steps new →
+          left new + length steps ≡ left old
+      left_taken [] old new is = omega (arith, ap left is)
+      left_taken (s ∷ steps) old new (so, more) =
+          omega (arith, falls old s so, left_taken steps (after old s) new more)
+
+      once_more : (w : W) → Continues Way w → ((v : W) → left v < left w → Continues (Loops Way) v) →
+          Continues (Loops Way) w
+      once_more w ([], v, way) later = ([], v, goes_further false [] (λ is. refl) w v v [] way (refl, refl))
+      once_more w (s ∷ steps, v, way) later =
+          let (rest, new, more) = later v (omega (arith, left_taken (s ∷ steps) w v (each w v (s ∷ steps) way).0)) in
+          ((s ∷ steps) ++ rest, new, goes w v new (s ∷ steps) rest way (λ none. cc) more)
+
+      -- where less is left after each step it ends
+      pub loop_within : ((w : W) → Continues Way w) → (most : ℕ) (w : W) → left w ≤ most → Continues (Loops Way) w
+      loop_within on zero w low = once_more w (on w) (λ v less. absurd (omega (arith, low, less)))
+      loop_within on (suc most) w low =
+          once_more w (on w) (λ v less. loop_within on most v (omega (arith, low, less)))
+
+-- where each way leads on, so do they in turn
+pub order_continues : {X W : Type 0} (Way : X → W → List Step → W → Type 0) → ((x : X) (w : W) → Continues (Way x) w) →
+    (xs : List X) (w : W) → Continues (InOrder Way xs) w
+order_continues Way on [] w = ([], w, (refl, refl))
+order_continues Way on (x ∷ xs) w =
+    let (first, mid, one) = on x w in
+    let (rest, new, others) = order_continues Way on xs mid in
+    (first ++ rest, new, (mid, first, rest, one, others, refl))
+
+-- ---- mending and finishing
 
 module _ {T : Type 0} (node : T → Node) (after : World T → Step → World T) where
-  -- ---- what takes no step changes nothing
+  -- mending is rounds again and again
+  pub mends_in_rounds : (old new : World T) (steps : List Step) → Repairs node after old steps new →
+      Loops (TakesRound node after) old steps new
+  mends_in_rounds _ _ _ (is_mended w round) = ends w round
+  mends_in_rounds _ _ _ (goes_on old mid new first rest round some later) =
+      goes old mid new first rest round some (mends_in_rounds mid new rest later)
 
-  -- where no step is taken the world stays
-  abbrev StaysIfNone : World T → List Step → World T → Type 0
-  StaysIfNone old steps new = steps ≡ [] → new ≡ old
+  pub rounds_mend : (old new : World T) (steps : List Step) → Loops (TakesRound node after) old steps new →
+      Repairs node after old steps new
+  rounds_mend _ _ _ (ends w round) = is_mended w round
+  rounds_mend _ _ _ (goes old mid new first rest round some later) =
+      goes_on old mid new first rest round some (rounds_mend mid new rest later)
 
-  stays_join : (old mid new : World T) (first rest : List Step) → StaysIfNone old first mid →
-      StaysIfNone mid rest new → StaysIfNone old (first ++ rest) new
-  stays_join old mid new first rest one two none = let (a, b) = both_none first rest none in two b ∙ one a
+  -- what a machine does is acting again and again
+  pub does_in_acts : (m : ℕ) (old new : World T) (steps : List Step) → ActsOn node after m old steps new →
+      Loops (TakesStep after (Act m)) old steps new
+  does_in_acts m _ _ _ (is_idle w takes) = ends w takes
+  does_in_acts m _ _ _ (acts old mid new rest takes later) =
+      goes old mid new (Act m ∷ []) rest takes (λ none. cc) (does_in_acts m mid new rest later)
 
-  pub asks_still : (m : ℕ) (d : List ℕ) (old new : World T) (steps : List Step) →
-      Asks node after m d old steps new → steps ≡ [] → new ≡ old
-  asks_still m d old new steps asks =
-      asks_so node after StaysIfNone (λ w none. refl) stays_join (λ at from number w differ none. absurd (cc none))
-      m d old new steps asks
+  pub acts_do : (m : ℕ) (old new : World T) (steps : List Step) → Loops (TakesStep after (Act m)) old steps new →
+      ActsOn node after m old steps new
+  acts_do m _ _ _ (ends w takes) = is_idle w takes
+  acts_do m _ _ _ (goes old mid new first rest (is, inl (differ, listed)) some later) =
+      rw listed (acts old mid new rest (is, inl (differ, refl)) (acts_do m mid new rest later))
+  acts_do m _ _ _ (goes old mid new first rest (is, inr (same, none)) some later) = absurd (some none)
 
-  pub turn_still : (m : ℕ) (old new : World T) (steps : List Step) → TakesTurn node after m old steps new →
-      steps ≡ [] → new ≡ old
-  turn_still m old new steps turn =
-      turn_so node after StaysIfNone (λ w none. refl) stays_join (λ at from number w differ none. absurd (cc none))
-      m old new steps turn
+  module _ (P : World T → Step → Type 0) where
+    module _ (hears : (at from number : ℕ) (w : World T) → after w (Hear at from number) ≢ w →
+        P w (Hear at from number)) where
+      hears_sure : (m : ℕ) (o : Option T) → IsSure after P (HearsOf node after m o)
+      hears_sure m None = none_sure after P
+      hears_sure m (Some e) = step_sure after P _ (hears m (node e).maker (node e).number)
 
-  pub round_still : (old new : World T) (steps : List Step) → TakesRound node after old steps new → steps ≡ [] →
-      new ≡ old
-  round_still old new steps round =
-      round_so node after StaysIfNone (λ w none. refl) stays_join (λ at from number w differ none. absurd (cc none))
-      old new steps round
+      pub asks_sure : (m : ℕ) (d : List ℕ) → IsSure after P (Asks node after m d)
+      asks_sure m d old = hears_sure m (bearer node d old) old
 
-  -- a round and what mends after it mend together
-  pub goes_further : (old mid new : World T) (first rest : List Step) → TakesRound node after old first mid →
-      Repairs node after mid rest new → Repairs node after old (first ++ rest) new
-  goes_further old mid new [] rest round mended =
-      subst (λ (w : World T). Repairs node after w rest new) (round_still old mid [] round refl) mended
-  goes_further old mid new (s ∷ first) rest round mended =
-      goes_on old mid new (s ∷ first) rest round (λ none. absurd (cc none)) mended
+      pub turn_sure : (m : ℕ) → IsSure after P (TakesTurn node after m)
+      turn_sure m old = order_sure after P (Asks node after m) (asks_sure m) (wants node (slice_get old m)) old
 
-  -- after a round without a step all is mended
-  pub ends_here : (old mid : World T) (first : List Step) → TakesRound node after old first mid → first ≡ [] →
-      Repairs node after mid [] mid
-  ends_here old mid first round none =
-      let same : mid ≡ old = round_still old mid first round none in
-      is_mended mid (subst (λ (w : World T). TakesRound node after w [] mid) (sym same)
-      (subst (λ (s : List Step). TakesRound node after old s mid) none round))
+      pub round_sure : IsSure after P (TakesRound node after)
+      round_sure old = order_sure after P (TakesTurn node after) turn_sure (range_with_len 0 (length old)) old
 
-  -- an action and what is done after it are done together
-  pub acts_further : (m : ℕ) (old mid new : World T) (first rest : List Step) →
-      TakesStep after (Act m) old first mid → ActsOn node after m mid rest new →
-      ActsOn node after m old (first ++ rest) new
-  acts_further m old mid new first rest (is, inl (differ, listed)) later =
-      subst (λ (s : List Step). ActsOn node after m old (s ++ rest) new) (sym listed)
-      (acts old mid new rest (is, inl (differ, refl)) later)
-  acts_further m old mid new first rest (is, inr (same, none)) later =
-      subst (λ (s : List Step). ActsOn node after m old (s ++ rest) new) (sym none)
-      (subst (λ (w : World T). ActsOn node after m w rest new) same later)
+      pub repairs_sure : IsSure after P (Repairs node after)
+      repairs_sure = loop_sure after P (TakesRound node after) round_sure (Repairs node after) mends_in_rounds
 
-  -- after an action that isn't done none is left
-  pub idles_here : (m : ℕ) (old mid : World T) (first : List Step) → TakesStep after (Act m) old first mid →
-      first ≡ [] → ActsOn node after m mid [] mid
-  idles_here m old mid first (is, inl (differ, listed)) none = absurd (cc (listed, none))
-  idles_here m old mid first (is, inr (same, _)) none =
-      is_idle mid (same ∙ sym same ∙ is ∙ ap (λ (w : World T). after w (Act m)) (sym same), inr (refl, refl))
+    module _ (does : (m : ℕ) (w : World T) → after w (Act m) ≢ w → P w (Act m)) where
+      pub finishes_sure : IsSure after P (Finishes node after)
+      finishes_sure old =
+          order_sure after P (ActsOn node after)
+          (λ m. loop_sure after P (TakesStep after (Act m)) (step_sure after P (Act m) (does m)) (ActsOn node after m)
+          (does_in_acts m)) (range_with_len 0 (length old)) old
 
-  -- ---- one way
-
-  step_is_one : (step : Step) (old new : World T) (steps : List Step) → TakesStep after step old steps new →
-      (other : World T) (others : List Step) → TakesStep after step old others other → Agrees new steps other others
-  step_is_one step old new steps (is, inl (differ, listed)) other others (also, inl (_, too)) =
-      (too ∙ sym listed, also ∙ sym is)
-  step_is_one step old new steps (is, inl (differ, listed)) other others (also, inr (same, none)) =
-      absurd (differ (is ∙ sym also ∙ same))
-  step_is_one step old new steps (is, inr (same, none)) other others (also, inl (differ, listed)) =
-      absurd (differ (also ∙ sym is ∙ same))
-  step_is_one step old new steps (is, inr (same, none)) other others (also, inr (_, too)) =
-      (too ∙ sym none, also ∙ sym is)
-
-  asks_is_one : (m : ℕ) (d : List ℕ) (old new : World T) (steps : List Step) → Asks node after m d old steps new →
-      (other : World T) (others : List Step) → Asks node after m d old others other → Agrees new steps other others
-  asks_is_one m d old new steps asks other others also = by (bearer node d old) asks also
-    where
-      by : (o : Option T) → HearsOf node after m o old steps new → HearsOf node after m o old others other →
-          Agrees new steps other others
-      by None (none, same) (too, also) = (too ∙ sym none, also ∙ sym same)
-      by (Some e) takes also =
-          step_is_one (Hear m (node e).maker (node e).number) old new steps takes other others also
-
-  round_is_one : (old new : World T) (steps : List Step) → TakesRound node after old steps new → (other : World T)
-      (others : List Step) → TakesRound node after old others other → Agrees new steps other others
-  round_is_one old new steps round other others also =
-      in_order_is_one (TakesTurn node after)
-      (λ m u v s turn x t second. in_order_is_one (Asks node after m) (asks_is_one m) _ u v s turn x t second)
-      _ old new steps round other others also
-
-  -- what mends begins with a round
-  abbrev Begins : World T → List Step → World T → Type 0
-  Begins old steps new =
-      ((steps ≡ []) × (new ≡ old) × TakesRound node after old [] old)
-      ⊎ ((mid : World T) × (first rest : List Step) × TakesRound node after old first mid × (first ≢ [])
-      × Repairs node after mid rest new × (steps ≡ first ++ rest))
-
-  begins : (old new : World T) (steps : List Step) → Repairs node after old steps new → Begins old steps new
-  begins _ _ _ (is_mended w round) = inl (refl, refl, round)
-  begins _ _ _ (goes_on old mid new first rest round some later) = inr (mid, first, rest, round, some, later, refl)
-
+  -- there is no other way
   pub repairs_is_one : (old new : World T) (steps : List Step) → Repairs node after old steps new → (other : World T)
-      (others : List Step) → Repairs node after old others other → Agrees new steps other others
-  repairs_is_one _ _ _ (is_mended w round) other others also =
-      elim (begins w other others also) [
-        | inl (none, same, _) ↦ (none, same)
-        | inr (mid, first, rest, moves, some, _, _) ↦ absurd (some (round_is_one w w [] round mid first moves).0)
-      ]
-  repairs_is_one _ _ _ (goes_on old mid new first rest round some later) other others also =
-      elim (begins old other others also) [
-        | inl (_, _, still) ↦ absurd (some (sym (round_is_one old mid first round old [] still).0))
-        | inr (mid', first', rest', round', _, later', is) ↦
-            let (starts, meets) = round_is_one old mid first round mid' first' round' in
-            let (ends, same) = repairs_is_one mid new rest later other rest'
-            (subst (λ (w : World T). Repairs node after w rest' other) meets later') in (
-              is ∙ ap (λ (s : List Step). s ++ rest') starts ∙ ap (λ (s : List Step). first ++ s) ends,
-              same,
-            )
-      ]
+      (others : List Step) → Repairs node after old others other → (others ≡ steps) × (other ≡ new)
+  repairs_is_one old new steps way = (repairs_sure (λ _ _. Unit {0}) (λ _ _ _ _ _. tt) old new steps way).1
 
-  -- what is done by a machine begins with an action
-  abbrev Starts : ℕ → World T → List Step → World T → Type 0
-  Starts m old steps new =
-      ((steps ≡ []) × (new ≡ old) × TakesStep after (Act m) old [] old)
-      ⊎ ((mid : World T) × (rest : List Step) × TakesStep after (Act m) old (Act m ∷ []) mid
-      × ActsOn node after m mid rest new × (steps ≡ Act m ∷ rest))
-
-  starts : (m : ℕ) (old new : World T) (steps : List Step) → ActsOn node after m old steps new →
-      Starts m old steps new
-  starts m _ _ _ (is_idle w takes) = inl (refl, refl, takes)
-  starts m _ _ _ (acts old mid new rest takes later) = inr (mid, rest, takes, later, refl)
-
-  acts_on_is_one : (m : ℕ) (old new : World T) (steps : List Step) → ActsOn node after m old steps new →
-      (other : World T) (others : List Step) → ActsOn node after m old others other → Agrees new steps other others
-  acts_on_is_one m _ _ _ (is_idle w takes) other others also =
-      elim (starts m w other others also) [
-        | inl (none, same, _) ↦ (none, same)
-        | inr (mid, rest, moves, _, _) ↦
-            let (differ, _) = step_is_one (Act m) w w [] takes mid (Act m ∷ []) moves in absurd (cc differ)
-      ]
-  acts_on_is_one m _ _ _ (acts old mid new rest takes later) other others also =
-      elim (starts m old other others also) [
-        | inl (_, _, still) ↦
-            let (differ, _) = step_is_one (Act m) old mid (Act m ∷ []) takes old [] still in absurd (cc differ)
-        | inr (mid', rest', takes', later', is) ↦
-            let (_, meets) = step_is_one (Act m) old mid (Act m ∷ []) takes mid' (Act m ∷ []) takes' in
-            let (ends, same) = acts_on_is_one m mid new rest later other rest'
-            (subst (λ (w : World T). ActsOn node after m w rest' other) meets later') in
-            (is ∙ ap (λ (s : List Step). Act m ∷ s) ends, same)
-      ]
-
-  pub finishes_is_one : (old new : World T) (steps : List Step) → Finishes node after old steps new → (other : World T)
-      (others : List Step) → Finishes node after old others other → Agrees new steps other others
-  finishes_is_one old new steps finishes other others also =
-      in_order_is_one (ActsOn node after) acts_on_is_one _ old new steps finishes other others also
-
--- whether the first machine has stopped
-abbrev first_stopped : {T : Type 0} → World T → Bool
-first_stopped [] = false
-first_stopped (a ∷ w) = a.stopped
-
--- a machine that stops changes the world or doesn't
-stop_or_not : {T : Type 0} (m : ℕ) (w : World T) → (with_machine m stop w ≡ w) ⊎ (with_machine m stop w ≢ w)
-stop_or_not m [] = inl refl
-stop_or_not {T} zero (a ∷ w) = by a.stopped refl
-  where
-    by : (b : Bool) → a.stopped ≡ b → (stop a ∷ w ≡ a ∷ w) ⊎ (stop a ∷ w ≢ a ∷ w)
-    by true is = inl (ap (λ (b : Bool). record { history = a.history; stopped = b } ∷ w) (sym is))
-    by false is = inr (λ same. true≢false (ap first_stopped same ∙ is))
-stop_or_not {T} (suc m) (a ∷ w) =
-    elim (stop_or_not m w) [
-      | inl same ↦ inl (ap (λ (v : World T). a ∷ v) same)
-      | inr differ ↦ inr (λ same. differ (ap (drop 1) same))
-    ]
+  pub finishes_is_one : (old new : World T) (steps : List Step) → Finishes node after old steps new →
+      (other : World T) (others : List Step) → Finishes node after old others other → (others ≡ steps) × (other ≡ new)
+  finishes_is_one old new steps way = (finishes_sure (λ _ _. Unit {0}) (λ _ _ _. tt) old new steps way).1
 
 module _ {T : Type 0} (node : T → Node) (next : ℕ → List (Event T) → Option T) (log : ℕ) where
-  -- ---- some way
-
   -- the world after a step
   abbrev after : World T → Step → World T
   after = happens node next log
 
-  -- a step is taken or not
-  step_continues : (step : Step) (w : World T) → (after w step ≡ w) ⊎ (after w step ≢ w) →
-      Continues (TakesStep after step) w
-  step_continues step w (inl same) = ([], after w step, (refl, inr (same, refl)))
-  step_continues step w (inr differ) = (step ∷ [], after w step, (refl, inl (differ, refl)))
-
-  -- a world with one event more is another
-  longer : (v w : World T) → total v ≡ 1 + total w → v ≢ w
-  longer v w more = λ same. (let e = ap total same in omega (arith, more, e))
-
-  -- a step changes the world or doesn't
-  changes_or_not : (step : Step) (w : World T) → (after w step ≡ w) ⊎ (after w step ≢ w)
-  changes_or_not (Act m) w =
-      elim (act_adds node log next m w) [
-        | inl same ↦ inl same
-        | inr (more, _) ↦ inr (longer (after w (Act m)) w more)
+  pub step_continues : (step : Step) → AddsEvent step → (w : World T) → Continues (TakesStep after step) w
+  step_continues step adds w =
+      elim (step_moves node next log step adds w) [
+        | inl same ↦ ([], after w step, (refl, inr (same, refl)))
+        | inr (more, _) ↦ (
+          step ∷ [],
+          after w step,
+          (refl, inl (λ same. omega (arith, more, ap total same), refl)),
+        )
       ]
-  changes_or_not (Hear at from number) w =
-      elim (hear_adds node log next at from number w) [
-        | inl same ↦ inl same
-        | inr (more, _) ↦ inr (longer (after w (Hear at from number)) w more)
-      ]
-  changes_or_not (Stop m) w = stop_or_not m w
 
-  pub step_may_be_taken : (step : Step) (w : World T) → Continues (TakesStep after step) w
-  step_may_be_taken step w = step_continues step w (changes_or_not step w)
+  hears_continues : (m : ℕ) (o : Option T) (w : World T) → Continues (HearsOf node after m o) w
+  hears_continues m None w = ([], w, (refl, refl))
+  hears_continues m (Some e) w = step_continues (Hear m (node e).maker (node e).number) tt w
 
-  asks_continues : (m : ℕ) (d : List ℕ) (w : World T) → Continues (Asks node after m d) w
-  asks_continues m d w = by (bearer node d w)
-    where
-      by : (o : Option T) → (steps : List Step) × (new : World T) × HearsOf node after m o w steps new
-      by None = ([], w, (refl, refl))
-      by (Some e) = step_may_be_taken (Hear m (node e).maker (node e).number) w
-
-  pub asks_all_continue : (m : ℕ) (ds : List (List ℕ)) (w : World T) → Continues (InOrder (Asks node after m) ds) w
-  asks_all_continue m ds w = in_order_continues (Asks node after m) (asks_continues m) ds w
-
-  pub turn_continues : (m : ℕ) (w : World T) → Continues (TakesTurn node after m) w
-  turn_continues m w = asks_all_continue m _ w
+  pub asks_continue : (m : ℕ) (ds : List (List ℕ)) (w : World T) → Continues (InOrder (Asks node after m) ds) w
+  asks_continue m ds w = order_continues (Asks node after m) (λ d v. hears_continues m (bearer node d v) v) ds w
 
   pub turns_continue : (ms : List ℕ) (w : World T) → Continues (InOrder (TakesTurn node after) ms) w
-  turns_continue ms w = in_order_continues (TakesTurn node after) turn_continues ms w
+  turns_continue ms w =
+      order_continues (TakesTurn node after) (λ m v. asks_continue m (wants node (slice_get v m)) v) ms w
 
-  pub round_continues : (w : World T) → Continues (TakesRound node after) w
-  round_continues w = turns_continue _ w
-
-  -- mending goes on as long as there is room
-  repairs_within : (most : ℕ) (w : World T) → room log w ≤ most → Continues (Repairs node after) w
-  repairs_within zero w within = by (round_continues w)
-    where
-      -- by whether the round took a step, for which there is no room
-      by : Continues (TakesRound node after) w → Continues (Repairs node after) w
-      by ([], new, round) =
-          ([], new, goes_further node after w new new [] [] round (ends_here node after w new [] round refl))
-      by (s ∷ steps, new, round) =
-          (let less = round_takes node log next w new (s ∷ steps) round in absurd (omega (arith, less, within)))
-  repairs_within (suc most) w within = by (round_continues w) (λ v fits. repairs_within most v fits)
-    where
-      -- by whether the round took a step
-      by : Continues (TakesRound node after) w →
-          ((v : World T) → room log v ≤ most → Continues (Repairs node after) v) → Continues (Repairs node after) w
-      by ([], new, round) later =
-          ([], new, goes_further node after w new new [] [] round (ends_here node after w new [] round refl))
-      by (s ∷ steps, new, round) later =
-          let less = round_takes node log next w new (s ∷ steps) round in
-          let (rest, end, mended) = later new (omega (arith, less, within)) in
-          ((s ∷ steps) ++ rest, end, goes_further node after w new end (s ∷ steps) rest round mended)
-
-  pub repairs_continues : (w : World T) → Continues (Repairs node after) w
-  repairs_continues w = repairs_within (room log w) w (omega arith)
+  pub rounds_continue : (w : World T) → Continues (Loops (TakesRound node after)) w
+  rounds_continue w =
+      loop_within after (Heard node next log) (TakesRound node after)
+      (round_sure node after (Heard node next log) (heard_if node next log)) (room log) (λ v s heard. heard.room)
+      (λ v. turns_continue (range_with_len 0 (length v)) v) (room log w) w (omega arith)
 
   module _ (fits : SendsWithRoom next log) where
-    acts_within : (m most : ℕ) (w : World T) → room log w ≤ most → Continues (ActsOn node after m) w
-    acts_within m zero w within = by (step_may_be_taken (Act m) w)
-      where
-        -- by whether the machine acted, for which there is no room
-        by : Continues (TakesStep after (Act m)) w → Continues (ActsOn node after m) w
-        by ([], new, takes) =
-            ([], new, acts_further node after m w new new [] [] takes (idles_here node after m w new [] takes refl))
-        by (s ∷ steps, new, takes) =
-            (let less = act_takes node log next fits m w new (s ∷ steps) takes in absurd (omega (arith, less, within)))
-    acts_within m (suc most) w within = by (step_may_be_taken (Act m) w) (λ v low. acts_within m most v low)
-      where
-        -- by whether the machine acted
-        by : Continues (TakesStep after (Act m)) w →
-            ((v : World T) → room log v ≤ most → Continues (ActsOn node after m) v) → Continues (ActsOn node after m) w
-        by ([], new, takes) later =
-            ([], new, acts_further node after m w new new [] [] takes (idles_here node after m w new [] takes refl))
-        by (s ∷ steps, new, takes) later =
-            let less = act_takes node log next fits m w new (s ∷ steps) takes in
-            let (rest, end, done) = later new (omega (arith, less, within)) in
-            ((s ∷ steps) ++ rest, end, acts_further node after m w new end (s ∷ steps) rest takes done)
+    pub acts_continue : (m : ℕ) (w : World T) → Continues (Loops (TakesStep after (Act m))) w
+    acts_continue m w =
+        loop_within after (FillsRoom node next log) (TakesStep after (Act m))
+        (step_sure after (FillsRoom node next log) (Act m) (fills_if node next log fits (Act m) tt)) (room log)
+        (λ v s less. less) (step_continues (Act m) tt) (room log w) w (omega arith)
 
-    pub acts_on_continues : (m : ℕ) (w : World T) → Continues (ActsOn node after m) w
-    acts_on_continues m w = acts_within m (room log w) w (omega arith)
-
-    pub acts_on_all_continue : (ms : List ℕ) (w : World T) → Continues (InOrder (ActsOn node after) ms) w
-    acts_on_all_continue ms w = in_order_continues (ActsOn node after) acts_on_continues ms w
-
-    pub finishes_continues : (w : World T) → Continues (Finishes node after) w
-    finishes_continues w = acts_on_all_continue _ w
+    pub finishes_continue : (ms : List ℕ) (w : World T) → Continues (InOrder (ActsOn node after) ms) w
+    finishes_continue ms w =
+        order_continues (ActsOn node after)
+        (λ m v. let (steps, new, way) = acts_continue m v in (steps, new, acts_do node after m v new steps way)) ms w
 
 -- the law
 pub worlds_are_mended_in_one_way : {T : Type 0} (node : T → Node) → WorldsAreMendedInOneWay node
 worlds_are_mended_in_one_way node next log w =
-    let (steps, new, mended) = repairs_continues node next log w in (
-      (
-        steps,
-        new,
-        mended,
-        λ others end also. repairs_is_one node (happens node next log) w new steps mended end others also,
-      ),
+    let after = happens node next log in
+    let (steps, new, rounds) = rounds_continue node next log w in
+    let mended = rounds_mend node after w new steps rounds in (
+      (steps, new, mended, λ others end. repairs_is_one node after w new steps mended end others),
       λ fits.
-          let (steps, new, finished) = finishes_continues node next log fits w in (
-            steps,
-            new,
-            finished,
-            λ others end also. finishes_is_one node (happens node next log) w new steps finished end others also,
-          ),
+          let (steps, new, done) = finishes_continue node next log fits (range_with_len 0 (length w)) w in
+          (steps, new, done, λ others end. finishes_is_one node after w new steps done end others),
     )

@@ -1,9 +1,35 @@
--- The turn of a machine that is read.
-use Rattle.log_repair.proofs.Imports.{◌≡◌, ◌∙◌, ℕ, zero, suc, ◌<◌, ◌≤◌, arith, List, [], ◌∷◌, length, get_or, Some}
-use Rattle.log_repair.proofs.Imports.{sym, ap, subst, slice_get, if◌then◌else◌, range_with_len, length-map}
-use Rattle.log_repair.proofs.Imports.{get_or-range_with_len, length-range_with_len, node_of_sealed, SealedEntry, Step}
-use Rattle.log_repair.proofs.Imports.{held, gaps, World, MachineState, has_stopped, WorldState, machine_of, world_of}
-use Rattle.log_repair.proofs.Imports.{Asks, TakesTurn, wants, InOrder}
+-- The numbers of machines, and what is left of them.
+use Rattle.log_repair.proofs.Imports.{◌≡◌, ◌∙◌, ℕ, zero, suc, ◌+◌, ◌<◌, ◌≤◌, arith, List, [], ◌∷◌, length, get_or, Some, drop}
+use Rattle.log_repair.proofs.Imports.{sym, ap, slice_get, range_with_len, length-map, drop_more, drop_all}
+use Rattle.log_repair.proofs.Imports.{get_or-range_with_len, length-range_with_len, MachineState, WorldState}
+use Rattle.log_repair.proofs.Imports.{machine_of, world_of, if◌then◌else◌, gaps, held, has_stopped, node_of_sealed}
+use Rattle.log_repair.proofs.Imports.{Asks, InOrder, SealedEntry, Step, TakesTurn, World}
+
+-- the machines' numbers, ascending
+abbrev pub numbers : WorldState → List ℕ
+numbers w = range_with_len 0 (length (world_of w.machines))
+
+-- the next number, and those after it, by the machines that are read
+pub next_number : {v w : WorldState} (m : ℕ) → v ≡ w → m < length v.machines →
+    drop m (numbers w) ≡ m ∷ drop (m + 1) (numbers w)
+next_number {w = w} m seen within =
+    let count = length (world_of w.machines) in
+    let here : m < length w.machines = rw seen at within in
+    let low : m < count = omega (arith, here, length-map w.machines machine_of) in
+    let below : m < length (numbers w) = omega (arith, low, length-range_with_len 0 count) in
+    let is : get_or (numbers w) m m ≡ m = omega (arith, get_or-range_with_len 0 count m m low) in
+    drop_more (numbers w) m m below ∙ ap (λ (n : ℕ). n ∷ drop (m + 1) (numbers w)) is
+
+-- past the last machine there is none
+pub no_number : {v w : WorldState} (m : ℕ) → v ≡ w → length v.machines ≤ m → drop m (numbers w) ≡ []
+no_number {w = w} m seen far =
+    let past : length w.machines ≤ m = rw seen at far in
+    drop_all m (numbers w) (omega (
+      arith,
+      past,
+      length-map w.machines machine_of,
+      length-range_with_len 0 (length (world_of w.machines)),
+    ))
 
 -- the machine at a place
 machine_at : (ms : List MachineState) (m : ℕ) (a : MachineState) → m < length ms → a ≡ get_or ms m a →
@@ -19,31 +45,4 @@ pub turn_of : (after : World SealedEntry → Step → World SealedEntry) (ms : L
     (steps : List Step) (v : World SealedEntry) →
     InOrder (Asks node_of_sealed after m) ds (world_of ms) steps v →
     TakesTurn node_of_sealed after m (world_of ms) steps v
-turn_of after ms m a within is ds wanted steps v asks =
-    subst (λ (l : List (List ℕ)). InOrder (Asks node_of_sealed after m) l (world_of ms) steps v)
-    (sym (ap (wants node_of_sealed) (machine_at ms m a within is) ∙ wanted)) asks
-
--- the machines' numbers, ascending
-abbrev pub numbers : WorldState → List ℕ
-numbers w = range_with_len 0 (length (world_of w.machines))
-
--- a machine has its number in its place
-pub number_at : (w : WorldState) (machines : List MachineState) (m : ℕ) → machines ≡ w.machines → m < length machines →
-    (m < length (numbers w)) × (m ≡ get_or (numbers w) m m)
-number_at w machines m seen within =
-    let count = length (world_of w.machines) in
-    let long = length-range_with_len 0 count in
-    let all = length-map w.machines machine_of in
-    let same = ap length seen in
-    let low : m < count = omega (arith, within, all, same) in
-    let at = get_or-range_with_len 0 count m m low in
-    (omega (arith, low, long), omega (arith, at))
-
--- a place past the last machine is past the last of the numbers
-pub numbers_end : (w : WorldState) (machines : List MachineState) (m : ℕ) → machines ≡ w.machines →
-    length machines ≤ m → length (numbers w) ≤ m
-numbers_end w machines m seen past =
-    let long = length-range_with_len 0 (length (world_of w.machines)) in
-    let all = length-map w.machines machine_of in
-    let same = ap length seen in
-    omega (arith, past, long, all, same)
+turn_of after ms m a within is ds wanted steps v asks = rw (machine_at ms m a within is, wanted) asks

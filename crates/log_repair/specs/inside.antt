@@ -1,2 +1,2 @@
-pub mod Adding
 pub mod Totals
+pub mod Adding

@@ -1,5 +1,5 @@
 //! Machines act as long as something is left that they may do.
-ghost use Rattle.std.specs.Prelude.{◌≡◌, ◌↔◌, ◌<◌, ◌≤◌, ◌+◌, false, if◌then◌else◌, length};
+ghost use Rattle.std.specs.Prelude.{◌≡◌, ◌↔◌, ◌<◌, false, length};
 ghost use Rattle.std.specs.Prelude.{IfOk, OnErr, OnOk};
 ghost use Rattle.entry_format.specs.Nodes.{node_of_sealed};
 ghost use Rattle.entry_order.specs.declared.step.Step.TheVariants.{Act};
@@ -7,12 +7,11 @@ ghost use Rattle.log_repair.specs.Mending.{ActsOn, Finishes};
 ghost use Rattle.log_repair.specs.Outcomes.{BreaksOff, LeadsTo};
 ghost use Rattle.log_repair.specs.Sequences.{TakesStep};
 ghost use Rattle.log_repair.specs.inside.Adding.{Adds, Fails};
-ghost use Rattle.log_repair.specs.inside.Totals.{spare};
 ghost use Rattle.polling_world.specs.Worlds.{configs_of, stops_of};
 
 use crate::taking::take;
 use entry_order::Step;
-use polling_world::{Memory, World, one_function_tells_what_is_sent};
+use polling_world::{Memory, World};
 use std::alloc::Global;
 
 /// Lets each machine in turn act as long as that changes something, and answers the steps that were
@@ -57,14 +56,9 @@ fn act_once(alloc: Global, world: &mut World, m: u32, steps: &mut Vec<Step>) -> 
         world.old steps.old.items steps.new.items world.new) }
     ensures still { IfOk result (λ moves.
         (moves ≡ false) ↔ (steps.new.items ≡ steps.old.items)) }
-    ensures spare { IfOk result (λ moves.
-        spare world.new.machines + (if moves then 1 else 0) ≤ spare world.old.machines) }
     ensures err { OnErr result (Fails (λ after. TakesStep after (Act m)) world.old world.new) }
 {
-    one_function_tells_what_is_sent();
-    world.order_is_receipt();
     let before = steps.len();
     take(alloc, world, Step::Act(m), steps)?;
-    world.order_is_receipt();
     Ok(steps.len() != before)
 }

@@ -1,18 +1,17 @@
 //! Machines ask for what they miss, in rounds.
-ghost use Rattle.std.specs.Prelude.{◌≡◌, ◌↔◌, ◌<◌, ◌≤◌, ◌+◌, false, if◌then◌else◌, length};
+ghost use Rattle.std.specs.Prelude.{◌≡◌, ◌↔◌, ◌<◌, false, length};
 ghost use Rattle.std.specs.Prelude.{IfOk, OnErr, OnOk};
 ghost use Rattle.entry_format.specs.Nodes.{node_of_sealed};
 ghost use Rattle.log_repair.specs.Mending.{Asks, Repairs, TakesRound, TakesTurn};
 ghost use Rattle.log_repair.specs.Outcomes.{AreMended, BreaksOff, LeadsTo};
 ghost use Rattle.log_repair.specs.Sequences.{InOrder};
 ghost use Rattle.log_repair.specs.inside.Adding.{Adds, Fails};
-ghost use Rattle.log_repair.specs.inside.Totals.{spare};
 ghost use Rattle.polling_world.specs.Worlds.{configs_of, stops_of};
 
 use crate::bearer::bearer;
 use crate::taking::take;
 use entry_order::Step;
-use polling_world::{Memory, World, one_function_tells_what_is_sent};
+use polling_world::{Memory, World};
 use std::alloc::Global;
 
 /// Mends the logs of the machines that haven't stopped, and answers the steps that were taken. In
@@ -30,7 +29,6 @@ pub fn repair(alloc: Global, world: &mut World) -> Result<Vec<Step>, Memory>
     ensures configs { configs_of world.new.machines ≡ configs_of world.old.machines }
     ensures stops { stops_of world.new.machines ≡ stops_of world.old.machines }
 {
-    one_function_tells_what_is_sent();
     let mut steps = Vec::new(alloc);
     let mut is_moving = true;
     while is_moving {
@@ -46,15 +44,10 @@ fn mend_once(alloc: Global, world: &mut World, steps: &mut Vec<Step>) -> Result<
         world.old steps.old.items steps.new.items world.new) }
     ensures still { IfOk result (λ moves.
         (moves ≡ false) ↔ (steps.new.items ≡ steps.old.items)) }
-    ensures spare { IfOk result (λ moves.
-        spare world.new.machines + (if moves then 1 else 0) ≤ spare world.old.machines) }
     ensures err { OnErr result (Fails (TakesRound node_of_sealed) world.old world.new) }
 {
-    one_function_tells_what_is_sent();
-    world.order_is_receipt();
     let before = steps.len();
     take_round(alloc, world, steps)?;
-    world.order_is_receipt();
     Ok(steps.len() != before)
 }
 

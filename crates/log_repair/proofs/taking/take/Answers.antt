@@ -1,8 +1,8 @@
-use Rattle.log_repair.proofs.Imports.{◌≢◌, ◌∙◌, List, [], ◌∷◌, ◌++◌, refl, ap, sym, subst, inl, node_of_sealed, Step}
-use Rattle.log_repair.proofs.Imports.{WorldState, TakesStep, Fails, IsMadeAsBefore}
-use Rattle.log_repair.proofs.Going.{fails_now, if_failed}
-use Rattle.log_repair.proofs.Making.{changed_world}
-use Rattle.log_repair.proofs.OneWay.{step_may_be_taken}
+use Rattle.log_repair.proofs.Imports.{◌∙◌, List, [], ◌∷◌, ◌++◌, refl, ap, inl, node_of_sealed, Step, WorldState}
+use Rattle.log_repair.proofs.Imports.{IsMadeAsBefore}
+use Rattle.log_repair.proofs.Going.{fails_here, going_none, if_failed}
+use Rattle.log_repair.proofs.Making.{changed_world, one_less}
+use Rattle.log_repair.proofs.OneWay.{step_continues}
 use Rattle.log_repair.proofs.taking.take.Goals as goal
 
 -- what is done changes the world, and is added
@@ -12,29 +12,29 @@ returns-in-Did-clause-ok c =
     let old : WorldState = c.args.world.now in
     let made : IsMadeAsBefore old c.step.new.self =
     record { roster = does.roster; configs = does.configs; stops = does.stops } in
-    let differ : c.step.new.self ≢ old = λ same. (let e = does.nothing.1 same in absurd (cc (e, c.in-Did.is))) in
+    let differ = changed_world old c.step.new.self c.order_is_receipt.ensures.world made
+    (λ same. cc (does.nothing.1 same, c.in-Did.is)) in
     record {
       made = made;
       taken = c.args.step ∷ [];
       added = c.push_reserved.ensures.items
           ∙ ap (λ (s : List Step). s ++ c.args.step ∷ []) c.in_ok-reserve.ensures.items;
-      led = λ next log tells have. (
-        does.ok next log tells have,
-        inl (changed_world old c.step.new.self c.order_is_receipt.ensures.world made differ, refl),
-      );
+      spared = one_less old c.step.new.self c.args.step c.order_is_receipt.ensures.world made c.requires.adds does.ok
+          differ;
+      played = λ next log says. does.ok next log says.tells says.have;
+      leads = λ next log says rest last (bare, same).
+          rw (bare, same) (does.ok next log says.tells says.have, inl (differ, refl));
     }
 
 -- where memory is refused the world is as it was, and the step may still be taken
 pub returns-in_err-reserve-clause-err : goal.returns-in_err-reserve-clause-err
 returns-in_err-reserve-clause-err c =
     if_failed c.from_residual.result
-    (fails_now (λ after. TakesStep after c.args.step) c.args.world.now
-    (λ next log tells have u. step_may_be_taken node_of_sealed next log c.args.step u))
+    (fails_here (going_none {start = []})
+    (λ next log says u. step_continues node_of_sealed next log c.args.step c.requires.adds u))
 
 pub returns-in_err-step-clause-err : goal.returns-in_err-step-clause-err
 returns-in_err-step-clause-err c =
     if_failed c.from_residual-in_err-step.result
-    (subst (λ (w : WorldState). Fails (λ after. TakesStep after c.args.step) c.args.world.now w)
-    (sym c.in_err-step.ensures.err)
-    (fails_now (λ after. TakesStep after c.args.step) c.args.world.now
-    (λ next log tells have u. step_may_be_taken node_of_sealed next log c.args.step u)))
+    (rw c.in_err-step.ensures.err (fails_here (going_none {start = []})
+    (λ next log says u. step_continues node_of_sealed next log c.args.step c.requires.adds u)))
