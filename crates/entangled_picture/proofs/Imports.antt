@@ -1,15 +1,15 @@
 -- What the proofs of this crate take from others.
 pub use Rattle.auditor.specs.Outcomes.{is_broken, is_unsettled}
 pub use Rattle.auditor.specs.Report.{report_of}
-pub use Rattle.entangled_picture.specs.Layout.{grown_height, lane_height, right_of, top_of}
+pub use Rattle.entangled_picture.specs.Layout.{grown_height, right_of, top_of}
 pub use Rattle.entangled_picture.specs.Document.{rule_word}
 pub use Rattle.entangled_picture.specs.ShapeMarks.{shape_line}
-pub use Rattle.entangled_picture.specs.LogMarks.{log_at, logs_above, marks_of_log, refused_at}
+pub use Rattle.entangled_picture.specs.LogMarks.{log_at, logs_above, refused_at}
 pub use Rattle.entangled_picture.specs.Marks.{arrow_at, arrows_from, bar_to, entry_at, first_namer, forks_of, gap_of}
-pub use Rattle.entangled_picture.specs.Marks.{is_of_fork, last_of_fork, light_in, lights_by, loss_at, met, met_or}
-pub use Rattle.entangled_picture.specs.Marks.{names_it, passed_at, run_before, spot_at, spot_in}
+pub use Rattle.entangled_picture.specs.Marks.{is_of_fork, last_of_fork, light_in, lights_by, loss_at, names_it}
+pub use Rattle.entangled_picture.specs.Marks.{run_before, spot_at}
 pub use Rattle.entangled_picture.specs.Places.{drawn_of, is_drawn, next_column, next_stamp, placed_after, placed_as}
-pub use Rattle.entangled_picture.specs.Places.{seen_of, spot_of}
+pub use Rattle.entangled_picture.specs.Places.{seen_of}
 pub use Rattle.entangled_picture.specs.declared.placed.Placed.{Placed}
 pub use Rattle.entangled_picture.specs.declared.seen.Seen.{Seen}
 pub use Rattle.entangled_picture.specs.declared.shape.Shape.{Shape}
@@ -18,19 +18,12 @@ pub use Rattle.entry_format.specs.Nodes.{node_of_sealed}
 pub use Rattle.entry_format.specs.SealedEntry.{SealedEntry}
 pub use Rattle.entry_format.specs.declared.plain.EntryFault.{EntryFault}
 pub use Rattle.entry_graph.specs.EntryGraph.{IsLower}
-pub use Rattle.entry_order.specs.Naming.{names_digest}
 pub use Rattle.log_files.specs.declared.plain_log.End.{End}
 pub use Rattle.log_files.specs.declared.sealed_log.LogRead.{LogRead}
-pub use Rattle.rule_engine.proofs.Broken.{find_here, find_more}
-pub use Rattle.std.proofs.Common.{Bool, List, [], add-one, ap, append-nil, append_assoc, arith, cond, drop, false}
-pub use Rattle.std.proofs.Common.{get_or, inl, inr, length, map, refl, rules, subst, suc, sym, take, true, zero, ℕ}
-pub use Rattle.std.proofs.Common.{◌&&◌, ◌++◌, ◌+◌, ◌-◌, ◌<◌, ◌^◌, ◌↔◌, ◌∙◌, ◌∷◌, ◌≡◌, ◌≤◌, ◌⊎◌}
-pub use Rattle.std.proofs.lemmas.Bool.{ltb-false, ltb-true}
+pub use Rattle.std.proofs.Common.{Bool, List, [], ap, arith, drop, get_or, length, map, refl, suc, take, true, zero, ℕ}
+pub use Rattle.std.proofs.Common.{◌++◌, ◌+◌, ◌-◌, ◌<◌, ◌^◌, ◌∷◌, ◌≡◌, ◌≤◌, ◌⊎◌}
 pub use Rattle.std.proofs.lemmas.Grind.{flat_map-append}
-pub use Rattle.std.proofs.lemmas.List.{drop_all, drop_more, get_or_default, map-append, take_more}
-pub use Rattle.std.proofs.lemmas.List.FromFn.{length-map-range_with_len, map-range_with_len_more}
-pub use Rattle.std.proofs.lemmas.Option.{get_or_from_slice_get, none-some, same_Some, slice_get-get_or}
-pub use Rattle.std.proofs.lemmas.Option.{slice_get_read}
-pub use Rattle.std.proofs.lemmas.Slice.Zip.{get_or-zip, length-zip}
+pub use Rattle.std.proofs.lemmas.List.FromFn.{map-range_with_len_more}
+pub use Rattle.std.proofs.lemmas.Option.{get_or_from_slice_get, none-some}
 pub use Rattle.std.specs.List.{AllPairs, flat_map, fold, range_with_len, zip}
-pub use Rattle.std.specs.Prelude.{None, Option, Some, find, max, nat_lt, option_to_list, slice_get}
+pub use Rattle.std.specs.Prelude.{None, Option, Some, find, max, option_to_list, slice_get}

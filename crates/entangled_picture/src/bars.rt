@@ -33,6 +33,7 @@ fn passed_at(maker: u32, placed: &Placed) -> usize
 
 /// Going back from this place: the spot of the next entry of the maker that is drawn, and how many
 /// that aren't are passed on the way.
+#[tactic(auto, using(crate::proofs::Grown::growing))]
 fn run_before(placed: &[Placed], place: usize, maker: u32) -> Option<(Spot, usize)>
     requires { place ≤ length placed.now }
     ensures { result ≡ run_before placed.now maker place 0 }
@@ -72,6 +73,7 @@ fn bar_to(placed: &[Placed], place: usize) -> Option<Shape>
 }
 
 /// Adds all bars.
+#[tactic(auto, using(crate::proofs::Grown::growing))]
 pub(crate) fn add_bars(shapes: &mut Vec<Shape>, placed: &[Placed]) -> Result<(), AllocError>
     ensures { OnOk result (shapes.new.items ≡ shapes.old.items ++ bars_of placed.now) }
 {

@@ -22,6 +22,7 @@ use std::alloc::{AllocError, Global};
 pub(crate) const MOST_DRAWN: usize = 300;
 
 /// The first ones, up to this number.
+#[tactic(auto, using(crate::proofs::Grown::growing))]
 pub(crate) fn first_ones<T>(items: &[T], most: usize) -> &[T]
     ensures { result.now ≡ take most items.now }
 {
@@ -101,6 +102,7 @@ fn is_drawn(graph: &Graph, verdicts: &[Verdict], seen: &[Seen], place: usize) ->
 }
 
 /// For each survivor, whether it is drawn.
+#[tactic(auto, using(crate::proofs::Grown::growing))]
 pub(crate) fn drawn_of(
     alloc: Global,
     graph: &Graph,

@@ -26,6 +26,7 @@ use std::alloc::{AllocError, Global};
 const MOST_LOSSES: usize = 16;
 
 /// The place of the first survivor that names the digest.
+#[tactic(auto, using(crate::proofs::Grown::growing))]
 fn first_namer(graph: &Graph, digest: &[u8; 32]) -> Option<usize>
     ensures { result ≡ first_namer graph.now.survivors digest.now }
 {
@@ -79,6 +80,7 @@ fn loss_at(
 }
 
 /// An arrow to the gap from each survivor that names it.
+#[tactic(auto, using(crate::proofs::Grown::growing))]
 fn losses_of(
     alloc: Global,
     graph: &Graph,
@@ -131,6 +133,7 @@ fn add_gap(
 }
 
 /// Adds these gaps, in a lane of their own, one below another.
+#[tactic(auto, using(crate::proofs::Grown::growing))]
 pub(crate) fn add_gaps(
     alloc: Global,
     shapes: &mut Vec<Shape>,

@@ -124,6 +124,7 @@ fn below(top: u64, height: u128) -> Result<u64, AllocError>
 }
 
 /// How far down the line of each lane is, and how high a picture with these lanes is.
+#[tactic(auto, using(crate::proofs::Grown::growing))]
 pub(crate) fn tops_of(
     alloc: Global,
     shapes: &[Shape],

@@ -53,6 +53,7 @@ paint-order:stroke;stroke:var(--paper);stroke-width:3px}\
 {fill:none;stroke:var(--loss);stroke-width:2.5}";
 
 /// The size of an arrow's head.
+#[tactic(auto, unfolding(crate::specs::Legend::head_size))]
 fn head_size(alloc: Global) -> Result<Attributes, AllocError>
     ensures { IfOk result (λ attributes. attributes ≡ head_size) }
 {
@@ -128,6 +129,7 @@ fn add_meaning(
 }
 
 /// The left half of the legend.
+#[tactic(auto, unfolding(crate::specs::Legend::left_meanings))]
 fn left_meanings(alloc: Global) -> Result<Markup, AllocError>
     ensures { IfOk result (λ half. half ≡ left_meanings) }
 {
@@ -150,6 +152,7 @@ fn left_meanings(alloc: Global) -> Result<Markup, AllocError>
 }
 
 /// The right half of the legend.
+#[tactic(auto, unfolding(crate::specs::Legend::right_meanings))]
 fn right_meanings(alloc: Global) -> Result<Markup, AllocError>
     ensures { IfOk result (λ half. half ≡ right_meanings) }
 {

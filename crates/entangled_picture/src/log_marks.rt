@@ -40,6 +40,7 @@ fn logs_above(before: &[LogRead], lane: usize, machines: usize) -> usize
 }
 
 /// Adds the line of each machine.
+#[tactic(auto, using(crate::proofs::Grown::growing))]
 pub(crate) fn add_lanes(
     shapes: &mut Vec<Shape>,
     logs: &[LogRead],
@@ -62,6 +63,7 @@ pub(crate) fn add_lanes(
 }
 
 /// Adds a mark for each refused record, side by side.
+#[tactic(auto, using(crate::proofs::Grown::growing))]
 fn add_refused(
     shapes: &mut Vec<Shape>,
     refused: &[(u32, EntryFault)],
@@ -155,6 +157,7 @@ fn edge_of(before: &[LogRead], machines: usize, column: u32, log: &LogRead) -> S
 }
 
 /// Adds what is shown of each log, after the last column.
+#[tactic(auto, using(crate::proofs::Grown::growing))]
 pub(crate) fn add_logs(
     shapes: &mut Vec<Shape>,
     logs: &[LogRead],

@@ -79,6 +79,7 @@ fn entry_at(placed: &[Placed], place: usize) -> Option<Shape>
 }
 
 /// Adds a mark for each survivor that is drawn.
+#[tactic(auto, using(crate::proofs::Grown::growing))]
 pub(crate) fn add_entries(shapes: &mut Vec<Shape>, placed: &[Placed]) -> Result<(), AllocError>
     ensures { OnOk result (shapes.new.items ≡ shapes.old.items ++ entry_marks placed.now) }
 {
@@ -134,6 +135,7 @@ fn add_arrows_from(
 }
 
 /// An arrow for each pair of a survivor and another one that it names.
+#[tactic(auto, using(crate::proofs::Grown::growing))]
 pub(crate) fn arrows_of(
     alloc: Global,
     graph: &Graph,
@@ -177,6 +179,7 @@ fn add_lights_by(
 }
 
 /// Adds a light for each broken rule at each survivor that it names.
+#[tactic(auto, using(crate::proofs::Grown::growing))]
 pub(crate) fn add_lights(
     shapes: &mut Vec<Shape>,
     placed: &[Placed],
@@ -210,6 +213,7 @@ fn later_spot(fork: (u32, u32), before: Option<Spot>, placed: &Placed) -> Option
 }
 
 /// The spot of the first entry of the fork.
+#[tactic(auto, using(crate::proofs::Grown::growing))]
 fn first_of_fork(placed: &[Placed], fork: (u32, u32)) -> Option<Spot>
     ensures { result ≡ spot_in (find (is_of_fork fork) placed.now) }
 {
@@ -259,6 +263,7 @@ pub(crate) fn add_forks(
 }
 
 /// Adds a mark for each stray, side by side.
+#[tactic(auto, using(crate::proofs::Grown::growing))]
 pub(crate) fn add_strays(
     shapes: &mut Vec<Shape>,
     strays: &[[u8; 32]],

@@ -90,6 +90,7 @@ fn add_name(out: &mut Vec<u8>, name: &str) -> Result<(), AllocError>
 }
 
 /// Adds the names of the broken rules.
+#[tactic(auto, using(crate::proofs::Grown::growing))]
 fn add_all_broken(out: &mut Vec<u8>, report: &Report) -> Result<(), AllocError>
     ensures { OnOk result (out.new.items
         ≡ out.old.items ++ rule_words is_broken (report_of report.now)) }
@@ -101,6 +102,7 @@ fn add_all_broken(out: &mut Vec<u8>, report: &Report) -> Result<(), AllocError>
 }
 
 /// Adds the names of the unsettled rules.
+#[tactic(auto, using(crate::proofs::Grown::growing))]
 fn add_all_unsettled(out: &mut Vec<u8>, report: &Report) -> Result<(), AllocError>
     ensures { OnOk result (out.new.items
         ≡ out.old.items ++ rule_words is_unsettled (report_of report.now)) }
@@ -184,6 +186,7 @@ fn view_box(alloc: Global, width: u128, height: u64) -> Result<String, AllocErro
 }
 
 /// The attributes of each picture.
+#[tactic(auto, unfolding(crate::specs::Document::kind_attributes))]
 fn kind_attributes(alloc: Global) -> Result<Attributes, AllocError>
     ensures { IfOk result (λ attributes. attributes ≡ kind_attributes) }
 {
@@ -413,6 +416,7 @@ fn lanes_in(report: &Report) -> usize
 }
 
 /// The attributes of the report's picture, and what is in it.
+#[tactic(auto, unfolding(crate::specs::Document::attributes_of, crate::specs::Document::all_of))]
 fn parts_of(alloc: Global, report: &Report) -> Result<(Attributes, Markup), AllocError>
     ensures attributes { IfOk result (λ parts. parts.0 ≡ attributes_of (report_of report.now)) }
     ensures inner { IfOk result (λ parts. parts.1 ≡ all_of (report_of report.now)) }

@@ -90,6 +90,7 @@ fn next_stamp(stamp: u32, entry: &Seen, is_drawn: bool) -> u32
 
 /// The entries with their spots, if they are drawn. The next one that is drawn is one column
 /// further right if its stamp is greater.
+#[tactic(auto, using(crate::proofs::Grown::growing))]
 pub(crate) fn all_placed(
     alloc: Global,
     seen: &[Seen],

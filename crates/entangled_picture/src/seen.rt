@@ -32,6 +32,7 @@ fn seen_of(sealed: &Sealed) -> Seen
 }
 
 /// What it shows of all survivors.
+#[tactic(auto, using(crate::proofs::Grown::growing))]
 pub(crate) fn all_seen(alloc: Global, graph: &Graph) -> Result<Vec<Seen>, AllocError>
     ensures { IfOk result (λ seen. seen.items ≡ map seen_of graph.now.survivors) }
 {

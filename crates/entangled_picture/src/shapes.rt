@@ -28,6 +28,7 @@ use std::alloc::{AllocError, Global};
 pub(crate) const MOST_ARROWS: usize = 5000;
 
 /// The survivors of the report with their spots.
+#[tactic(auto, using(crate::proofs::Grown::growing))]
 fn placed_of(alloc: Global, report: &Report) -> Result<Vec<Placed>, AllocError>
     ensures { IfOk result (λ placed.
         placed.items ≡ placed_of report.now.graph report.now.verdicts) }

@@ -5,6 +5,6 @@ use Rattle.entangled_picture.proofs.placed.all_placed.Given as goal
 abbrev pub invariant-loop-i : goal.invariant-loop-i
 invariant-loop-i l = record {
   so_far : placed_after [] 0 0 (zip l.seen l.drawn)
-      ≡ l.placed.items ++ placed_after (take l.i l.seen) l.column l.stamp (drop l.i (zip l.seen l.drawn));
+      ≡ l.placed.items ++ placed_after (take l.i l.seen) l.column l.stamp (zip (drop l.i l.seen) (drop l.i l.drawn));
   few : l.column ≤ l.i;
 }

@@ -1,9 +1,0 @@
-use Rattle.entangled_picture.specs.Legend.{right_meanings}
-use Rattle.entangled_picture.proofs.Pieces.{five_added}
-use Rattle.entangled_picture.proofs.legend.right_meanings.Goals as goal
-
-pub returns : goal.returns
-unfolding right_meanings
-returns c =
-    five_added _ _ _ _ _ _ _ _ _ _ _ c.new-half.ensures c.in_ok-add_meaning.ensures c.in_ok-add_meaning-2.ensures
-    c.in_ok-add_meaning-3.ensures c.in_ok-add_meaning-4.ensures c.in_ok-add_meaning-5.ensures
