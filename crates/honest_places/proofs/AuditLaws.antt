@@ -7,7 +7,6 @@ use Rattle.auditor.specs.ReportText.{break_line, fork_lines, stray_lines}
 use Rattle.auditor.specs.Sources.{GivesRules, RuleSource, in_file, source_word, standard}
 use Rattle.auditor.specs.inside.Begun.{WithRoster, WithRules}
 use Rattle.canonical_sexp.specs.declared.read.Why.{Why}
-use Rattle.deed_history.proofs.Deciding.{authorises}
 use Rattle.election_script.specs.declared.script.Script.{Script}
 use Rattle.entry_format.specs.Nodes.{node_of, node_of_sealed}
 use Rattle.entry_format.specs.Plains.{plain_of, plains}
@@ -17,8 +16,6 @@ use Rattle.entry_graph.specs.EntryGraph.{EntryGraph, IsEntryGraph, parents_of, r
 use Rattle.entry_order.proofs.Images.{order_back}
 use Rattle.entry_order.proofs.Lists.{Contains-cons_cases, Contains-filter, Contains-map_cases, Contains-none}
 use Rattle.entry_order.proofs.Places.{member_at}
-use Rattle.entry_order.specs.Ancestors.{before}
-use Rattle.entry_order.specs.History.{sent}
 use Rattle.entry_order.specs.Naming.{Distinct}
 use Rattle.entry_order.specs.Precedes.{Precedes}
 use Rattle.entry_order.specs.World.{World, sent_in}
@@ -69,12 +66,11 @@ use Rattle.rule_language.specs.Trees.{RuleTree, Trees, tree_then}
 use Rattle.rule_language.specs.declared.row.Row.{Row}
 use Rattle.rule_meaning.proofs.Unknowns.{unknown_only_by_gaps}
 use Rattle.rule_meaning.specs.Sound.{HasNoDouble}
-use Rattle.std.proofs.Common.{Bool, List, None, Option, Some, [], ap, false, inl, inr, length, map, refl, subst, sym}
-use Rattle.std.proofs.Common.{true, ℕ, ◌∙◌, ◌∷◌, ◌≡◌, ◌≢◌, ◌⊎◌}
+use Rattle.std.proofs.Common.{Bool, Contains, Err, IsSomeAnd, List, None, Ok, Option, Result, Some, [], ap, codes}
+use Rattle.std.proofs.Common.{false, filter, inl, inr, length, map, refl, slice_get, subst, sym, true, ℕ, ◌∙◌, ◌∷◌, ◌≡◌}
+use Rattle.std.proofs.Common.{◌≢◌, ◌⊎◌}
 use Rattle.std.proofs.lemmas.List.Elements.{All-contains}
 use Rattle.std.proofs.lemmas.Slice.Zip.{AllZip-long}
-use Rattle.std.specs.List.{Contains, filter}
-use Rattle.std.specs.Prelude.{Err, IsSomeAnd, Ok, Result, codes, slice_get}
 use Rattle.survivor_rows.specs.Rows.{kind_of, row_of, row_said, session_of}
 use Rattle.rule_engine.specs.declared.verdict.Verdict.TheVariants as verdict
 use Rattle.rule_language.specs.declared.form.Form.TheVariants as form
@@ -91,24 +87,20 @@ abbrev AreRulesOf : RuleSource → Option (List ℕ) → List RuleTree → Type 
 AreRulesOf standard file rules = rules ≡ standard_rules
 AreRulesOf (in_file name) file rules = GivesRules name file (Ok rules)
 
--- the rules are in a file, and it isn't there, is too long or has a fault
-abbrev IsRefusalOfRules : RuleSource → Option (List ℕ) → Refusal → Type 0
-IsRefusalOfRules standard file refusal = ⊥
-IsRefusalOfRules (in_file name) file refusal = GivesRules name file (Err refusal)
-
 -- two steps found something: so did the first, and then the next
 both_found : {A B : Type 0} (First : Result A Refusal → Type 0) (Next : A → Result B Refusal → Type 0) (found : B) →
     AndThen First Next (Ok found) → (a : A) × First (Ok a) × Next a (Ok found)
 both_found First Next found (inl is) = is
 both_found First Next found (inr (refusal, first, same)) = cc
 
--- two steps are refused: the first is, or the next after it
-one_refused : {A B : Type 0} (First : Result A Refusal → Type 0) (Next : A → Result B Refusal → Type 0)
-    (refusal : Refusal) → AndThen First Next (Err refusal) →
-    First (Err refusal) ⊎ ((a : A) × First (Ok a) × Next a (Err refusal))
-one_refused First Next refusal (inl is) = inr is
-one_refused First Next refusal (inr (other, first, same)) =
-    let is : other ≡ refusal = cc in inl (subst (λ (r : Refusal). First (Err r)) is first)
+-- two steps are refused: so it is with what follows of a refusal of the first, and of one of the next
+-- after what the first found
+then_refused : {A B : Type 0} (First : Result A Refusal → Type 0) (Next : A → Result B Refusal → Type 0)
+    (refusal : Refusal) (P : Type 0) → (First (Err refusal) → P) →
+    ((a : A) → First (Ok a) → Next a (Err refusal) → P) → AndThen First Next (Err refusal) → P
+then_refused First Next refusal P first next (inl (a, found, rest)) = next a found rest
+then_refused First Next refusal P first next (inr (other, why, same)) =
+    let is : other ≡ refusal = cc in first (subst (λ (r : Refusal). First (Err r)) is why)
 
 -- What was found where an audit reports: the report is on the machines and these files, its rules are
 -- those that were asked for, its logs are what the files give, its graph is what the entries of these
@@ -195,40 +187,6 @@ module _ (script : Script) (w : World SealedEntry) (roster : Option (List ℕ)) 
       found_after posts (election_of posts) names files (in_file word) rules_file rules are report
       (after_roster (in_file word) rules (Ok report) read given rest)
 
-  -- the rules are refused, or the refusal follows them and the script's roster
-  abbrev Follows : RuleSource → Refusal → Type 0
-  Follows source refusal =
-      IsRefusalOfRules source rules_file refusal
-      ⊎ ((rules : List RuleTree) × AreRulesOf source rules_file rules
-      × AndThen (GivesLogs posts (election_of posts) names files) (WithLogs posts source rules names) (Err refusal))
-
-  -- after a roster that was read the rules of a file are refused, or what follows them
-  after_rules : (word : List ℕ) (refusal : Refusal) (read : RosterRead) → GivesRoster name roster (Ok read) →
-      GivesRules word rules_file (Err refusal)
-      ⊎ ((rules : List RuleTree) × GivesRules word rules_file (Ok rules)
-      × WithRules read (in_file word) rules names files (Err refusal)) → Follows (in_file word) refusal
-  after_rules word refusal read given (inl why) = inl why
-  after_rules word refusal read given (inr (rules, are, rest)) =
-      inr (rules, are, after_roster (in_file word) rules (Err refusal) read given rest)
-
-  -- so it is of each audit that is refused, since the roster is read
-  follows : (source : RuleSource) (refusal : Refusal) →
-      GivesReport name source names (files_read roster source rules_file files) (Err refusal) → Follows source refusal
-  follows standard refusal gives =
-      elim (one_refused (GivesRoster name roster) (λ read. WithRoster read standard names files) refusal gives) [
-        | inl why ↦ absurd (roster_not_refused script w roster is name refusal why)
-        | inr (read, given, rest) ↦
-            inr (standard_rules, refl, after_roster standard standard_rules (Err refusal) read given rest)
-      ]
-  follows (in_file word) refusal gives =
-      elim (one_refused (GivesRoster name roster) (λ read. WithRoster read (in_file word) names (rules_file ∷ files))
-      refusal gives) [
-        | inl why ↦ absurd (roster_not_refused script w roster is name refusal why)
-        | inr (read, given, next) ↦ after_rules word refusal read given
-            (one_refused (GivesRules word rules_file) (λ rules. WithRules read (in_file word) rules names files) refusal
-            next)
-      ]
-
   -- ---- where all whole logs are there
 
   module _ (source : RuleSource) (report : AuditReport) (found : Found source report) where
@@ -255,47 +213,43 @@ module _ (script : Script) (w : World SealedEntry) (roster : Option (List ℕ)) 
         cc
     too_wide (in_file word) rules given graph sent single place first refusal told = inr (rules, place, given, told)
 
-    -- rules that are refused are in a file
-    rules_refused : (source : RuleSource) (refusal : Refusal) → IsRefusalOfRules source rules_file refusal →
-        IsHonestRefusal source rules_file refusal
-    rules_refused standard refusal why = why
-    rules_refused (in_file word) refusal why = inl why
+    module _ (refusal : Refusal) where
+      -- after the roster and the rules only a rule is refused: the logs and the graph aren't
+      rule_refused : (source : RuleSource) (rules : List RuleTree) → AreRulesOf source rules_file rules →
+          AndThen (GivesLogs posts (election_of posts) names files) (WithLogs posts source rules names) (Err refusal) →
+          IsHonestRefusal source rules_file refusal
+      rule_refused source rules of =
+          then_refused (GivesLogs posts (election_of posts) names files) (WithLogs posts source rules names) refusal
+          (IsHonestRefusal source rules_file refusal)
+          (λ why. absurd (files_are_given posts w world names files left refusal why)) (λ logs gives_logs.
+          let read = files_are_read posts w world names files left logs gives_logs in
+          then_refused (GivesGraph (entries_of logs)) (WithGraph posts source rules names logs) refusal
+          (IsHonestRefusal source rules_file refusal)
+          (λ why. absurd (graph_is_given posts w world apart logs read refusal why)) (λ graph gives_graph.
+          let honest = graph_is_honest posts w world apart logs read graph gives_graph in
+          then_refused (GivesVerdicts source (map (row_of posts) graph.survivors) (nodes_of graph) rules)
+          (λ verdicts answer. answer ≡ Ok (report_on posts names logs graph rules verdicts)) refusal
+          (IsHonestRefusal source rules_file refusal)
+          (λ (place, first, why).
+          too_wide source rules of graph honest.completed.keeps gives_graph.2.kept.single place first refusal why)
+          (λ verdicts judged same. cc)))
 
-    -- the logs and the graph aren't refused, so only the rules of a file are, or one that is too wide
-    refused_by : (source : RuleSource) (refusal : Refusal) → Follows source refusal →
-        IsHonestRefusal source rules_file refusal
-    refused_by source refusal (inl why) = rules_refused source refusal why
-    refused_by source refusal (inr (rules, of, with_rules)) =
-        elim (one_refused (GivesLogs posts (election_of posts) names files) (WithLogs posts source rules names) refusal
-        with_rules) [
-          | inl why ↦ absurd (files_are_given posts w world names files left refusal why)
-          | inr (logs, gives_logs, with_logs) ↦ by_graph logs
-              (files_are_read posts w world names files left logs gives_logs)
-              (one_refused (GivesGraph (entries_of logs)) (WithGraph posts source rules names logs) refusal with_logs)
-        ]
-      where
-        -- the rules are refused over the survivors of the graph
-        by_verdicts : (logs : List LogRead) (graph : EntryGraph SealedEntry) → WereSentIn w graph.survivors →
-            HasNoDouble graph.survivors →
-            GivesVerdicts source (map (row_of posts) graph.survivors) (nodes_of graph) rules (Err refusal)
-            ⊎ ((verdicts : List Verdict)
-            × GivesVerdicts source (map (row_of posts) graph.survivors) (nodes_of graph) rules (Ok verdicts)
-            × (Err refusal ≡ Ok (report_on posts names logs graph rules verdicts))) →
-            IsHonestRefusal source rules_file refusal
-        by_verdicts logs graph sent single (inl (place, first, why)) =
-            too_wide source rules of graph sent single place first refusal why
-        by_verdicts logs graph sent single (inr (verdicts, judged, same)) = cc
-
-        -- the graph isn't refused
-        by_graph : (logs : List LogRead) → AreReadIn w logs → GivesGraph (entries_of logs) (Err refusal)
-            ⊎ ((graph : EntryGraph SealedEntry) × GivesGraph (entries_of logs) (Ok graph)
-            × WithGraph posts source rules names logs graph (Err refusal)) → IsHonestRefusal source rules_file refusal
-        by_graph logs read (inl why) = absurd (graph_is_given posts w world apart logs read refusal why)
-        by_graph logs read (inr (graph, gives_graph, with_graph)) =
-            by_verdicts logs graph (graph_is_honest posts w world apart logs read graph gives_graph).completed.keeps
-            gives_graph.2.kept.single
-            (one_refused (GivesVerdicts source (map (row_of posts) graph.survivors) (nodes_of graph) rules)
-            (λ verdicts answer. answer ≡ Ok (report_on posts names logs graph rules verdicts)) refusal with_graph)
+      -- the roster isn't refused, so the rules of a file are, or what follows them
+      refused_so : (source : RuleSource) →
+          GivesReport name source names (files_read roster source rules_file files) (Err refusal) →
+          IsHonestRefusal source rules_file refusal
+      refused_so standard =
+          then_refused (GivesRoster name roster) (λ read. WithRoster read standard names files) refusal ⊥
+          (roster_not_refused script w roster is name refusal) (λ read given rest.
+          rule_refused standard standard_rules refl
+          (after_roster standard standard_rules (Err refusal) read given rest))
+      refused_so (in_file word) =
+          then_refused (GivesRoster name roster) (λ read. WithRoster read (in_file word) names (rules_file ∷ files))
+          refusal (IsHonestRefusal (in_file word) rules_file refusal)
+          (λ why. absurd (roster_not_refused script w roster is name refusal why)) (λ read given.
+          then_refused (GivesRules word rules_file) (λ rules. WithRules read (in_file word) rules names files) refusal
+          (IsHonestRefusal (in_file word) rules_file refusal) inl (λ rules are rest.
+          rule_refused (in_file word) rules are (after_roster (in_file word) rules (Err refusal) read given rest)))
 
     module _ (source : RuleSource) (report : AuditReport) (found : Found source report) where
       -- ---- what is reported
@@ -451,8 +405,7 @@ whole_reports_say_all_kept script w roster files left whole name names report gi
 -- an audit is refused only for rules in a file
 pub audits_are_refused_only_so : AuditsAreRefusedOnlySo
 audits_are_refused_only_so script w roster files left apart name source rules names refusal gives =
-    refused_by script w roster left.roster files name rules names left.logs apart source refusal
-    (follows script w roster left.roster files name rules names source refusal gives)
+    refused_so script w roster left.roster files name rules names left.logs apart refusal source gives
 
 -- a report over all whole logs shows that different entries have different digests
 pub whole_reports_show_distinct : WholeReportsShowDistinct

@@ -18,7 +18,6 @@ use Rattle.entry_order.proofs.Machines.{in_world}
 use Rattle.entry_order.proofs.Orders.{member_split, sent_in_cases, sent_in_from}
 use Rattle.entry_order.proofs.Places.{element_at}
 use Rattle.entry_order.proofs.Strays.{survivors_are_no_strays}
-use Rattle.entry_order.specs.Ancestors.{before}
 use Rattle.entry_order.specs.History.{entry_of, held}
 use Rattle.entry_order.specs.Honest.{AgreesWith}
 use Rattle.entry_order.specs.Naming.{Distinct}
@@ -37,14 +36,11 @@ use Rattle.log_files.proofs.KeptRecords.{held_kept}
 use Rattle.log_files.specs.declared.sealed_log.LogRead.{LogRead}
 use Rattle.polling_world.specs.Making.{election_of}
 use Rattle.roster.specs.declared.post.Post.{Post}
-use Rattle.std.proofs.Common.{Bool, List, [], ap, arith, cond, false, length, refl, subst, sym, take, true, ℕ, ◌++◌}
-use Rattle.std.proofs.Common.{◌∙◌, ◌∷◌, ◌≡◌, ◌≤◌}
-use Rattle.std.proofs.lemmas.Bool.{not_from_true, true≢false}
+use Rattle.std.proofs.Common.{Bool, Contains, Err, List, Ok, [], ap, arith, bytes_eq, cond, false, filter, length, not}
+use Rattle.std.proofs.Common.{refl, subst, sym, take, true, true≢false, ℕ, ◌++◌, ◌↔◌, ◌∙◌, ◌∷◌, ◌≡◌, ◌≤◌}
+use Rattle.std.proofs.lemmas.Bool.{not_from_true}
 use Rattle.std.proofs.lemmas.List.Elements.{All-contains, Contains-append_left, Contains-append_right}
 use Rattle.std.proofs.lemmas.Slice.Eq.{bytes_eq-Decides}
-use Rattle.std.specs.List.{Contains, filter}
-use Rattle.std.specs.Prelude.{Err, Ok, not, ◌↔◌}
-use Rattle.std.specs.Str.{bytes_eq}
 
 -- ---- distinct entries
 

@@ -26,8 +26,7 @@ use Rattle.polling_world.specs.Making.{election_of}
 use Rattle.roster.specs.RosterText.{roster_tree}
 use Rattle.roster.specs.declared.post.Post.{Post}
 use Rattle.sha2.specs.Sha256.{sha256}
-use Rattle.std.proofs.Common.{List, None, Option, Some, ap, inl, inr, refl, subst, sym, ℕ, ◌∙◌, ◌≡◌}
-use Rattle.std.specs.Prelude.{Err, Ok, Result}
+use Rattle.std.proofs.Common.{Err, List, None, Ok, Option, Result, Some, ap, inl, inr, refl, subst, sym, ℕ, ◌∙◌, ◌≡◌}
 
 -- ---- graphs
 

@@ -5,7 +5,6 @@ use Rattle.auditor.specs.Outcomes.{log_has_finding, outcome_by, outcome_of}
 use Rattle.auditor.specs.Report.{AuditReport}
 use Rattle.entry_format.specs.SealedEntry.{SealedEntry}
 use Rattle.entry_graph.specs.EntryGraph.{EntryGraph, parents_of, ragged_of}
-use Rattle.entry_order.specs.History.{held}
 use Rattle.entry_order.specs.World.{World}
 use Rattle.entry_order.specs.declared.three.Three.{Three}
 use Rattle.evidence.specs.Graphs.{entries_of}
@@ -22,12 +21,12 @@ use Rattle.rule_language.specs.Standard.{standard_rules}
 use Rattle.rule_language.specs.Trees.{RuleTree}
 use Rattle.rule_language.specs.declared.row.Row.{Row}
 use Rattle.rule_meaning.specs.Values.{three_in}
-use Rattle.std.proofs.Common.{Bool, List, [], ap, false, map, refl, sym, true, ◌∙◌, ◌≡◌, ◌≢◌}
+use Rattle.std.proofs.Common.{Bool, Contains, List, Ok, [], ap, false, is_some, map, not, refl, sym, true, ◌||◌, ◌∙◌}
+use Rattle.std.proofs.Common.{◌≡◌, ◌≢◌}
 use Rattle.std.proofs.lemmas.Bool.{false≢true, or_from, or_parts}
 use Rattle.std.proofs.lemmas.List.Elements.{All-contains}
+use Rattle.std.specs.List.{AllZip, list_any}
 use Rattle.std.proofs.lemmas.Slice.Zip.{AllZip-map}
-use Rattle.std.specs.List.{AllZip, Contains, list_any}
-use Rattle.std.specs.Prelude.{Ok, is_some, not, ◌||◌}
 use Rattle.entry_order.specs.declared.three.Three.TheVariants as known
 use Rattle.rule_engine.specs.declared.verdict.Verdict.TheVariants as verdict
 use Rattle.auditor.specs.declared.outcome.Outcome.TheVariants as outcome
@@ -99,7 +98,8 @@ module _ (report : AuditReport) (kept : report.verdicts ≡ map (λ (rule : Rule
   -- where each rule is kept, the outcome hangs on the findings alone
   comes_by : outcome_of report ≡ outcome_by false false (has_finding report)
   comes_by =
-      ap (λ (vs : List Verdict). outcome_by (list_any is_broken vs) (list_any is_unsettled vs) (has_finding report)) kept
+      let found = has_finding report in
+      ap (λ (vs : List Verdict). outcome_by (list_any is_broken vs) (list_any is_unsettled vs) found) kept
 
   -- a log whose end isn't clean is found
   pub torn_found : ¬ EndClean report.logs → outcome_of report ≡ outcome.Findings

@@ -17,11 +17,10 @@ use Rattle.log_files.specs.declared.sealed_log.LogRead.{LogRead}
 use Rattle.polling_world.specs.Making.{election_of}
 use Rattle.roster.specs.Machines.{max_machines}
 use Rattle.roster.specs.declared.post.Post.{Post}
-use Rattle.std.proofs.Common.{List, None, Option, Some, [], ap, arith, inl, inr, length, refl, ℕ, ◌∷◌, ◌≤◌}
-use Rattle.std.proofs.lemmas.List.{length-take}
+use Rattle.std.proofs.Common.{Err, IsSomeAnd, List, None, Ok, Option, Some, [], ap, arith, inl, inr, length}
+use Rattle.std.proofs.Common.{length-take, refl, ℕ, ◌∷◌, ◌≤◌}
 use Rattle.std.proofs.lemmas.List.Elements.{All-contains, All-head, All-tail}
 use Rattle.std.specs.List.{AllZip}
-use Rattle.std.specs.Prelude.{Err, IsSomeAnd, Ok}
 use Rattle.log_files.specs.declared.plain_log.LogFault.TheVariants as fault
 
 -- what is left of a log of w is in the file

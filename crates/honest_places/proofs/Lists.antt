@@ -1,14 +1,12 @@
 -- Lists in pairs, and lists of which members meet a test.
 use Rattle.entry_order.proofs.Lists.{Contains-cons_cases, Contains-head, Contains-later, list_any_of, list_any_some}
-use Rattle.std.proofs.Common.{Bool, List, Some, [], ap, arith, cond, false, inl, inr, subst, sym, take, true, ℕ, ◌<◌}
-use Rattle.std.proofs.Common.{◌∙◌, ◌∷◌, ◌≡◌}
+use Rattle.std.proofs.Common.{Bool, Contains, List, Some, [], ap, arith, cond, count_by, false, get_or-take, inl, inr}
+use Rattle.std.proofs.Common.{length-take, slice_get, subst, sym, take, true, ℕ, ◌<◌, ◌∙◌, ◌∷◌, ◌≡◌}
 use Rattle.std.proofs.lemmas.Bool.{cases_lt, false_from_ne_true, false≢true}
-use Rattle.std.proofs.lemmas.List.{get_or-take, length-take}
 use Rattle.std.proofs.lemmas.List.Elements.{All-contains, All-contains_itself, All-take}
 use Rattle.std.proofs.lemmas.List.Sums.{get_or-le-sum_by, sum_by_more_le}
 use Rattle.std.proofs.lemmas.Option.{get_or_from_slice_get, slice_get_within}
-use Rattle.std.specs.List.{AllZip, Contains, list_any}
-use Rattle.std.specs.Prelude.{count_by, slice_get}
+use Rattle.std.specs.List.{AllZip, list_any}
 
 -- what is among the first is among all
 pub Contains-take : {X : Type 0} (xs : List X) (k : ℕ) (x : X) → Contains (take k xs) x → Contains xs x
@@ -71,10 +69,6 @@ module _ {X : Type 0} (p : X → Bool) where
   pub one_passes : (xs : List X) → count_by p xs ≡ 1 → (i j : ℕ) (x y : X) → slice_get xs i ≡ Some x →
       slice_get xs j ≡ Some y → p x ≡ true → p y ≡ true → i ≡ j
   one_passes xs one i j x y is js t u =
-      elim (cases_lt i j) [
-        | inl less ↦ absurd (omega (arith, one, two_pass xs i j x y is js t u less))
-        | inr ge ↦ elim (cases_lt j i) [
-          | inl more ↦ absurd (omega (arith, one, two_pass xs j i y x js is u t more))
-          | inr le ↦ omega (arith, ge, le)
-        ]
-      ]
+      let less : i < j → ⊥ = λ l. (let two = two_pass xs i j x y is js t u l in omega (arith, one, two)) in
+      let more : j < i → ⊥ = λ l. (let two = two_pass xs j i y x js is u t l in omega (arith, one, two)) in
+      omega (arith, less, more)

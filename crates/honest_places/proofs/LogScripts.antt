@@ -31,7 +31,6 @@ use Rattle.entry_order.specs.World.{IsLegalNext, Machine, World, history, histor
 use Rattle.entry_order.specs.declared.event.Event.{Event}
 use Rattle.entry_order.specs.declared.event.Event.TheVariants.{Sent}
 use Rattle.entry_order.specs.declared.step.Step.{Step}
-use Rattle.honest_places.proofs.Pasts.{may}
 use Rattle.honest_places.specs.HonestWorld.{IsHonestWorld}
 use Rattle.lms_sign.proofs.Heights.{leaves_of}
 use Rattle.lms_sign.proofs.Signatures.{index-signed, signed_signs}
@@ -50,12 +49,12 @@ use Rattle.polling_world.specs.Worlds.{IsNextAt, IsNextOf, TellsNext}
 use Rattle.roster.specs.Machines.{max_machines}
 use Rattle.roster.specs.declared.post.Post.{Post}
 use Rattle.sha2.proofs.Facts256.{length-sha256}
-use Rattle.std.proofs.Common.{List, None, Option, Some, [], ap, arith, length, length-append, map, refl, subst, suc}
-use Rattle.std.proofs.Common.{sym, zero, ℕ, ◌++◌, ◌+◌, ◌<◌, ◌^◌, ◌∙◌, ◌∷◌, ◌≡◌, ◌≤◌}
+use Rattle.std.proofs.Common.{All, Contains, List, None, Option, Some, [], ap, arith, flat_map, length, length-append}
+use Rattle.std.proofs.Common.{map, option_map, refl, slice_get, subst, suc, sym, zero, ℕ, ◌++◌, ◌+◌, ◌<◌, ◌^◌, ◌∙◌, ◌∷◌}
+use Rattle.std.proofs.Common.{◌≡◌, ◌≤◌}
 use Rattle.std.proofs.lemmas.List.{length-map}
 use Rattle.std.proofs.lemmas.Option.{slice_get_within}
-use Rattle.std.specs.List.{Contains, enumerate_from, flat_map}
-use Rattle.std.specs.Prelude.{All, option_map, slice_get}
+use Rattle.std.specs.List.{enumerate_from}
 
 -- ---- entries that are made
 

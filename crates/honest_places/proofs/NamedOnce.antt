@@ -7,7 +7,6 @@ use Rattle.entry_order.proofs.Honest.{none_inside}
 use Rattle.entry_order.proofs.Lists.{Contains-filter_cases, Contains-head, Contains-map, Contains-map_cases}
 use Rattle.entry_order.proofs.Naming.{names_digest_of}
 use Rattle.entry_order.proofs.Orders.{member_split}
-use Rattle.entry_order.specs.Ancestors.{before}
 use Rattle.entry_order.specs.Ascending.{insert_digest}
 use Rattle.entry_order.specs.Frontier.{frontier}
 use Rattle.entry_order.specs.History.{IsLegal, MayFollow, entry_of, held, sent}
@@ -18,16 +17,14 @@ use Rattle.entry_order.specs.World.{World, history, sent_in}
 use Rattle.entry_order.specs.declared.event.Event.{Event}
 use Rattle.entry_order.specs.declared.event.Event.TheVariants.{Got, Sent}
 use Rattle.honest_places.proofs.Given.{event_was_sent}
-use Rattle.honest_places.proofs.Pasts.{may}
 use Rattle.honest_places.specs.Named.{count_named}
-use Rattle.std.proofs.Common.{Bool, List, [], ap, append-nil, append_assoc, arith, cond, false, length, length-append}
-use Rattle.std.proofs.Common.{refl, subst, suc, sym, true, ℕ, ◌*◌, ◌++◌, ◌+◌, ◌∙◌, ◌∷◌, ◌≡◌, ◌≤◌}
-use Rattle.std.proofs.lemmas.Bool.{not_from_true, true≢false}
+use Rattle.std.proofs.Common.{Bool, Contains, List, [], ap, append-nil, append_assoc, arith, cond, false, filter}
+use Rattle.std.proofs.Common.{length, length-append, not, refl, subst, suc, sum_by, sym, true, true≢false, ℕ, ◌*◌, ◌++◌}
+use Rattle.std.proofs.Common.{◌+◌, ◌∙◌, ◌∷◌, ◌≡◌, ◌≤◌}
+use Rattle.std.proofs.lemmas.Bool.{not_from_true}
 use Rattle.std.proofs.lemmas.List.{length-map, map-append}
 use Rattle.std.proofs.lemmas.List.Elements.{Contains-append_right}
 use Rattle.std.proofs.lemmas.List.Sums.{count_by-le-length, length-filter, sum_by-append}
-use Rattle.std.specs.List.{Contains, filter, sum_by}
-use Rattle.std.specs.Prelude.{not}
 
 module _ {T : Type 0} (node : T → Node) where
   -- what of the frontier one entry more doesn't name

@@ -12,7 +12,7 @@ use Rattle.entry_order.proofs.Histories.{split_two}
 use Rattle.entry_order.proofs.Lists.{Contains-map, Contains-map_cases}
 use Rattle.entry_order.proofs.Orders.{along, held_rises, held_was_sent, named_held, next_of, one_order, was_sent}
 use Rattle.entry_order.specs.HeldBefore.{HeldBefore, WasSentAfter}
-use Rattle.entry_order.specs.History.{IsNext, entry_of, held, sent}
+use Rattle.entry_order.specs.History.{IsNext, entry_of, held}
 use Rattle.entry_order.specs.Naming.{Distinct}
 use Rattle.entry_order.specs.Precedes.{IsPath, Precedes}
 use Rattle.entry_order.specs.World.{World, history, sent_in}
@@ -26,11 +26,8 @@ use Rattle.roster.specs.declared.post.Role.{Role}
 use Rattle.roster.specs.declared.post.Role.TheVariants.{Booth, Supervisor}
 use Rattle.rule_language.specs.declared.kind.Kind.{Kind}
 use Rattle.rule_meaning.specs.Tests.{is_kind}
-use Rattle.std.proofs.Common.{Bool, List, [], ap, arith, false, inl, inr, refl, subst, sym, true, ℕ, ◌++◌, ◌<◌}
-use Rattle.std.proofs.Common.{◌∙◌, ◌∷◌, ◌≡◌, ◌⊎◌}
-use Rattle.std.specs.Bool.{Decides}
-use Rattle.std.specs.List.{Contains}
-use Rattle.std.specs.Prelude.{Any, Err, IsTrue, Ok}
+use Rattle.std.proofs.Common.{Any, Bool, Contains, Decides, Err, IsTrue, List, Ok, [], ap, arith, false, inl, inr, refl}
+use Rattle.std.proofs.Common.{subst, sym, true, ℕ, ◌++◌, ◌<◌, ◌∙◌, ◌∷◌, ◌≡◌, ◌⊎◌}
 use Rattle.survivor_rows.specs.Rows.{ballot_of, booth_of, kind_of, session_of}
 use Rattle.entry_format.specs.declared.deed.Deed.TheVariants as deed
 use Rattle.entry_format.specs.declared.deed.How.TheVariants as how
@@ -191,7 +188,8 @@ module _ {posts : List Post} {w : World SealedEntry} (honest : IsHonest posts w)
   one_alone IsSuch e f s t same first second none nor =
       elim (two_of_one e f s t same) [
         | inl u ↦ u
-        | inr (inl c) ↦ absurd (nor (held_any (λ n. (n.maker ≡ f.entry.maker) × IsSuch n.deed) t.past e c (same, first)))
+        | inr (inl c) ↦
+            absurd (nor (held_any (λ n. (n.maker ≡ f.entry.maker) × IsSuch n.deed) t.past e c (same, first)))
         | inr (inr c) ↦
             absurd (none (held_any (λ n. (n.maker ≡ e.entry.maker) × IsSuch n.deed) s.past f c (sym same, second)))
       ]

@@ -13,12 +13,10 @@ use Rattle.polling_world.proofs.Placing.{history_there}
 use Rattle.polling_world.specs.Machines.{MachineState}
 use Rattle.polling_world.specs.Playing.{IsPlayed}
 use Rattle.polling_world.specs.Worlds.{machine_of, world_of}
-use Rattle.std.proofs.Common.{List, Option, Some, ap, arith, subst, sym, ℕ, ◌∙◌, ◌≡◌}
+use Rattle.std.proofs.Common.{Contains, List, Option, Some, ap, arith, slice_get, subst, sym, ℕ, ◌∙◌, ◌≡◌}
 use Rattle.std.proofs.lemmas.List.{length-map}
 use Rattle.std.proofs.lemmas.List.Elements.{All-map}
 use Rattle.std.proofs.lemmas.Option.{slice_get_within}
-use Rattle.std.specs.List.{Contains}
-use Rattle.std.specs.Prelude.{slice_get}
 
 -- the file of a machine's whole log
 abbrev pub file_of : MachineState → Option (List ℕ)

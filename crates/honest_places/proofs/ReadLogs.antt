@@ -9,7 +9,6 @@ use Rattle.entry_format.specs.Unsealing.{Unseals}
 use Rattle.entry_format.specs.declared.plain.EntryFault.{EntryFault}
 use Rattle.entry_order.proofs.Lists.{Contains-head, Contains-later}
 use Rattle.entry_order.proofs.Places.{all_from_places, member_at}
-use Rattle.entry_order.specs.Ancestors.{before}
 use Rattle.entry_order.specs.History.{IsLegal, entry_of}
 use Rattle.entry_order.specs.World.{World, history}
 use Rattle.entry_order.specs.declared.event.Event.{Event}
@@ -34,17 +33,16 @@ use Rattle.log_files.specs.declared.sealed_log.Kept.{Kept}
 use Rattle.log_files.specs.declared.sealed_log.LogRead.{LogRead}
 use Rattle.polling_world.specs.Making.{election_of}
 use Rattle.roster.specs.declared.post.Post.{Post}
-use Rattle.std.proofs.Common.{Bool, List, None, Some, [], ap, append-nil, append_assoc, arith, drop, false, inl, inr}
-use Rattle.std.proofs.Common.{length, length-append, map, refl, subst, suc, sym, take, true, zero, ℕ, ◌++◌, ◌+◌, ◌-◌}
-use Rattle.std.proofs.Common.{◌<◌, ◌^◌, ◌∙◌, ◌∷◌, ◌≡◌, ◌≤◌, ◌⊎◌}
+use Rattle.std.proofs.Common.{All, Bool, Contains, List, None, Ok, Result, Some, [], ap, append-nil, append_assoc}
+use Rattle.std.proofs.Common.{arith, drop, false, flat_map, get_or, if◌then◌else◌, inl, inr, length, length-append}
+use Rattle.std.proofs.Common.{length-drop, map, refl, slice_get, subst, suc, sym, take, take-append-drop, take-take}
+use Rattle.std.proofs.Common.{take_all, true, zero, ℕ, ◌++◌, ◌+◌, ◌-◌, ◌<◌, ◌^◌, ◌∙◌, ◌∷◌, ◌≡◌, ◌≤◌, ◌⊎◌}
 use Rattle.std.proofs.Math.Seq.{take-append-add}
 use Rattle.std.proofs.lemmas.Bool.{cases_lt}
 use Rattle.std.proofs.lemmas.Grind.{flat_map-append}
-use Rattle.std.proofs.lemmas.List.{length-drop, take-append-drop, take-append-le, take-take, take_all}
+use Rattle.std.proofs.lemmas.List.{take-append-le}
 use Rattle.std.proofs.lemmas.List.Elements.{All-get_or, All-map}
 use Rattle.std.proofs.lemmas.Option.{get_or_from_slice_get, slice_get-get_or, slice_get_within}
-use Rattle.std.specs.List.{Contains, flat_map}
-use Rattle.std.specs.Prelude.{All, Ok, Result, get_or, if◌then◌else◌, slice_get}
 
 -- ---- texts that are cut
 
@@ -72,7 +70,9 @@ module _ {X : Type 0} (text : X → List ℕ) where
 
   -- the first n bytes end so: the first text is cut, or those after it are
   cut_of : (xs : List X) (n : ℕ) → IsCut xs n
-  cut_of [] n = record { count = 0; rest = []; some_of = omega arith; spelt = take_all n [] (omega arith); inside = inl (refl, refl) }
+  cut_of [] n =
+      let none : take {A = ℕ} n [] ≡ [] = take_all n [] (omega arith) in
+      record { count = 0; rest = []; some_of = omega arith; spelt = none; inside = inl (refl, refl) }
   cut_of (x ∷ xs) n =
       elim (cases_lt n (length (text x))) [
         | inl less ↦ record {
@@ -114,17 +114,14 @@ legal_prefix owner h k legal before x later is =
 end_within : (owner : ℕ) (events : List (Event SealedEntry)) (k : ℕ) →
     end_of owner events k ≤ length (log_text owner events)
 end_within owner events k =
-    let all : flat_map record_text events ≡ flat_map record_text (take k events) ++ flat_map record_text (drop k events) =
+    let front = text_of (header_tree owner) in
+    let first = flat_map record_text (take k events) in
+    let last = flat_map record_text (drop k events) in
+    let all : flat_map record_text events ≡ first ++ last =
     ap (flat_map record_text) (sym (take-append-drop k events))
     ∙ flat_map-append record_text (take k events) (drop k events) in
-    let front = text_of (header_tree owner) in
-    omega (
-      arith,
-      ap length all,
-      length-append front (flat_map record_text events),
-      length-append front (flat_map record_text (take k events)),
-      length-append (flat_map record_text (take k events)) (flat_map record_text (drop k events)),
-    )
+    let long = length-append front (flat_map record_text events) in
+    omega (arith, ap length all, long, length-append front first, length-append first last)
 
 -- a whole log is what is left of it where nothing is gone
 pub whole_is_left : (owner : ℕ) (events : List (Event SealedEntry)) → IsLeftOf owner events (log_text owner events)
@@ -176,10 +173,10 @@ abbrev readings_of : List Kept → List (Result Kept EntryFault)
 readings_of ks = map (λ kept. Ok kept) ks
 
 -- they are of these events
-events_kept : (place : ℕ) (events : List (Event SealedEntry)) → map event_of (kept_from place events) ≡ events
-events_kept place [] = refl
-events_kept place (Sent e ∷ events) = ap (λ (xs : List (Event SealedEntry)). Sent e ∷ xs) (events_kept (place + 1) events)
-events_kept place (Got e ∷ events) = ap (λ (xs : List (Event SealedEntry)). Got e ∷ xs) (events_kept (place + 1) events)
+events_kept : (n : ℕ) (events : List (Event SealedEntry)) → map event_of (kept_from n events) ≡ events
+events_kept n [] = refl
+events_kept n (Sent e ∷ events) = ap (λ (xs : List (Event SealedEntry)). Sent e ∷ xs) (events_kept (n + 1) events)
+events_kept n (Got e ∷ events) = ap (λ (xs : List (Event SealedEntry)). Got e ∷ xs) (events_kept (n + 1) events)
 
 -- each record is at its place, the first one's being n
 abbrev AreAt : ℕ → List Kept → Type 0
@@ -273,13 +270,11 @@ module _ (posts : List Post) where
       inl (members_in (signed_tree e.entry e.signature), false, refl, (refl, refl, unseals_tree e valid))
 
   -- the trees of valid events are read as their records
-  all_given : (place : ℕ) (events : List (Event SealedEntry)) → AreValid events →
-      EachGives (IsReadSealed posts (election_of posts)) place (map tree_of events) (readings_of (kept_from place events))
-  all_given place [] valid = tt
-  all_given place (x ∷ events) valid = (
-    gives_kept place x (valid x (Contains-head x events)),
-    all_given (place + 1) events (later_valid x events valid),
-  )
+  all_given : (n : ℕ) (events : List (Event SealedEntry)) → AreValid events →
+      EachGives (IsReadSealed posts (election_of posts)) n (map tree_of events) (readings_of (kept_from n events))
+  all_given n [] valid = tt
+  all_given n (x ∷ events) valid =
+      (gives_kept n x (valid x (Contains-head x events)), all_given (n + 1) events (later_valid x events valid))
 
   -- the records of valid events keep within the limits of trees
   all_fit : (events : List (Event SealedEntry)) → AreValid events → All Fits (map tree_of events)
@@ -500,13 +495,9 @@ module _ (owner : ℕ) (events : List (Event SealedEntry)) (size : ℕ) where
   -- only one number of records is complete
   one_count : (k j : ℕ) → StandWhole owner events size k → StandWhole owner events size j → k ≡ j
   one_count k j one two =
-      elim (cases_lt k j) [
-        | inl less ↦ absurd (no_fewer k j one two less)
-        | inr le ↦ elim (cases_lt j k) [
-          | inl less ↦ absurd (no_fewer j k two one less)
-          | inr ge ↦ omega (arith, le, ge)
-        ]
-      ]
+      let not_less : k < j → ⊥ = no_fewer k j one two in
+      let not_more : j < k → ⊥ = no_fewer j k two one in
+      omega (arith, not_less, not_more)
 
 module _ (owner : ℕ) (events : List (Event SealedEntry)) (bytes : List ℕ) (log other : LogRead)
     (one : IsPrefixRead owner events bytes log) (two : IsPrefixRead owner events bytes other) where

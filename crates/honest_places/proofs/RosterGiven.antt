@@ -7,8 +7,7 @@ use Rattle.evidence.specs.RosterFile.{GivesRoster}
 use Rattle.evidence.specs.declared.roster_file.RosterRead.{RosterRead}
 use Rattle.honest_places.proofs.RosterTexts.{read_of_script, script_roster_given}
 use Rattle.honest_places.specs.Places.{IsRosterOf}
-use Rattle.std.proofs.Common.{List, Option, subst, ℕ, ◌≡◌}
-use Rattle.std.specs.Prelude.{Err, Ok, Result}
+use Rattle.std.proofs.Common.{Err, List, Ok, Option, Result, subst, ℕ, ◌≡◌}
 
 module _ (script : Script) (w : World SealedEntry) (roster : Option (List ℕ)) (is : IsRosterOf script w roster)
     (name : List ℕ) where

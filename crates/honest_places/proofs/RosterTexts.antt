@@ -22,10 +22,9 @@ use Rattle.roster.specs.RosterText.{HasKey, post_tree, role_word, roster_tree}
 use Rattle.roster.specs.declared.post.Post.{Post}
 use Rattle.roster.specs.declared.post.Role.{Role}
 use Rattle.roster.specs.declared.post.Role.TheVariants.{Booth, Supervisor}
-use Rattle.std.proofs.Common.{List, Some, [], ap, arith, inl, inr, length, length-append, map, refl, subst, sym, ℕ, ◌*◌}
-use Rattle.std.proofs.Common.{◌∙◌, ◌∷◌, ◌≡◌, ◌≤◌}
+use Rattle.std.proofs.Common.{All, IsOkAnd, List, Ok, Result, Some, [], ap, arith, codes, inl, inr, length}
+use Rattle.std.proofs.Common.{length-append, map, refl, subst, sym, ℕ, ◌*◌, ◌∙◌, ◌∷◌, ◌≡◌, ◌≤◌}
 use Rattle.std.proofs.lemmas.List.Elements.{All-head, All-tail}
-use Rattle.std.specs.Prelude.{All, IsOkAnd, Ok, Result, codes}
 
 -- a machine's text has at most 200 bytes
 posts_short : (machines : List Post) → All (λ (post : Post). IsName post.name) machines → All HasKey machines →

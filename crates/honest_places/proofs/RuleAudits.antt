@@ -27,15 +27,14 @@ use Rattle.rule_meaning.specs.Sound.{HasNoDouble}
 use Rattle.rule_meaning.specs.Tests.{has_kind}
 use Rattle.rule_meaning.specs.Values.{three_in}
 use Rattle.rule_meaning.specs.Widths.{count_of_rows, is_too_wide, quantified_kind, widens_by}
-use Rattle.std.proofs.Common.{Bool, List, None, Option, Some, [], ap, arith, cond, false, length, map, refl, suc, true}
-use Rattle.std.proofs.Common.{zero, ℕ, ◌*◌, ◌+◌, ◌∙◌, ◌∷◌, ◌≡◌, ◌≢◌, ◌≤◌}
-use Rattle.std.proofs.Math.Nat.{mul-le-mul_left, mul-le-mul_right}
-use Rattle.std.proofs.lemmas.Bool.{le-ltb, ltb-false, or_from, or_parts}
+use Rattle.std.proofs.Common.{Bool, Contains, List, None, Option, Some, [], ap, arith, cond, false, filter, le-ltb}
+use Rattle.std.proofs.Common.{length, ltb-false, map, mul-le-mul_left, mul-le-mul_right, nat_lt, refl, suc, true, zero}
+use Rattle.std.proofs.Common.{ℕ, ◌*◌, ◌+◌, ◌||◌, ◌∙◌, ◌∷◌, ◌≡◌, ◌≢◌, ◌≤◌}
+use Rattle.std.proofs.lemmas.Bool.{or_from, or_parts}
 use Rattle.std.proofs.lemmas.List.{length-map}
-use Rattle.std.proofs.lemmas.List.Folds.{fold-map}
 use Rattle.std.proofs.lemmas.List.Sums.{count_by-le-length, length-filter}
-use Rattle.std.specs.List.{Contains, filter, list_any}
-use Rattle.std.specs.Prelude.{nat_lt, ◌||◌}
+use Rattle.std.specs.List.{list_any}
+use Rattle.std.proofs.lemmas.List.Folds.{fold-map}
 use Rattle.survivor_rows.specs.Rows.{row_of}
 use Rattle.rule_language.specs.declared.kind.Kind.TheVariants as kind
 

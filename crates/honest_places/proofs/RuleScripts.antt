@@ -16,7 +16,6 @@ use Rattle.entry_order.specs.World.{history}
 use Rattle.entry_order.specs.declared.event.Event.{Event}
 use Rattle.entry_order.specs.declared.event.Event.TheVariants.{Got, Sent}
 use Rattle.honest_places.proofs.LogScripts.{MaySendAt, could_send, scripts_are_honest}
-use Rattle.honest_places.proofs.Pasts.{may}
 use Rattle.honest_places.proofs.RuleAudits.{honest_audits_never_say_broken, honest_audits_say_kept}
 use Rattle.honest_places.proofs.RuleAudits.{standard_rules_are_narrow}
 use Rattle.honest_places.proofs.Rules.{honest_entries_have_no_early_end, honest_entries_keep_the_rules}
@@ -34,11 +33,10 @@ use Rattle.polling_world.specs.Rules.{RoleRefuses}
 use Rattle.polling_world.specs.Sending.{MaySend}
 use Rattle.polling_world.specs.Worlds.{machine_of, world_of}
 use Rattle.roster.specs.declared.post.Role.{Role}
-use Rattle.std.proofs.Common.{List, Some, ap, arith, length, subst, sym, ℕ, ◌++◌, ◌∙◌, ◌∷◌, ◌≡◌}
+use Rattle.std.proofs.Common.{Contains, List, Ok, Some, ap, arith, length, option_map, slice_get, subst, sym, ℕ, ◌++◌}
+use Rattle.std.proofs.Common.{◌∙◌, ◌∷◌, ◌≡◌}
 use Rattle.std.proofs.lemmas.List.{length-map}
 use Rattle.std.proofs.lemmas.Option.{slice_get-map}
-use Rattle.std.specs.List.{Contains}
-use Rattle.std.specs.Prelude.{Ok, option_map, slice_get}
 use Rattle.survivor_rows.specs.Rows.{role_in}
 
 module _ (script : Script) (lawful : IsLawful script) where

@@ -1,7 +1,8 @@
 -- Each standard rule holds of entries that an honest polling place sent.
-use Rattle.deed_history.proofs.Deciding.{activates_decides, authorises, authorises_booth_decides, authorises_decides}
-use Rattle.deed_history.proofs.Deciding.{commits, commits_decides, commits_to_decides, ends, ends_decides}
+use Rattle.deed_history.proofs.Deciding.{activates_decides, authorises_booth_decides, authorises_decides}
+use Rattle.deed_history.proofs.Deciding.{commits_decides, commits_to_decides, ends_decides}
 use Rattle.deed_history.proofs.Deciding.{opened_decides}
+use Rattle.booth_core.specs.Causes.{HasCommittedTo, IsAuthorised}
 use Rattle.deed_history.specs.Deeds.{Authorises, Ends, Overrides}
 use Rattle.deed_history.specs.Held.{HoldsOwn}
 use Rattle.entry_format.specs.Deeds.{IsDeedOf}
@@ -15,7 +16,6 @@ use Rattle.entry_order.proofs.Honest.{honest_entries_agree_in_orderly_worlds, no
 use Rattle.entry_order.proofs.Lists.{Contains-cons_cases, Contains-head, Contains-map, Contains-none}
 use Rattle.entry_order.proofs.Orders.{next_of}
 use Rattle.entry_order.proofs.Places.{element_at}
-use Rattle.entry_order.specs.Ancestors.{before}
 use Rattle.entry_order.specs.History.{entry_of, held, sent}
 use Rattle.entry_order.specs.Naming.{Distinct}
 use Rattle.entry_order.specs.Precedes.{Precedes}
@@ -40,14 +40,13 @@ use Rattle.rule_language.specs.Trees.{RuleTree, Trees}
 use Rattle.rule_language.specs.declared.kind.Kind.{Kind}
 use Rattle.rule_meaning.specs.Meaning.{Holds, SomeHolds}
 use Rattle.rule_meaning.specs.Tests.{is_kind, is_role}
-use Rattle.std.proofs.Common.{List, None, Option, Some, [], ap, append_assoc, arith, inl, inr, length, refl, subst, suc}
-use Rattle.std.proofs.Common.{sym, true, zero, ℕ, ◌++◌, ◌+◌, ◌<◌, ◌∙◌, ◌∷◌, ◌≡◌, ◌⊎◌}
-use Rattle.std.proofs.lemmas.Bool.{and_from, eq-eqb, eqb-true}
-use Rattle.std.proofs.lemmas.List.Elements.{Contains-append_right}
+use Rattle.std.proofs.Common.{Contains, IsTrue, List, None, Option, Some, [], ap, append_assoc, arith, bytes_eq, eq-eqb}
+use Rattle.std.proofs.Common.{eqb-true, inl, inr, length, refl, slice_get, subst, suc, sym, true, zero, ℕ, ◌&&◌, ◌++◌}
+use Rattle.std.proofs.Common.{◌+◌, ◌<◌, ◌==◌, ◌∙◌, ◌∷◌, ◌≡◌, ◌⊎◌}
+use Rattle.std.proofs.lemmas.Bool.{and_from}
+use Rattle.std.proofs.lemmas.List.Elements.{All-contains, All-from_recursion, Contains-append_right}
+use Rattle.std.specs.List.{AllByRecursion}
 use Rattle.std.proofs.lemmas.Slice.Eq.{bytes_eq-Decides}
-use Rattle.std.specs.List.{Contains}
-use Rattle.std.specs.Prelude.{IsTrue, slice_get, ◌&&◌, ◌==◌}
-use Rattle.std.specs.Str.{bytes_eq}
 use Rattle.survivor_rows.specs.Rows.{ballot_of, booth_of, kind_of, role_in, row_of, session_of}
 use Rattle.entry_format.specs.declared.deed.Deed.TheVariants as deed
 use Rattle.entry_format.specs.declared.deed.How.TheVariants as how
@@ -162,20 +161,6 @@ module _ {posts : List Post} {w : World SealedEntry} (honest : IsHonest posts w)
 
 -- ---- the rules
 
--- what holds of each member, one after another
-abbrev Each : {X : Type 0} → (X → Type 0) → List X → Type 0
-Each P [] = Unit {0}
-Each P (x ∷ xs) = P x × Each P xs
-
--- so it holds of any member
-each_member : {X : Type 0} (P : X → Type 0) (xs : List X) → Each P xs → (x : X) → Contains xs x → P x
-each_member P [] all x c = absurd (Contains-none x c)
-each_member P (y ∷ xs) all x c =
-    elim (Contains-cons_cases y xs x c) [
-      | inl same ↦ subst P same all.0
-      | inr later ↦ each_member P xs all.1 x later
-    ]
-
 -- both
 both : {A B : Type 0} → A → B → A × B
 both a b = (a, b)
@@ -218,7 +203,8 @@ module _ {posts : List Post} {w : World SealedEntry} (honest : IsHonest posts w)
       IsDeedOf role (deed_like k e.entry.deed) →
       (role_at posts e.entry.maker ≡ role)
       × IsFree role e.entry.maker (sent_of e ce).past (deed_like k e.entry.deed)
-  free role k e ce ke of = allowed honest role e (sent_of e ce) (deed_like k e.entry.deed) (of_kind k e.entry.deed ke) of
+  free role k e ce ke =
+      allowed honest role e (sent_of e ce) (deed_like k e.entry.deed) (of_kind k e.entry.deed ke)
 
   -- ---- rules of one entry alone
 
@@ -297,29 +283,27 @@ module _ {posts : List Post} {w : World SealedEntry} (honest : IsHonest posts w)
       let (f, before, (_, is)) = own_asked honest distinct opened_decides e (sent_of e ce) (were_sent e ce) opened in
       (f, ap (λ d. is_kind kind.Opened (kind_of d)) is, before, tt)
 
-  -- the authorising that names e's maker, as rules see it
-  seen_authorised : (e : SealedEntry) → AuthorisedBefore honest distinct e (session_of e.entry.deed) →
+  -- an authorising of the session for its maker precedes what asks for one
+  after_authorising : (e : SealedEntry) (ce : Contains S e) →
+      ((IsAuthorised e.entry.maker (entries_in (sent_of e ce).past) (session_of e.entry.deed) → ⊥) → ⊥) →
       (f : SealedEntry) × IsOf kind.Authorise f.entry.deed × Precedes node_of_sealed (sent_in w) f e
       × (IsTrue (session_of f.entry.deed == session_of e.entry.deed)
       × (IsTrue (booth_of f.entry.deed == e.entry.maker) × Unit {0}))
-  seen_authorised e (f, before, is) =
-      let session = eq-eqb (session_of f.entry.deed) (session_of e.entry.deed) (ap session_of is) in
+  after_authorising e ce named =
+      let n = session_of e.entry.deed in
+      let (f, before, is) =
+      any_asked honest distinct (authorises_booth_decides e.entry.maker n) e (sent_of e ce) (were_sent e ce) named in
+      let session = eq-eqb (session_of f.entry.deed) n (ap session_of is) in
       let booth = eq-eqb (booth_of f.entry.deed) e.entry.maker (ap booth_of is) in
       (f, ap (λ d. is_kind kind.Authorise (kind_of d)) is, before, (session, (booth, tt)))
 
   -- a booth activates what it is authorised for
   rule_a1 : Rule a1_body
-  rule_a1 e ce ke =
-      let (_, (named, _)) = free Booth kind.Activate e ce ke refl in
-      seen_authorised e (any_asked honest distinct (authorises_booth_decides e.entry.maker (session_of e.entry.deed)) e
-      (sent_of e ce) (were_sent e ce) named)
+  rule_a1 e ce ke = after_authorising e ce (free Booth kind.Activate e ce ke refl).1.0
 
   -- a booth cancels what it is authorised for
   rule_c5 : Rule c5_body
-  rule_c5 e ce ke =
-      let (_, (named, _)) = free Booth kind.Cancel e ce ke refl in
-      seen_authorised e (any_asked honest distinct (authorises_booth_decides e.entry.maker (session_of e.entry.deed)) e
-      (sent_of e ce) (were_sent e ce) named)
+  rule_c5 e ce ke = after_authorising e ce (free Booth kind.Cancel e ce ke refl).1.0
 
   -- a booth commits in a session that it activated
   rule_c1 : Rule c1_body
@@ -331,31 +315,30 @@ module _ {posts : List Post} {w : World SealedEntry} (honest : IsHonest posts w)
       let own = eq-eqb f.entry.maker e.entry.maker maker in
       (f, ap (λ d. is_kind kind.Activate (kind_of d)) is, before, (own, (session, tt)))
 
-  -- the booth's own commitment, as rules see it
-  seen_committed : (e : SealedEntry) →
-      CommittedBefore honest distinct e (session_of e.entry.deed) (ballot_of e.entry.deed) →
+  -- its maker's commitment to the ballot precedes what asks for one
+  after_commitment : (e : SealedEntry) (ce : Contains S e) →
+      ((HasCommittedTo e.entry.maker (entries_in (sent_of e ce).past) (session_of e.entry.deed)
+      (ballot_of e.entry.deed) → ⊥) → ⊥) →
       (f : SealedEntry) × IsOf kind.Commit f.entry.deed × Precedes node_of_sealed (sent_in w) f e
       × (IsTrue (f.entry.maker == e.entry.maker) × (IsTrue (session_of f.entry.deed == session_of e.entry.deed)
       × (IsTrue (bytes_eq (ballot_of f.entry.deed) (ballot_of e.entry.deed)) × Unit {0})))
-  seen_committed e (f, before, (maker, is)) =
+  after_commitment e ce bound =
+      let n = session_of e.entry.deed in
+      let x = ballot_of e.entry.deed in
+      let (f, before, (maker, is)) =
+      own_asked honest distinct (commits_to_decides n x) e (sent_of e ce) (were_sent e ce) bound in
       let own = eq-eqb f.entry.maker e.entry.maker maker in
-      let session = eq-eqb (session_of f.entry.deed) (session_of e.entry.deed) (ap session_of is) in
-      let ballot = (bytes_eq-Decides (ballot_of f.entry.deed) (ballot_of e.entry.deed)).1 (ap ballot_of is) in
+      let session = eq-eqb (session_of f.entry.deed) n (ap session_of is) in
+      let ballot = (bytes_eq-Decides (ballot_of f.entry.deed) x).1 (ap ballot_of is) in
       (f, ap (λ d. is_kind kind.Commit (kind_of d)) is, before, (own, (session, (ballot, tt))))
 
   -- a booth casts what it committed to
   rule_c2 : Rule c2_body
-  rule_c2 e ce ke =
-      let (_, (bound, _)) = free Booth kind.Cast e ce ke refl in
-      seen_committed e (own_asked honest distinct (commits_to_decides (session_of e.entry.deed) (ballot_of e.entry.deed))
-      e (sent_of e ce) (were_sent e ce) bound)
+  rule_c2 e ce ke = after_commitment e ce (free Booth kind.Cast e ce ke refl).1.0
 
   -- a booth challenges what it committed to
   rule_c6 : Rule c6_body
-  rule_c6 e ce ke =
-      let (_, (bound, _)) = free Booth kind.Challenge e ce ke refl in
-      seen_committed e (own_asked honest distinct (commits_to_decides (session_of e.entry.deed) (ballot_of e.entry.deed))
-      e (sent_of e ce) (were_sent e ce) bound)
+  rule_c6 e ce ke = after_commitment e ce (free Booth kind.Challenge e ce ke refl).1.0
 
   -- an authorising of the session precedes an override of it
   authorised_before : (e : SealedEntry) → Contains S e → (h : How) →
@@ -397,17 +380,13 @@ module _ {posts : List Post} {w : World SealedEntry} (honest : IsHonest posts w)
       (of_kind kind.Authorise e.entry.deed ke) in
       let (g, earlier, is_end) = any_asked honest distinct (ends_decides n) f (sent_of f cf) (were_sent f cf)
       (λ running. none_left (_, (n, (held, running)))) in
-      let session = λ (d : Deed) (is : g.entry.deed ≡ d). eq-eqb (session_of g.entry.deed) (session_of d) (ap session_of is) in
+      let seen = λ (d : Deed) (is : g.entry.deed ≡ d).
+      eq-eqb (session_of g.entry.deed) (session_of d) (ap session_of is) in
+      let of = λ (k : Kind) (d : Deed) (is : g.entry.deed ≡ d). ap (λ d. is_kind k (kind_of d)) is in
       elim is_end [
-        | inl (ballot, cast) ↦ inl (g, ap (λ d. is_kind kind.Cast (kind_of d)) cast, earlier, session _ cast)
-        | inr (inl cancel) ↦
-            inr (inl (g, ap (λ d. is_kind kind.Cancel (kind_of d)) cancel, earlier, session _ cancel))
-        | inr (inr (ballot, challenge)) ↦ inr (inr (inl (
-          g,
-          ap (λ d. is_kind kind.Challenge (kind_of d)) challenge,
-          earlier,
-          session _ challenge,
-        )))
+        | inl (_, cast) ↦ inl (g, of kind.Cast _ cast, earlier, seen _ cast)
+        | inr (inl cancel) ↦ inr (inl (g, of kind.Cancel _ cancel, earlier, seen _ cancel))
+        | inr (inr (_, challenge)) ↦ inr (inr (inl (g, of kind.Challenge _ challenge, earlier, seen _ challenge)))
       ]
 
   -- ---- rules that deny an earlier entry
@@ -505,7 +484,7 @@ module _ {posts : List Post} {w : World SealedEntry} (honest : IsHonest posts w)
           ))
 
   -- each standard rule holds
-  all_rules : Each (λ (rule : RuleTree). Rule rule.body) standard_rules
+  all_rules : AllByRecursion (λ (rule : RuleTree). Rule rule.body) standard_rules
   all_rules =
       let last = both rule_c6 (both rule_c7 (both rule_v3 (both rule_v4 tt))) in
       let chains = both rule_m1 (both rule_k1 (both rule_k2 last)) in
@@ -516,9 +495,9 @@ module _ {posts : List Post} {w : World SealedEntry} (honest : IsHonest posts w)
 
 -- each standard rule holds of entries that an honest place sent
 pub honest_entries_keep_the_rules : HonestEntriesKeepTheRules
-honest_entries_keep_the_rules posts w honest distinct S were_sent =
-    each_member (λ (rule : RuleTree). Holds node_of_sealed (row_of posts) S (sent_in w) rule.body) standard_rules
-    (all_rules honest distinct S were_sent)
+honest_entries_keep_the_rules posts w honest distinct S were_sent rule =
+    let P : RuleTree → Type 0 = λ rule. Holds node_of_sealed (row_of posts) S (sent_in w) rule.body in
+    All-contains P standard_rules rule (All-from_recursion P standard_rules (all_rules honest distinct S were_sent))
 
 -- what precedes another among some of the entries does so among all that were sent, and so no end of
 -- a session precedes an authorising of it

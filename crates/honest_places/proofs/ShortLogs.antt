@@ -28,15 +28,12 @@ use Rattle.log_files.specs.LogText.{header_tree}
 use Rattle.log_files.specs.Written.{log_text, record_text}
 use Rattle.roster.specs.Machines.{max_machines}
 use Rattle.roster.specs.declared.post.Post.{Post}
-use Rattle.std.proofs.Common.{List, [], ap, arith, inl, inr, length, length-append, map, ℕ, ◌*◌, ◌+◌, ◌<◌, ◌^◌, ◌∷◌}
-use Rattle.std.proofs.Common.{◌≤◌}
-use Rattle.std.proofs.lemmas.Fmt.{length-decimal-le}
+use Rattle.std.proofs.Common.{All, Contains, List, Ok, [], ap, arith, codes, decimal, flat_map, inl, inr, length}
+use Rattle.std.proofs.Common.{length-append, map, sum_by, ℕ, ◌*◌, ◌+◌, ◌<◌, ◌^◌, ◌∷◌, ◌≤◌}
 use Rattle.std.proofs.lemmas.List.Elements.{All-head, All-tail}
 use Rattle.std.proofs.lemmas.List.Sums.{sum_by-cons}
 use Rattle.std.proofs.lemmas.Nat.{mul-le}
-use Rattle.std.specs.Fmt.{decimal}
-use Rattle.std.specs.List.{Contains, flat_map, sum_by}
-use Rattle.std.specs.Prelude.{All, Ok, codes}
+use Rattle.std.proofs.lemmas.Fmt.{length-decimal-le}
 use Rattle.entry_format.specs.declared.deed.How.TheVariants as how
 
 -- ---- the text of an entry
@@ -74,17 +71,14 @@ deed_size version (Authorise booth session) is (low, small) =
 deed_size version Closed is small = omega (arith, length-append {A = ℕ}, atom (codes "closed") (omega arith))
 deed_size version (Activate session) is small =
     omega (arith, length-append {A = ℕ}, atom (codes "activate") (omega arith), number session small)
-deed_size version (Commit session ballot) is (small, hashed) =
-    let word = atom (codes "commit") (omega arith) in
-    omega (arith, length-append {A = ℕ}, word, number session small, digest ballot hashed)
-deed_size version (Cast session ballot) is (small, hashed) =
-    let word = atom (codes "cast") (omega arith) in
-    omega (arith, length-append {A = ℕ}, word, number session small, digest ballot hashed)
+deed_size version (Commit s ballot) is (small, hashed) =
+    omega (arith, length-append {A = ℕ}, atom (codes "commit") (omega arith), number s small, digest ballot hashed)
+deed_size version (Cast s ballot) is (small, hashed) =
+    omega (arith, length-append {A = ℕ}, atom (codes "cast") (omega arith), number s small, digest ballot hashed)
 deed_size version (Cancel session) is small =
     omega (arith, length-append {A = ℕ}, atom (codes "cancel") (omega arith), number session small)
-deed_size version (Challenge session ballot) is (small, hashed) =
-    let word = atom (codes "challenge") (omega arith) in
-    omega (arith, length-append {A = ℕ}, word, number session small, digest ballot hashed)
+deed_size version (Challenge s ballot) is (small, hashed) =
+    omega (arith, length-append {A = ℕ}, atom (codes "challenge") (omega arith), number s small, digest ballot hashed)
 deed_size version (Override session way) is small =
     let word = atom (codes "override") (omega arith) in
     omega (arith, length-append {A = ℕ}, word, number session small, how_size version way is)
@@ -93,8 +87,10 @@ deed_size version (Override session way) is small =
     how_size : (version : ℕ) (way : How) → IsVersion version →
         length (texts_of (forest_of (how_rest version way))) ≤ 12
     how_size version way (inl one) = rw one (omega arith)
-    how_size version how.Cancel (inr two) = rw two (omega (arith, length-append {A = ℕ}, atom (codes "cancel") (omega arith)))
-    how_size version how.Cast (inr two) = rw two (omega (arith, length-append {A = ℕ}, atom (codes "cast") (omega arith)))
+    how_size version how.Cancel (inr two) =
+        rw two (omega (arith, length-append {A = ℕ}, atom (codes "cancel") (omega arith)))
+    how_size version how.Cast (inr two) =
+        rw two (omega (arith, length-append {A = ℕ}, atom (codes "cast") (omega arith)))
 
 -- the signed text is the body's, the signature and a little more
 signed_size : (entry : Entry) → IsEntry entry → (key message signature : List ℕ) → Signs key message signature →
