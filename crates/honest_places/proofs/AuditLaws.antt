@@ -144,8 +144,9 @@ module _ (machines : List Post) (election : List ℕ) (names : List (List ℕ)) 
       let (verdicts, judged, same) =
       both_found (GivesVerdicts source (map (row_of machines) graph.survivors) (nodes_of graph) rules)
       (λ verdicts answer. answer ≡ Ok (report_on machines names logs graph rules verdicts)) report with_graph in
-      let here : report_on machines names logs graph rules verdicts ≡ report = cc in
-      subst (IsFound machines election names files source rules_file) here
+      let made = report_on machines names logs graph rules verdicts in
+      let here : made ≡ report = cc in
+      subst (IsFound machines election names files source rules_file) {x = made} here
       (found_on logs graph verdicts gives_logs gives_graph judged)
 
 module _ (script : Script) (w : World SealedEntry) (roster : Option (List ℕ)) (is : IsRosterOf script w roster)
@@ -267,29 +268,25 @@ module _ (script : Script) (w : World SealedEntry) (roster : Option (List ℕ)) 
       all_there whole =
           all_given w report.logs (files_have_all posts w world names files whole report.logs found.gives_logs)
 
-      -- so no line of the report is on anybody
-      accuses_nobody : AccusesNobody report
-      accuses_nobody =
+      -- a report on what is left of an honest place accuses nobody: no line of it is on anybody
+      report_honest : IsHonestReport script w names files report
+      report_honest =
           let each : (log : LogRead) → Contains report.logs log → IsReadIn w log =
           λ log. All-contains (IsReadIn w) report.logs log read in
           record {
-            no_refused = λ file log inside. ap (refused_lines file) (each log inside).read.none_refused;
-            no_malformed = λ log inside. not_malformed _ _ log.end (each log inside).read.ends;
-            no_break = λ file log inside. ap (break_line file) (each log inside).read.no_break;
-            no_stray = ap stray_lines graph_honest.no_stray;
-            no_fork = ap (fork_lines report.machines) graph_honest.no_fork;
+            machines = found.machines_are;
+            named = found.named;
+            each = each_is_read posts w world names files left report.logs found.gives_logs;
+            all = all_there;
+            graph = graph_honest;
+            accuses_nobody = record {
+              no_refused = λ file log inside. ap (refused_lines file) (each log inside).read.none_refused;
+              no_malformed = λ log inside. not_malformed _ _ log.end (each log inside).read.ends;
+              no_break = λ file log inside. ap (break_line file) (each log inside).read.no_break;
+              no_stray = ap stray_lines graph_honest.no_stray;
+              no_fork = ap (fork_lines report.machines) graph_honest.no_fork;
+            };
           }
-
-      -- a report on what is left of an honest place accuses nobody
-      report_honest : IsHonestReport script w names files report
-      report_honest = record {
-        machines = found.machines_are;
-        named = found.named;
-        each = each_is_read posts w world names files left report.logs found.gives_logs;
-        all = all_there;
-        graph = graph_honest;
-        accuses_nobody = accuses_nobody;
-      }
 
     module _ (report : AuditReport) (found : Found standard report) where
       -- w is an honest polling place

@@ -91,8 +91,7 @@ outcome_not_broken report each same =
 -- an end that isn't found unclean is clean
 end_clean : (end : End) → not (is_clean end) ≡ false → end ≡ Clean
 end_clean Clean is = refl
-end_clean (Torn at) is = cc
-end_clean (Malformed at why) is = cc
+end_clean end is = cc
 
 module _ (report : AuditReport) (kept : report.verdicts ≡ map (λ (rule : RuleTree). verdict.Kept) standard_rules) where
   -- where each rule is kept, the outcome hangs on the findings alone

@@ -99,17 +99,14 @@ module _ {T : Type 0} (node : T → Node) where
         let (x, there, is) = Contains-map_cases entry_of (history w m) e inside in
         rw is at (event_was_sent w orderly m x there)
 
-    -- a measure summed over what a machine holds is at most that over what was sent
-    held_sum : (f : T → ℕ) (m : ℕ) → sum_by f (held (history w m)) ≤ sum_by f (sent_in w)
-    held_sum f m =
-        sum_among node f (held (history w m)) (sent_in w) (held_apart m [] (history w m) (orderly.legal m))
-        (held_was_sent m)
+    -- no two entries that a machine holds have one digest
+    held_differ : (m : ℕ) → DigestsDiffer node (held (history w m))
+    held_differ m = held_apart m [] (history w m) (orderly.legal m)
 
     -- a machine holds no more entries than were sent
     pub few_held : (m : ℕ) → length (history w m) ≤ length (sent_in w)
     few_held m =
-        let apart = held_apart m [] (history w m) (orderly.legal m) in
-        let few = few_among node (held (history w m)) (sent_in w) apart (held_was_sent m) in
+        let few = few_among node (held (history w m)) (sent_in w) (held_differ m) (held_was_sent m) in
         omega (arith, few, length-map (history w m) entry_of)
 
   -- the machines from a place on name together at most as much as they hold
@@ -133,8 +130,10 @@ module _ {T : Type 0} (node : T → Node) where
   few_named w orderly m =
       let legal = λ (k : ℕ). let e : k ≡ 0 + k = omega arith in
       subst (λ (i : ℕ). IsLegal node i (history w k)) e (orderly.legal k) in
+      let all = all_named 0 (length (sent_in w)) w legal (few_held w orderly) in
       omega (
         arith,
-        all_named 0 (length (sent_in w)) w legal (few_held w orderly),
-        held_sum w orderly (λ e. length (node e).names) m,
+        all,
+        sum_among node (λ e. length (node e).names) (held (history w m)) (sent_in w)
+            (held_differ w orderly m) (held_was_sent w orderly m),
       )
