@@ -44,7 +44,7 @@ use Rattle.honest_places.specs.Places.{AreWholeFilesOf, IsRosterOf, IsWholeIn, f
 use Rattle.honest_places.specs.Refusals.{IsHonestRefusal}
 use Rattle.honest_places.specs.ReportLaws.{AuditsAreRefusedOnlySo, ReportsAccuseNobody, ReportsLeaveRulesOpen}
 use Rattle.honest_places.specs.ReportLaws.{ReportsSayNoneBroken, WholeReportsSayAllKept, WholeReportsShowDistinct}
-use Rattle.honest_places.specs.Reports.{AccusesNobody, IsHonestReport}
+use Rattle.honest_places.specs.Reports.{IsHonestReport}
 use Rattle.honest_places.specs.ReportsKept.{EndClean, SaysAllKept, SaysNoneBroken}
 use Rattle.honest_places.specs.RulesKept.{WereSentIn}
 use Rattle.honest_places.specs.WhatIsLeft.{AreReadIn, IsCutAt, IsReadIn}

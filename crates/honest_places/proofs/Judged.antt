@@ -13,7 +13,7 @@ use Rattle.honest_places.specs.Agreement.{IsHonestGraph}
 use Rattle.honest_places.specs.ReportsKept.{EndClean}
 use Rattle.honest_places.specs.WhatIsLeft.{AreReadIn, IsReadIn}
 use Rattle.log_files.specs.declared.plain_log.End.{End}
-use Rattle.log_files.specs.declared.plain_log.End.TheVariants.{Clean, Malformed, Torn}
+use Rattle.log_files.specs.declared.plain_log.End.TheVariants.{Clean}
 use Rattle.log_files.specs.declared.sealed_log.LogRead.{LogRead}
 use Rattle.rule_engine.specs.Verdicts.{IsJudged}
 use Rattle.rule_engine.specs.declared.verdict.Verdict.{Verdict}

@@ -2,7 +2,7 @@
 use Rattle.entry_order.proofs.Lists.{Contains-cons_cases, Contains-head, Contains-later, list_any_of, list_any_some}
 use Rattle.std.proofs.Common.{Bool, Contains, List, Some, [], ap, arith, cond, count_by, false, get_or-take, inl, inr}
 use Rattle.std.proofs.Common.{length-take, slice_get, subst, sym, take, true, ℕ, ◌<◌, ◌∙◌, ◌∷◌, ◌≡◌}
-use Rattle.std.proofs.lemmas.Bool.{cases_lt, false_from_ne_true, false≢true}
+use Rattle.std.proofs.lemmas.Bool.{false_from_ne_true, false≢true}
 use Rattle.std.proofs.lemmas.List.Elements.{All-contains, All-contains_itself, All-take}
 use Rattle.std.proofs.lemmas.List.Sums.{get_or-le-sum_by, sum_by_more_le}
 use Rattle.std.proofs.lemmas.Option.{get_or_from_slice_get, slice_get_within}

@@ -13,7 +13,7 @@ use Rattle.entry_format.specs.declared.deed.How.{How}
 use Rattle.entry_order.proofs.Completions.{before_in_completion}
 use Rattle.entry_order.proofs.Histories.{nth_split}
 use Rattle.entry_order.proofs.Honest.{honest_entries_agree_in_orderly_worlds, no_fork}
-use Rattle.entry_order.proofs.Lists.{Contains-cons_cases, Contains-head, Contains-map, Contains-none}
+use Rattle.entry_order.proofs.Lists.{Contains-head, Contains-map}
 use Rattle.entry_order.proofs.Orders.{next_of}
 use Rattle.entry_order.proofs.Places.{element_at}
 use Rattle.entry_order.specs.History.{entry_of, held, sent}
