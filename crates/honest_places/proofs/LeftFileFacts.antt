@@ -111,3 +111,6 @@ module _ (posts : List Post) (w : World SealedEntry) (honest : IsHonestWorld pos
   files_are_given (name ∷ names) (file ∷ files) left refusal (inr (log, rest)) =
       files_are_given names files (All-tail (IsFileOf w) file files left) refusal rest
   files_are_given names files left refusal gives = gives
+
+-- what files that are left of an honest world give
+pub ruleset files_give = (files_are_read, each_is_read, files_are_given)

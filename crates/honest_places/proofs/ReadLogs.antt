@@ -517,3 +517,6 @@ module _ (owner : ℕ) (events : List (Event SealedEntry)) (bytes : List ℕ) (l
   same_end =
       one_end (end_of owner events two.count) (length bytes) log.end other.end
       (subst (λ (n : ℕ). IsCutAt (end_of owner events n) (length bytes) log.end) counts one.ends) two.ends
+
+-- how what is left of logs is read
+pub ruleset logs_give = (read_in, log_in, all_read)

@@ -166,3 +166,6 @@ pub standard_rules_are_narrow : StandardRulesAreNarrow
 standard_rules_are_narrow posts w honest distinct few S were_sent single rule standard =
     rule_narrow (map (row_of posts) S) (few_of posts w honest distinct few S were_sent single) rule.body 1 1
     (omega arith) (none_passes (λ (r : RuleTree). exceeds r.body 1) standard_rules none_exceeds rule standard)
+
+-- what is known of an honest place by its entries alone
+pub ruleset rules_known = (honest_audits_never_say_broken, honest_audits_say_kept)

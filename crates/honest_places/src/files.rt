@@ -67,7 +67,7 @@ pub fn written_logs_are_of_their_world()
 
 /// What is left of the logs of an honest world, under its roster, gives logs that are read as what
 /// the machines did. None of them is refused, since each is within the limit of a log's file.
-#[tactic(auto, using(crate::proofs::LeftFileFacts::files_are_read, crate::proofs::LeftFileFacts::each_is_read, crate::proofs::LeftFileFacts::files_are_given))]
+#[tactic(auto, using(crate::proofs::LeftFileFacts::files_give))]
 pub fn left_files_give_their_logs()
     ensures read { (posts : List Post) (w : World SealedEntry) → IsHonestWorld posts w →
         (names : List (List ℕ)) (files : List (Option (List ℕ))) → AreFilesOf w files →

@@ -27,7 +27,7 @@ pub fn honest_entries_keep_the_rules()
 
 /// What is known of such entries by themselves never says that a standard rule is broken, and where
 /// all entries are given it says that each is kept.
-#[tactic(auto, using(crate::proofs::RuleAudits::honest_audits_never_say_broken, crate::proofs::RuleAudits::honest_audits_say_kept))]
+#[tactic(auto, using(crate::proofs::RuleAudits::rules_known))]
 pub fn honest_audits_say_kept()
     ensures never_broken { HonestAuditsNeverSayBroken }
     ensures kept { HonestAuditsSayKept }
