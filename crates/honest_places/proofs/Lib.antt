@@ -1,43 +1,17 @@
-mod LogImports
-pub mod Cuts
-pub mod ReadLogs
-pub mod OneReading
-pub mod Few
+pub mod Lists
 pub mod Given
-pub mod LeftInWorlds
-pub mod MadeValid
+pub mod ReadLogs
 pub mod LogScripts
 pub mod NamedOnce
-pub mod HeldSums
-pub mod TextSizes
 pub mod ShortLogs
 pub mod LeftFileFacts
-pub mod HonestGraphs
 pub mod HonestFiles
 pub mod RosterTexts
 pub mod PlayedFiles
-mod RuleImports
-pub mod Counts
-pub mod DeedKinds
 pub mod Pasts
-pub mod Causes
-pub mod Shapes
-pub mod EntryRules
-pub mod SupervisorRules
-pub mod BoothRules
-pub mod Ends
-pub mod Standard
+pub mod Rules
 pub mod RuleAudits
-pub mod Narrow
 pub mod RuleScripts
-pub mod SameHistories
-mod ReportImports
 pub mod RosterGiven
-pub mod Found
-pub mod Accused
 pub mod Judged
-pub mod NothingFound
-pub mod StandardRules
-pub mod OpenRules
-pub mod Refused
 pub mod AuditLaws

@@ -1,37 +1,157 @@
--- The machines of a script come to an honest world.
-use Rattle.honest_places.proofs.LogImports.{◌≡◌, ◌∙◌, ℕ, zero, suc, ◌+◌, ◌^◌, ◌<◌, ◌≤◌, ◌⊎◌, inl, inr, List, [], ◌∷◌}
-use Rattle.honest_places.proofs.LogImports.{length, map, Option, Some, None, refl, ap, sym, subst, arith, slice_get}
-use Rattle.honest_places.proofs.LogImports.{get_or, All, Contains, enumerate_from, flat_map, length-map, All-from_get_or}
-use Rattle.honest_places.proofs.LogImports.{Contains-get_or, slice_get_within, slice_get_cases, Event, Step, frontier}
-use Rattle.honest_places.proofs.LogImports.{WasSentAfter, held, sent, greatest_stamp, IsOrderly, Machine, World}
-use Rattle.honest_places.proofs.LogImports.{history_of, start, sent_in, IsLegalNext, play, frontier_entry, nth_split}
-use Rattle.honest_places.proofs.LogImports.{length_play, length_start, plays_are_made, was_sent, held_was_sent, next_of}
-use Rattle.honest_places.proofs.LogImports.{IsOrderly-play, IsOrderly-start, all_at, stamps_are_few, leaves_of, IsDeedOf}
-use Rattle.honest_places.proofs.LogImports.{IsDigest, IsDeedIn, IsEntry, node_of_sealed, SealedEntry, IsValid, Cast0}
-use Rattle.honest_places.proofs.LogImports.{Script, IsCast, IsDeedAmong, IsLawful, max_actions, Config, config_of}
-use Rattle.honest_places.proofs.LogImports.{script_configs, post_of, roster_of, election_of, entry_with, ComesTo, MaySend}
-use Rattle.honest_places.proofs.LogImports.{IsNextAt, IsNextOf, TellsNext, frontier_rises, few_in_frontier, may_follow}
-use Rattle.honest_places.proofs.LogImports.{key_in_roster, IsHonestWorld, length-id, max_machines}
-use Rattle.std.proofs.lemmas.List.{length-append}
-use Rattle.honest_places.proofs.MadeValid.{deed_lawful, length-digest, length-election, made_valid}
+-- The machines of a script come to an honest world: the entries that they make are valid under its
+-- roster.
+use Rattle.canonical_sexp.specs.Text.{text_of}
+use Rattle.election_script.specs.Lawful.{IsCast, IsDeedAmong, IsLawful, max_actions}
+use Rattle.election_script.specs.declared.script.Cast0.{Cast0}
+use Rattle.election_script.specs.declared.script.Script.{Script}
+use Rattle.entry_format.proofs.Keys.{signature_small, signature_some}
+use Rattle.entry_format.proofs.Limits.{signed_fits}
+use Rattle.entry_format.specs.Deeds.{IsDeedOf}
+use Rattle.entry_format.specs.EntryText.{IsDeed, IsDeedIn, IsDigest, IsEntry, body_tree}
+use Rattle.entry_format.specs.Nodes.{node_of_sealed}
+use Rattle.entry_format.specs.SealedEntry.{SealedEntry}
+use Rattle.entry_format.specs.Unsealing.{IsValid, key_at}
+use Rattle.entry_format.specs.declared.deed.Deed.{Deed}
+use Rattle.entry_format.specs.declared.deed.Deed.TheVariants.{Activate, Authorise, Cancel, Cast, Challenge, Closed}
+use Rattle.entry_format.specs.declared.deed.Deed.TheVariants.{Commit, Opened, Override}
+use Rattle.entry_order.proofs.FewStamps.{stamps_are_few}
+use Rattle.entry_order.proofs.Frontiers.{frontier_entry}
+use Rattle.entry_order.proofs.Histories.{nth_split}
+use Rattle.entry_order.proofs.Machines.{length_play, length_start}
+use Rattle.entry_order.proofs.MadePlays.{plays_are_made}
+use Rattle.entry_order.proofs.Orders.{held_was_sent, next_of, was_sent}
+use Rattle.entry_order.proofs.Places.{all_at, all_from_places, element_at, member_at}
+use Rattle.entry_order.proofs.Plays.{IsOrderly-play, IsOrderly-start}
+use Rattle.entry_order.specs.Ascending.{IsAscending}
+use Rattle.entry_order.specs.Frontier.{frontier}
+use Rattle.entry_order.specs.HeldBefore.{WasSentAfter}
+use Rattle.entry_order.specs.History.{greatest_stamp, held, sent}
+use Rattle.entry_order.specs.Receipt.{IsOrderly}
+use Rattle.entry_order.specs.World.{IsLegalNext, Machine, World, history, history_of, sent_in, start}
+use Rattle.entry_order.specs.declared.event.Event.{Event}
+use Rattle.entry_order.specs.declared.event.Event.TheVariants.{Sent}
+use Rattle.entry_order.specs.declared.step.Step.{Step}
+use Rattle.honest_places.specs.HonestWorld.{IsHonestWorld}
+use Rattle.lms_sign.proofs.Heights.{leaves_of}
+use Rattle.lms_sign.proofs.Signatures.{index-signed, signed_signs}
+use Rattle.lms_sign.specs.Height.{IsHeight}
+use Rattle.lms_sign.specs.Secret.{public_of, signed_by}
+use Rattle.lms_sign.specs.Signs.{Signs}
+use Rattle.polling_world.proofs.Histories.{few_in_frontier, frontier_rises}
+use Rattle.polling_world.proofs.MadeEntries.{may_follow}
+use Rattle.polling_world.proofs.Rosters.{key_in_roster, length-id}
+use Rattle.polling_world.specs.Configs.{Config, config_of, script_configs}
+use Rattle.polling_world.specs.Keys.{post_of, roster_of}
+use Rattle.polling_world.specs.Making.{election_of, entry_with, made}
+use Rattle.polling_world.specs.Playing.{ComesTo}
+use Rattle.polling_world.specs.Sending.{MaySend}
+use Rattle.polling_world.specs.Worlds.{IsNextAt, IsNextOf, TellsNext}
+use Rattle.roster.specs.Machines.{max_machines}
+use Rattle.roster.specs.declared.post.Post.{Post}
+use Rattle.sha2.proofs.Facts256.{length-sha256}
+use Rattle.std.proofs.Common.{All, Contains, List, None, Option, Some, [], ap, arith, flat_map, length, length-append}
+use Rattle.std.proofs.Common.{map, option_map, refl, slice_get, subst, suc, sym, zero, ℕ, ◌++◌, ◌+◌, ◌<◌, ◌^◌, ◌∙◌, ◌∷◌}
+use Rattle.std.proofs.Common.{◌≡◌, ◌≤◌}
+use Rattle.std.proofs.lemmas.List.{length-map}
+use Rattle.std.proofs.lemmas.Option.{slice_get_within}
+use Rattle.std.specs.List.{enumerate_from}
 
--- the configuration at a place, if there is a machine
-abbrev IsConfigAt : Script → List Cast0 → ℕ → ℕ → Option Config → Type 0
-IsConfigAt script casts n m o =
-    (o ≡ None) ⊎ ((cast : Cast0) × (slice_get casts m ≡ Some cast) × (o ≡ Some (config_of script (n + m) cast)))
+-- ---- entries that are made
 
--- the machine at a place is configured by the script's line there
-config_at : (script : Script) (casts : List Cast0) (n m : ℕ) →
-    IsConfigAt script casts n m (slice_get (map (λ at. config_of script at.0 at.1) (enumerate_from n casts)) m)
-config_at script [] n m = inl refl
-config_at script (cast ∷ casts) n zero =
-    let same : n ≡ n + 0 = omega arith in inr (cast, refl, ap (λ (k : ℕ). Some (config_of script k cast)) same)
-config_at script (cast ∷ casts) n (suc m) =
-    let same : n + 1 + m ≡ n + suc m = omega arith in
-    elim (config_at script casts (n + 1) m) [
-      | inl none ↦ inl none
-      | inr (c, at, is) ↦ inr (c, at, is ∙ ap (λ (k : ℕ). Some (config_of script k c)) same)
-    ]
+-- a script's deed can be written
+deed_lawful : (machines : List Cast0) (deed : Deed) → length machines ≤ max_machines →
+    IsDeedAmong machines deed → IsDeed deed
+deed_lawful machines Opened few is = tt
+deed_lawful machines (Authorise booth session) few ((cast, at, role), (least, most)) =
+    (omega (arith, few, slice_get_within machines booth cast at), omega (arith, most))
+deed_lawful machines (Override session how) few (least, most) = omega (arith, most)
+deed_lawful machines Closed few is = tt
+deed_lawful machines (Activate session) few (least, most) = omega (arith, most)
+deed_lawful machines (Commit session ballot) few ((least, most), digest, bytes) = (omega (arith, most), digest)
+deed_lawful machines (Cast session ballot) few ((least, most), digest, bytes) = (omega (arith, most), digest)
+deed_lawful machines (Cancel session) few (least, most) = omega (arith, most)
+deed_lawful machines (Challenge session ballot) few ((least, most), digest, bytes) = (omega (arith, most), digest)
+
+-- an election has the length of a digest
+length-election : (posts : List Post) → length (election_of posts) ≡ 32
+unfolding election_of
+length-election posts = length-sha256 _
+
+module _ (config : Config) (k stamp : ℕ) (names : List (List ℕ)) (deed : Deed) where
+  -- the digest of an entry that was made has 32 bytes
+  length-digest : length (made config k stamp names deed).digest ≡ 32
+  unfolding made
+  length-digest = length-sha256 _
+
+  -- an entry made with a key is valid where the maker has that key in the roster
+  made_valid : IsEntry (entry_with config k stamp names deed) → length names ≤ 16384 → IsAscending names →
+      IsHeight config.key.height → length config.key.id ≡ 16 → k < 2 ^ config.key.height →
+      config.number < length config.roster → public_of config.key ≡ key_at config.roster config.number →
+      IsValid config.roster (election_of config.roster) (made config k stamp names deed).text
+      (made config k stamp names deed)
+  unfolding made
+  made_valid lawful few rises height id unspent there key =
+      let entry = entry_with config k stamp names deed in
+      let message : List ℕ = text_of (body_tree entry) in
+      let public : List ℕ = public_of config.key in
+      let signature : List ℕ = signed_by (record config.key { next = k }) message in
+      let signs : Signs public message signature =
+      signed_signs config.key.kind config.key.height config.key.id config.key.seed k message height id unspent in
+      let small = signature_small public message signature signs in
+      record {
+        kept = record {
+          spelt = record {
+            lawful = lawful;
+            within = signed_fits entry signature lawful few (omega (arith, small));
+            spelt = refl;
+          };
+          rising = rises;
+          hashed = refl;
+          index = (
+            signature_some public message signature signs,
+            index-signed config.key.kind config.key.height config.key.id config.key.seed k message lawful.number,
+          );
+          signs = signs;
+        };
+        of_text = refl;
+        of_election = refl;
+        maker = there;
+        key = key;
+      }
+
+-- ---- what machines may send
+
+-- what a function of places and lines gives at a place
+configs_at : (f : ℕ → Cast0 → Config) (casts : List Cast0) (n m k : ℕ) → n + m ≡ k →
+    slice_get (map (λ at. f at.0 at.1) (enumerate_from n casts)) m ≡ option_map (f k) (slice_get casts m)
+configs_at f [] n m k is = refl
+configs_at f (cast ∷ casts) n zero k is =
+    let same : n ≡ k = omega (arith, is) in ap (λ (j : ℕ). Some (f j cast)) same
+configs_at f (cast ∷ casts) n (suc m) k is = configs_at f casts (n + 1) m k (omega (arith, is))
+
+-- the script's machine at a place may send this after the history
+abbrev pub MaySendAt : Script → ℕ → List (Event SealedEntry) → SealedEntry → Type 0
+MaySendAt script m h e =
+    (cast : Cast0) × (slice_get script.machines m ≡ Some cast) × MaySend (config_of script m cast) h e
+
+module _ (script : Script) (next : ℕ → List (Event SealedEntry) → Option SealedEntry)
+    (tells : TellsNext (script_configs script) next) where
+  -- what a machine sends next it may send
+  may_at : (m : ℕ) (h : List (Event SealedEntry)) (e : SealedEntry) → next m h ≡ Some e → MaySendAt script m h e
+  may_at m h e is =
+      by (slice_get script.machines m) refl
+      (subst (λ (o : Option Config). IsNextAt o h (next m h))
+      (configs_at (config_of script) script.machines 0 m m (omega arith)) (tells m h))
+    where
+      -- the same by whether there is a machine at the place
+      by : (o : Option Cast0) → slice_get script.machines m ≡ o →
+          IsNextAt (option_map (config_of script m) o) h (next m h) → MaySendAt script m h e
+      by None at none = let both : Some e ≡ None = sym is ∙ none in cc
+      by (Some cast) at told = (cast, at, subst (IsNextOf (config_of script m cast) h) is told)
+
+  -- so it follows in a legal history
+  next_lawful : IsLegalNext node_of_sealed next
+  next_lawful m h e is = let (cast, at, may) = may_at m h e is in may_follow (config_of script m cast) h e may
 
 -- where each machine sent no more entries than its script has actions, so did all
 sums_few : (w : World SealedEntry) (casts : List Cast0) → length w ≡ length casts →
@@ -43,178 +163,122 @@ sums_few (a ∷ w) [] count each = absurd (omega (arith, count))
 sums_few (a ∷ w) (cast ∷ casts) count each =
     let here = each zero a cast refl refl in
     let rest = sums_few w casts (omega (arith, count)) (λ m b c at there. each (suc m) b c at there) in
-    omega (
-      arith,
-      here,
-      rest,
-      length-append (sent a.history) (sent_in w),
-      length-append cast.actions (flat_map (λ (c : Cast0). c.actions) casts),
-    )
+    omega (arith, here, rest, length-append {A = SealedEntry}, length-append {A = Deed})
 
--- what is given to be sent may be sent
-may_of : (config : Config) (h : List (Event SealedEntry)) (o : Option SealedEntry) (e : SealedEntry) →
-    IsNextOf config h o → o ≡ Some e → MaySend config h e
-may_of config h None e told is = cc
-may_of config h (Some f) e told is = let same : f ≡ e = cc in subst (λ (g : SealedEntry). MaySend config h g) same told
+-- ---- the world of a script
 
-module _ (script : Script) (lawful : IsLawful script) (next : ℕ → List (Event SealedEntry) → Option SealedEntry)
-    (tells : TellsNext (script_configs script) next) where
-  -- the machine at a place may send this after the history
-  abbrev MaySendAt : ℕ → List (Event SealedEntry) → SealedEntry → Type 0
-  MaySendAt m h e =
-      (cast : Cast0) × (slice_get script.machines m ≡ Some cast) × MaySend (config_of script m cast) h e
+module _ (script : Script) (lawful : IsLawful script) (steps : List Step) (w : World SealedEntry)
+    (come : ComesTo script steps w) where
+  -- its histories are legal, and what was got was sent
+  orderly : IsOrderly node_of_sealed w
+  orderly =
+      subst (IsOrderly node_of_sealed) (sym come.2)
+      (IsOrderly-play node_of_sealed come.0 script.log (next_lawful script come.0 come.1)
+      (start (length script.machines)) steps (IsOrderly-start node_of_sealed (length script.machines)))
 
-  -- what a machine sends next it may send
-  may_at : (m : ℕ) (h : List (Event SealedEntry)) (e : SealedEntry) → next m h ≡ Some e → MaySendAt m h e
-  may_at m h e is =
-      elim (config_at script script.machines 0 m) [
-        | inl none ↦
-            (let told : next m h ≡ None =
-            subst (λ (o : Option Config). IsNextAt o h (next m h)) none (tells m h) in
-            let no : None ≡ Some e = sym told ∙ is in
-            cc)
-        | inr (cast, at, here) ↦
-            (let place : 0 + m ≡ m = omega arith in
-            let told : IsNextAt (Some (config_of script m cast)) h (next m h) =
-            subst (λ (o : Option Config). IsNextAt o h (next m h))
-            (here ∙ ap (λ (k : ℕ). Some (config_of script k cast)) place) (tells m h) in
-            (cast, at, may_of (config_of script m cast) h (next m h) e told is))
-      ]
+  -- it has a machine for each of the script's
+  one_each : length w ≡ length script.machines
+  one_each =
+      ap length come.2
+      ∙ length_play node_of_sealed come.0 script.log (start {T = SealedEntry} (length script.machines)) steps
+      ∙ length_start SealedEntry (length script.machines)
 
-  -- so it follows in a legal history
-  next_lawful : IsLegalNext node_of_sealed next
-  next_lawful m h e is = let (cast, at, may) = may_at m h e is in may_follow (config_of script m cast) h e may
+  -- who sent an entry could send it then
+  pub could_send : (m : ℕ) (past : List (Event SealedEntry)) (e : SealedEntry) (later : List (Event SealedEntry)) →
+      history w m ≡ past ++ Sent e ∷ later → MaySendAt script m past e
+  could_send m past e later is =
+      may_at script come.0 come.1 m past e
+      (plays_are_made node_of_sealed come.0 script.log (length script.machines) steps m past e later
+      (sym (ap (λ (v : World SealedEntry). history v m) come.2) ∙ is))
 
-  module _ (steps : List Step) where
-    -- what the machines come to by these steps
-    abbrev world : World SealedEntry
-    world = play node_of_sealed next script.log (start (length script.machines)) steps
+  -- a machine sent no more entries than it has actions
+  few_by_one : (m : ℕ) (a : Machine SealedEntry) (cast : Cast0) → slice_get w m ≡ Some a →
+      slice_get script.machines m ≡ Some cast → length (sent a.history) ≤ length cast.actions
+  few_by_one m a cast at there = by (length (sent a.history)) refl
+    where
+      -- the same by how many it sent: the last one is one of its actions
+      by : (n : ℕ) → length (sent a.history) ≡ n → n ≤ length cast.actions
+      by zero long = omega arith
+      by (suc n) long =
+          let (x, is) = element_at (sent a.history) n (omega (arith, long)) in
+          let (past, later, split, count) = nth_split a.history n x is in
+          let (other, stands, may) = could_send m past x later (ap history_of at ∙ split) in
+          let same : other ≡ cast = (let one : Some other ≡ Some cast = sym stands ∙ there in cc) in
+          let inside = slice_get_within other.actions (length (sent past)) may.deed may.action in
+          omega (arith, inside, count, ap (λ (c : Cast0). length c.actions) same)
 
-    -- the histories of that world are legal, and what was got was sent
-    orderly : IsOrderly node_of_sealed world
-    orderly =
-        IsOrderly-play node_of_sealed next script.log next_lawful (start (length script.machines)) steps
-        (IsOrderly-start node_of_sealed (length script.machines))
+  -- all together they sent no more than 4,096 entries
+  few_sent : length (sent_in w) ≤ max_actions
+  few_sent = let all = lawful.machines.in_all in omega (arith, all, sums_few w script.machines one_each few_by_one)
 
-    -- it has a machine for each of the script's
-    one_each : length world ≡ length script.machines
-    one_each =
-        length_play node_of_sealed next script.log (start {T = SealedEntry} (length script.machines)) steps
-        ∙ length_start SealedEntry (length script.machines)
+  -- what was sent a machine could send
+  was_sendable : (e : SealedEntry) → Contains (sent_in w) e →
+      (past : List (Event SealedEntry)) × (s : WasSentAfter w past e) × MaySendAt script s.0 past e
+  was_sendable e c =
+      let (past, (m, later, is)) = was_sent w e c in (past, (m, later, is), could_send m past e later is)
 
-    -- who sent an entry could send it then
-    sent_by : (e : SealedEntry) (past : List (Event SealedEntry)) → (s : WasSentAfter world past e) →
-        MaySendAt s.0 past e
-    sent_by e past (machine, later, is) =
-        may_at machine past e
-        (plays_are_made node_of_sealed next script.log (length script.machines) steps machine past e later is)
+  -- its digest is one
+  digest_long : (e : SealedEntry) → Contains (sent_in w) e → IsDigest e.digest
+  digest_long e c =
+      let (past, s, (cast, at, may)) = was_sendable e c in
+      ap (λ (f : SealedEntry). length f.digest) may.made
+      ∙ length-digest (config_of script s.0 cast) (length (sent past))
+      (1 + greatest_stamp node_of_sealed (held past)) (frontier node_of_sealed (held past)) may.deed
 
-    -- a machine sent no more entries than it has actions
-    few_by_one : (m : ℕ) (a : Machine SealedEntry) (cast : Cast0) → slice_get world m ≡ Some a →
-        slice_get script.machines m ≡ Some cast → length (sent a.history) ≤ length cast.actions
-    few_by_one m a cast at there = by (length (sent a.history)) refl
-      where
-        -- an entry that a machine sent is one of its actions
-        last : (n : ℕ) (x : SealedEntry) → slice_get (sent a.history) n ≡ Some x → n < length cast.actions
-        last n x is =
-            let (past, later, split, count) = nth_split a.history n x is in
-            let (other, stands, may) = sent_by x past (m, later, ap history_of at ∙ split) in
-            let same : other ≡ cast = (let one : Some other ≡ Some cast = sym stands ∙ there in cc) in
-            let inside = slice_get_within other.actions (length (sent past)) may.deed may.action in
-            omega (arith, inside, count, ap (λ (c : Cast0). length c.actions) same)
+  -- and so are those that it names
+  names_long : (e : SealedEntry) (past : List (Event SealedEntry)) → WasSentAfter w past e →
+      All IsDigest (frontier node_of_sealed (held past))
+  names_long e past s =
+      all_from_places IsDigest (frontier node_of_sealed (held past)) (λ i name at.
+      let (g, there, same) = frontier_entry node_of_sealed (held past) name
+      (member_at (frontier node_of_sealed (held past)) i name at) in
+      subst IsDigest same (digest_long g (held_was_sent node_of_sealed w orderly past e s g there)))
 
-        -- the same by how many it sent
-        by : (n : ℕ) → length (sent a.history) ≡ n → n ≤ length cast.actions
-        by zero long = omega arith
-        by (suc n) long =
-            elim (slice_get_cases (sent a.history) n).1 [
-              | inl there ↦ (let less = last n there.0 there.2 in omega (arith, less))
-              | inr past ↦ absurd (omega (arith, past.0, long))
-            ]
+  -- each entry that was sent is valid
+  valid : (e : SealedEntry) → Contains (sent_in w) e →
+      IsValid (roster_of script) (election_of (roster_of script)) e.text e
+  valid e c =
+      let (past, s, (cast, at, may)) = was_sendable e c in
+      let m : ℕ = s.0 in
+      let config = config_of script m cast in
+      let k = length (sent past) in
+      let stamp : ℕ = 1 + greatest_stamp node_of_sealed (held past) in
+      let names = frontier node_of_sealed (held past) in
+      let there : m < length script.machines = slice_get_within script.machines m cast at in
+      let few : length script.machines ≤ max_machines = lawful.machines.few.1 in
+      let actions : IsCast script.version script.machines cast =
+      all_at (IsCast script.version script.machines) script.machines m cast lawful.machines.actions at in
+      let deed =
+      all_at (λ d. IsDeedOf cast.role d × IsDeedIn script.version d × IsDeedAmong script.machines d) cast.actions k
+      may.deed actions may.action in
+      let next_stamp = (next_of node_of_sealed w orderly past e s).stamp in
+      let small = stamps_are_few node_of_sealed w orderly e c in
+      let unspent : k < 2 ^ script.height = may.unspent in
+      let entry : IsEntry (entry_with config k stamp names may.deed) = record {
+        version = lawful.version;
+        election = length-election (roster_of script);
+        maker = omega (arith, there, few);
+        number = omega (arith, unspent, (leaves_of script.height lawful.height).1);
+        stamp = omega (arith, small, few_sent, next_stamp);
+        names = names_long e past s;
+        deed = deed_lawful script.machines may.deed few deed.2;
+        of_version = deed.1;
+      } in
+      let some : length names ≤ 16384 =
+      (let room = may.room in let least = lawful.log.1 in omega (arith, few_in_frontier past, room, least)) in
+      subst (λ (f : SealedEntry). IsValid (roster_of script) (election_of (roster_of script)) f.text f) (sym may.made)
+      (made_valid config k stamp names may.deed entry some (frontier_rises (held past)) lawful.height
+      (length-id script.seed cast.name) unspent (omega (arith, there, length-map script.machines (post_of script)))
+      (key_in_roster script m cast at))
 
-    -- all together they sent no more than 4,096 entries
-    few_sent : length (sent_in world) ≤ max_actions
-    few_sent =
-        let all = lawful.machines.in_all in
-        omega (arith, all, sums_few world script.machines one_each few_by_one)
-
-    -- its digest is one
-    digest_long : (e : SealedEntry) → Contains (sent_in world) e → IsDigest e.digest
-    digest_long e c =
-        let (past, s) = was_sent world e c in
-        let (cast, at, may) = sent_by e past s in
-        ap (λ (f : SealedEntry). length f.digest) may.made
-        ∙ length-digest (config_of script s.0 cast) (length (sent past))
-        (1 + greatest_stamp node_of_sealed (held past)) (frontier node_of_sealed (held past)) may.deed
-
-    -- and so are those that it names
-    names_long : (e : SealedEntry) (past : List (Event SealedEntry)) → WasSentAfter world past e →
-        All IsDigest (frontier node_of_sealed (held past))
-    names_long e past s =
-        All-from_get_or IsDigest (frontier node_of_sealed (held past)) [] (λ i within.
-        let name = get_or (frontier node_of_sealed (held past)) i [] in
-        let (g, there, same) = frontier_entry node_of_sealed (held past) name
-        (Contains-get_or (frontier node_of_sealed (held past)) i [] within) in
-        subst IsDigest same
-        (digest_long g (held_was_sent node_of_sealed world orderly past e s g there)))
-
-    -- a stamp has 32 bits
-    stamp_small : (e : SealedEntry) → Contains (sent_in world) e → e.entry.stamp < 2 ^ 32
-    stamp_small e c = omega (arith, few_sent, stamps_are_few node_of_sealed world orderly e c)
-
-    -- each entry that was sent is valid
-    valid : (e : SealedEntry) → Contains (sent_in world) e →
-        IsValid (roster_of script) (election_of (roster_of script)) e.text e
-    valid e c =
-        let (past, s) = was_sent world e c in
-        let m : ℕ = s.0 in
-        let (cast, at, may) = sent_by e past s in
-        let config = config_of script m cast in
-        let k = length (sent past) in
-        let stamp : ℕ = 1 + greatest_stamp node_of_sealed (held past) in
-        let names = frontier node_of_sealed (held past) in
-        let there : m < length script.machines = slice_get_within script.machines m cast at in
-        let few : length script.machines ≤ max_machines = lawful.machines.few.1 in
-        let actions : IsCast script.version script.machines cast =
-        all_at (IsCast script.version script.machines) script.machines m cast lawful.machines.actions at in
-        let deed =
-        all_at (λ d. IsDeedOf cast.role d × IsDeedIn script.version d × IsDeedAmong script.machines d) cast.actions k
-        may.deed actions may.action in
-        let next_stamp = (next_of node_of_sealed world orderly past e s).stamp in
-        let unspent : k < 2 ^ script.height = may.unspent in
-        let entry : IsEntry (entry_with config k stamp names may.deed) = record {
-          version = lawful.version;
-          election = length-election (roster_of script);
-          maker = omega (arith, there, few);
-          number = omega (arith, unspent, (leaves_of script.height lawful.height).1);
-          stamp = (let small = stamp_small e c in omega (arith, small, next_stamp));
-          names = names_long e past s;
-          deed = deed_lawful script.machines may.deed few deed.2;
-          of_version = deed.1;
-        } in
-        let some : length names ≤ 16384 =
-        (let room = may.room in
-        let least = lawful.log.1 in
-        omega (arith, few_in_frontier past, room, least)) in
-        subst (λ (f : SealedEntry). IsValid (roster_of script) (election_of (roster_of script)) f.text f) (sym may.made)
-        (made_valid config k stamp names may.deed entry some (frontier_rises (held past)) lawful.height
-        (length-id script.seed cast.name) unspent (omega (arith, there, length-map script.machines (post_of script)))
-        (key_in_roster script m cast at))
-
-    -- so the world is an honest one
-    honest : IsHonestWorld (roster_of script) world
-    honest = record {
-      one_each = one_each ∙ sym (length-map script.machines (post_of script));
-      few_machines = (let few = lawful.machines.few.1 in
-          omega (arith, few, length-map script.machines (post_of script)));
-      few_sent = few_sent;
-      orderly = orderly;
-      valid = valid;
-    }
-
--- a script's machines come to an honest world
-pub scripts_are_honest : (script : Script) → IsLawful script → (steps : List Step) (w : World SealedEntry) →
-    ComesTo script steps w → IsHonestWorld (roster_of script) w
-scripts_are_honest script lawful steps w (next, tells, is) =
-    subst (λ (v : World SealedEntry). IsHonestWorld (roster_of script) v) (sym is)
-    (honest script lawful next tells steps)
+  -- so the world is an honest one
+  pub scripts_are_honest : IsHonestWorld (roster_of script) w
+  scripts_are_honest =
+      let few : length script.machines ≤ max_machines = lawful.machines.few.1 in
+      record {
+        one_each = one_each ∙ sym (length-map script.machines (post_of script));
+        few_machines = omega (arith, few, length-map script.machines (post_of script));
+        few_sent = few_sent;
+        orderly = orderly;
+        valid = valid;
+      }

@@ -1,12 +1,125 @@
--- What machines of an honest polling place held when they sent.
-use Rattle.std.proofs.Common.{[]}
-use Rattle.honest_places.proofs.RuleImports.{◌≡◌, ◌<◌, List, ◌∷◌, ◌++◌, ◌⊎◌, inl, inr, sym, ap, ◌∙◌, subst, arith}
-use Rattle.honest_places.proofs.RuleImports.{Contains, node_of_sealed, SealedEntry, Event, Sent, Distinct, held, entry_of}
-use Rattle.honest_places.proofs.RuleImports.{IsNext, Precedes, IsPath, WasSentAfter, World, history}
-use Rattle.honest_places.proofs.RuleImports.{sent_in, split_two, Contains-map, was_sent, held_was_sent, next_of}
-use Rattle.honest_places.proofs.RuleImports.{held_rises, named_held, one_order, Post, IsWholeHistory, IsHonest, MayAs}
-use Rattle.honest_places.proofs.RuleImports.{role_at, along}
+-- What machines of an honest polling place held when they sent, and what their rules then asked for.
+use Rattle.deed_history.proofs.Deciding.{holds_decides, own_decides}
+use Rattle.deed_history.specs.Deeds.{Ends}
+use Rattle.deed_history.specs.Held.{HoldsOwn, HoldsSome}
+use Rattle.entangled_log.proofs.Whole.{whole_or_not}
+use Rattle.entry_format.specs.Deeds.{IsDeedOf}
+use Rattle.entry_format.specs.Nodes.{node_of_sealed}
+use Rattle.entry_format.specs.SealedEntry.{SealedEntry}
+use Rattle.entry_format.specs.declared.deed.Deed.{Deed}
+use Rattle.entry_format.specs.declared.entry.Entry.{Entry}
+use Rattle.entry_order.proofs.Histories.{split_two}
+use Rattle.entry_order.proofs.Lists.{Contains-map, Contains-map_cases}
+use Rattle.entry_order.proofs.Orders.{along, held_rises, held_was_sent, named_held, next_of, one_order, was_sent}
+use Rattle.entry_order.specs.HeldBefore.{HeldBefore, WasSentAfter}
+use Rattle.entry_order.specs.History.{IsNext, entry_of, held}
+use Rattle.entry_order.specs.Naming.{Distinct}
+use Rattle.entry_order.specs.Precedes.{IsPath, Precedes}
+use Rattle.entry_order.specs.World.{World, history, sent_in}
+use Rattle.entry_order.specs.declared.event.Event.{Event}
+use Rattle.entry_order.specs.declared.event.Event.TheVariants.{Sent}
+use Rattle.honest_places.specs.Honest.{IsHonest, MayAs, role_at}
+use Rattle.item_list.specs.Causes.{IsFirstOf}
+use Rattle.polling_world.specs.Rules.{IsWholeHistory, RoleRefuses, entries_in}
+use Rattle.roster.specs.declared.post.Post.{Post}
+use Rattle.roster.specs.declared.post.Role.{Role}
+use Rattle.roster.specs.declared.post.Role.TheVariants.{Booth, Supervisor}
+use Rattle.rule_language.specs.declared.kind.Kind.{Kind}
+use Rattle.rule_meaning.specs.Tests.{is_kind}
+use Rattle.std.proofs.Common.{Any, Bool, Contains, Decides, Err, IsTrue, List, Ok, [], ap, arith, false, inl, inr, refl}
+use Rattle.std.proofs.Common.{subst, sym, true, ℕ, ◌++◌, ◌<◌, ◌∙◌, ◌∷◌, ◌≡◌, ◌⊎◌}
+use Rattle.survivor_rows.specs.Rows.{ballot_of, booth_of, kind_of, session_of}
+use Rattle.entry_format.specs.declared.deed.Deed.TheVariants as deed
+use Rattle.entry_format.specs.declared.deed.How.TheVariants as how
+use Rattle.rule_language.specs.declared.kind.Kind.TheVariants as kind
+use Rattle.supervisor_core.specs.Table as supervisor
+use Rattle.booth_core.specs.Table as booth
 use Rattle.entry_order.specs.HeldBefore.{HeldBefore.itself}
+
+-- ---- deeds and their kinds
+
+-- the deed of a kind that has the session, the ballot and the booth of d
+abbrev pub deed_like : Kind → Deed → Deed
+deed_like kind.Any d = d
+deed_like kind.Opened d = deed.Opened
+deed_like kind.Authorise d = deed.Authorise (booth_of d) (session_of d)
+deed_like kind.Override d = deed.Override (session_of d) how.Cancel
+deed_like kind.Forced d = deed.Override (session_of d) how.Cast
+deed_like kind.Closed d = deed.Closed
+deed_like kind.Activate d = deed.Activate (session_of d)
+deed_like kind.Commit d = deed.Commit (session_of d) (ballot_of d)
+deed_like kind.Cast d = deed.Cast (session_of d) (ballot_of d)
+deed_like kind.Cancel d = deed.Cancel (session_of d)
+deed_like kind.Challenge d = deed.Challenge (session_of d) (ballot_of d)
+
+-- a deed that a rule sees as of a kind is that one
+pub of_kind : (k : Kind) (d : Deed) → IsTrue (is_kind k (kind_of d)) → d ≡ deed_like k d
+of_kind kind.Any d h = refl
+of_kind kind.Opened deed.Opened h = refl
+of_kind kind.Authorise (deed.Authorise booth session) h = refl
+of_kind kind.Override (deed.Override session how.Cancel) h = refl
+of_kind kind.Forced (deed.Override session how.Cast) h = refl
+of_kind kind.Closed deed.Closed h = refl
+of_kind kind.Activate (deed.Activate session) h = refl
+of_kind kind.Commit (deed.Commit session ballot) h = refl
+of_kind kind.Cast (deed.Cast session ballot) h = refl
+of_kind kind.Cancel (deed.Cancel session) h = refl
+of_kind kind.Challenge (deed.Challenge session ballot) h = refl
+of_kind k (deed.Override session how.Cancel) h = cc
+of_kind k (deed.Override session how.Cast) h = cc
+of_kind k d h = cc
+
+-- a deed of casting ends its session
+pub cast_ends : (d : Deed) → IsTrue (is_kind kind.Cast (kind_of d)) → Ends (session_of d) d
+cast_ends d h = inl (ballot_of d, of_kind kind.Cast d h)
+
+-- a deed of cancelling ends its session
+pub cancel_ends : (d : Deed) → IsTrue (is_kind kind.Cancel (kind_of d)) → Ends (session_of d) d
+cancel_ends d h = inr (inl (of_kind kind.Cancel d h))
+
+-- a deed of challenging ends its session
+pub challenge_ends : (d : Deed) → IsTrue (is_kind kind.Challenge (kind_of d)) → Ends (session_of d) d
+challenge_ends d h = inr (inr (ballot_of d, of_kind kind.Challenge d h))
+
+-- a deed is one of one role
+one_role : (role other : Role) (d : Deed) → IsDeedOf role d → IsDeedOf other d → role ≡ other
+one_role role other deed.Opened a b = a ∙ sym b
+one_role role other d a b = a ∙ sym b
+
+-- ---- causes that don't apply
+
+-- none of the causes applies
+abbrev NoneApplies : {Cause : Type 0} → List (Type 0 × Cause) → Type 0
+NoneApplies [] = Unit {0}
+NoneApplies (cause ∷ row) = (cause.0 → ⊥) × NoneApplies row
+
+-- so it is where the answer is `Ok`
+none_applies : {Cause : Type 0} (row : List (Type 0 × Cause)) → IsFirstOf row (Ok tt) → NoneApplies row
+none_applies [] first = tt
+none_applies (cause ∷ row) (inl first) = let is : Ok tt ≡ Err cause.1 = first.1 in cc
+none_applies (cause ∷ row) (inr rest) = (rest.0, none_applies row rest.1)
+
+-- no cause of the role's table applies to a machine's deed after its past
+abbrev pub IsFree : Role → ℕ → List (Event SealedEntry) → Deed → Type 0
+IsFree Supervisor m past d = NoneApplies (supervisor.causes_of m (entries_in past) d)
+IsFree Booth m past d = NoneApplies (booth.causes_of m (entries_in past) (IsWholeHistory past) d)
+
+-- so it is where the rules of the role give none
+is_free : (role : Role) (m : ℕ) (past : List (Event SealedEntry)) (d : Deed) → RoleRefuses role m past d (Ok tt) →
+    IsFree role m past d
+is_free Supervisor m past d free = none_applies (supervisor.causes_of m (entries_in past) d) free
+is_free Booth m past d free = none_applies (booth.causes_of m (entries_in past) (IsWholeHistory past) d) free
+
+-- what isn't denied is so, where a test decides it
+sure : {b : Bool} {P : Type 0} → Decides b P → ((P → ⊥) → ⊥) → P
+sure {b = true} decides deny = decides.0 refl
+sure {b = false} decides deny = absurd (deny (λ p. let both : false ≡ true = decides.1 p in cc))
+
+-- a log is whole where it isn't denied, since a test decides it
+pub whole_for_sure : (h : List (Event SealedEntry)) → ((IsWholeHistory h → ⊥) → ⊥) → IsWholeHistory h
+whole_for_sure h deny = sure (whole_or_not node_of_sealed (held h)).1 deny
+
+-- ---- what was held
 
 -- e was sent by its maker, after this past
 pub record SentBy (w : World SealedEntry) (e : SealedEntry) : Type 0 where
@@ -16,8 +129,14 @@ pub record SentBy (w : World SealedEntry) (e : SealedEntry) : Type 0 where
   pub is : history w e.entry.maker ≡ past ++ Sent e ∷ later
 
 -- an entry was sent after all that its maker had held before it
-abbrev pub after : {w : World SealedEntry} (e : SealedEntry) (s : SentBy w e) → WasSentAfter w s.past e
+abbrev after : {w : World SealedEntry} (e : SealedEntry) (s : SentBy w e) → WasSentAfter w s.past e
 after e s = (e.entry.maker, s.later, s.is)
+
+-- an entry that was held, of which this is so, is one of those that are held
+held_any : (P : Entry → Type 0) (h : List (Event SealedEntry)) (f : SealedEntry) → Contains (held h) f → P f.entry →
+    Any P (entries_in h)
+held_any P h f c p =
+    let (k, within, is) = Contains-map (λ (s : SealedEntry). s.entry) (held h) f c in (k, f.entry, within, is, p)
 
 module _ {posts : List Post} {w : World SealedEntry} (honest : IsHonest posts w) where
   -- each entry was sent by its maker
@@ -35,13 +154,22 @@ module _ {posts : List Post} {w : World SealedEntry} (honest : IsHonest posts w)
   pub may : (e : SealedEntry) (s : SentBy w e) → MayAs (role_at posts e.entry.maker) e.entry.maker s.past e
   may e s = honest.allowed e.entry.maker s.past e s.later s.is
 
+  -- the maker of a deed has the role whose deed it is, and no cause of the role's table applies
+  pub allowed : (role : Role) (e : SealedEntry) (s : SentBy w e) (d : Deed) → e.entry.deed ≡ d → IsDeedOf role d →
+      (role_at posts e.entry.maker ≡ role) × IsFree role e.entry.maker s.past d
+  allowed role e s d is of =
+      let mine = role_at posts e.entry.maker in
+      let m = may e s in
+      let same : mine ≡ role = one_role mine role d (subst (IsDeedOf mine) is m.of_role) of in
+      let free = subst (λ (c : Deed). RoleRefuses mine e.entry.maker s.past c (Ok tt)) is m.no_cause in
+      (same, subst (λ (r : Role). IsFree r e.entry.maker s.past d) same (is_free mine e.entry.maker s.past d free))
+
   -- what its maker held was sent
-  pub held_too : (e : SealedEntry) (s : SentBy w e) (f : SealedEntry) → Contains (held s.past) f →
-      Contains (sent_in w) f
+  held_too : (e : SealedEntry) (s : SentBy w e) (f : SealedEntry) → Contains (held s.past) f → Contains (sent_in w) f
   held_too e s f c = held_was_sent node_of_sealed w honest.orderly s.past e (after e s) f c
 
   -- two entries of one maker are one, or one was held when the other was sent
-  pub two_of_one : (e f : SealedEntry) (s : SentBy w e) (t : SentBy w f) → e.entry.maker ≡ f.entry.maker →
+  two_of_one : (e f : SealedEntry) (s : SentBy w e) (t : SentBy w f) → e.entry.maker ≡ f.entry.maker →
       (e ≡ f) ⊎ (Contains (held t.past) e ⊎ Contains (held s.past) f)
   two_of_one e f s t same =
       let sent_same : Sent e ≡ Sent f → e ≡ f = λ u. cc in
@@ -51,7 +179,26 @@ module _ {posts : List Post} {w : World SealedEntry} (honest : IsHonest posts w)
         | inr (inr c) ↦ inr (inr (Contains-map entry_of s.past (Sent f) c))
       ]
 
+  -- where two entries of one maker are such, and neither maker held an own one when it sent, they
+  -- are one
+  pub one_alone : (IsSuch : Deed → Type 0) (e f : SealedEntry) (s : SentBy w e) (t : SentBy w f) →
+      e.entry.maker ≡ f.entry.maker → IsSuch e.entry.deed → IsSuch f.entry.deed →
+      (HoldsOwn e.entry.maker (entries_in s.past) IsSuch → ⊥) →
+      (HoldsOwn f.entry.maker (entries_in t.past) IsSuch → ⊥) → e ≡ f
+  one_alone IsSuch e f s t same first second none nor =
+      elim (two_of_one e f s t same) [
+        | inl u ↦ u
+        | inr (inl c) ↦
+            absurd (nor (held_any (λ n. (n.maker ≡ f.entry.maker) × IsSuch n.deed) t.past e c (same, first)))
+        | inr (inr c) ↦
+            absurd (none (held_any (λ n. (n.maker ≡ e.entry.maker) × IsSuch n.deed) s.past f c (sym same, second)))
+      ]
+
   module _ (distinct : Distinct node_of_sealed (sent_in w)) where
+    -- of entries that were sent, to precede is to be held before
+    ordered : (f e : SealedEntry) → Precedes node_of_sealed (sent_in w) f e → HeldBefore w f e
+    ordered f e p = (one_order node_of_sealed w honest.orderly distinct f e p.0 p.1).0 p
+
     -- what was held when e was sent precedes it
     pub held_precedes : (e : SealedEntry) (s : SentBy w e) (f : SealedEntry) → Contains (sent_in w) e →
         Contains (held s.past) f → Precedes node_of_sealed (sent_in w) f e
@@ -62,29 +209,25 @@ module _ {posts : List Post} {w : World SealedEntry} (honest : IsHonest posts w)
     pub precedes_through : (f g e : SealedEntry) → Precedes node_of_sealed (sent_in w) f g →
         Precedes node_of_sealed (sent_in w) g e → Precedes node_of_sealed (sent_in w) f e
     precedes_through f g e p q =
-        let here = (one_order node_of_sealed w honest.orderly distinct f g p.0 p.1).0 p in
-        let there = (one_order node_of_sealed w honest.orderly distinct g e q.0 q.1).0 q in
-        (one_order node_of_sealed w honest.orderly distinct f e p.0 q.1).1 (along w f g e here there)
+        (one_order node_of_sealed w honest.orderly distinct f e p.0 q.1).1
+        (along w f g e (ordered f g p) (ordered g e q))
 
     -- stamps rise from what precedes e to e
     pub before_lower : (f e : SealedEntry) → Precedes node_of_sealed (sent_in w) f e →
         f.entry.stamp < e.entry.stamp
-    before_lower f e p =
-        held_rises node_of_sealed w honest.orderly f e
-        ((one_order node_of_sealed w honest.orderly distinct f e p.0 p.1).0 p)
+    before_lower f e p = held_rises node_of_sealed w honest.orderly f e (ordered f e p)
 
-    -- an entry of the same maker that precedes e was held when e was sent
-    pub own_held : (f e : SealedEntry) (t : SentBy w f) (s : SentBy w e) → f.entry.maker ≡ e.entry.maker →
-        Precedes node_of_sealed (sent_in w) f e → Contains (held s.past) f
-    own_held f e t s same p =
+    -- an own entry with such a deed that precedes e was held when e was sent
+    pub own_was_held : (IsSuch : Deed → Type 0) (f e : SealedEntry) (t : SentBy w f) (s : SentBy w e) →
+        f.entry.maker ≡ e.entry.maker → Precedes node_of_sealed (sent_in w) f e → IsSuch f.entry.deed →
+        HoldsOwn e.entry.maker (entries_in s.past) IsSuch
+    own_was_held IsSuch f e t s same p such =
         let up : f.entry.stamp < e.entry.stamp = before_lower f e p in
         elim (two_of_one f e t s same) [
-          | inl u ↦ absurd (let at = ap (λ (x : SealedEntry). x.entry.stamp) u in omega arith)
-          | inr (inl c) ↦ c
-          | inr (inr c) ↦ absurd (
-              let down : e.entry.stamp < f.entry.stamp =
-              held_rises node_of_sealed w honest.orderly e f (itself t.past (after f t) c) in
-              omega arith)
+          | inl u ↦ absurd (let at = ap (λ (x : SealedEntry). x.entry.stamp) u in omega (arith, up, at))
+          | inr (inl c) ↦ held_any (λ n. (n.maker ≡ e.entry.maker) × IsSuch n.deed) s.past f c (same, such)
+          | inr (inr c) ↦
+              absurd (omega (arith, up, held_rises node_of_sealed w honest.orderly e f (itself t.past (after f t) c)))
         ]
 
     -- whoever held a whole log held each entry that has a path to what it sent
@@ -98,7 +241,37 @@ module _ {posts : List Post} {w : World SealedEntry} (honest : IsHonest posts w)
         let (named, was_held, same) = whole g (node_of_sealed f).digest last names in
         subst (Contains (held s.past)) (distinct named f (held_too e s named was_held) c same) was_held
 
-    -- whoever held a whole log held each entry that precedes what it sent
-    pub whole_held : (e : SealedEntry) (s : SentBy w e) → IsWholeHistory s.past → (f : SealedEntry) →
-        Precedes node_of_sealed (sent_in w) f e → Contains (held s.past) f
-    whole_held e s whole f (sent, _, between, path) = path_held e s whole f sent between path
+    -- no entry with such a deed precedes what is sent over a whole log that holds none
+    pub none_before_whole : (IsSuch : Deed → Type 0) (e : SealedEntry) (s : SentBy w e) →
+        ((IsWholeHistory s.past → ⊥) → ⊥) → (HoldsSome (entries_in s.past) IsSuch → ⊥) →
+        (f : SealedEntry) → Precedes node_of_sealed (sent_in w) f e → IsSuch f.entry.deed → ⊥
+    none_before_whole IsSuch e s whole none f (sent, _, between, path) such =
+        let sure = whole_for_sure s.past whole in
+        none (held_any (λ n. IsSuch n.deed) s.past f (path_held e s sure f sent between path) such)
+
+    -- where it is asked for that one is held of which this is so, one precedes what is sent
+    asked : (P : Entry → Type 0) (e : SealedEntry) (s : SentBy w e) → Contains (sent_in w) e → {b : Bool} →
+        Decides b (Any P (entries_in s.past)) → ((Any P (entries_in s.past) → ⊥) → ⊥) →
+        (f : SealedEntry) × Precedes node_of_sealed (sent_in w) f e × P f.entry
+    asked P e s ce decides deny =
+        let (k, x, within, is, p) = sure decides deny in
+        let (f, was_held, same) = Contains-map_cases (λ (s : SealedEntry). s.entry) (held s.past) x (k, within, is) in
+        (f, held_precedes e s f ce was_held, subst P (sym same) p)
+
+    -- where it is asked for that an entry with such a deed is held
+    pub any_asked : {test : Deed → Bool} {IsSuch : Deed → Type 0} → ((d : Deed) → Decides (test d) (IsSuch d)) →
+        (e : SealedEntry) (s : SentBy w e) → Contains (sent_in w) e →
+        ((HoldsSome (entries_in s.past) IsSuch → ⊥) → ⊥) →
+        (f : SealedEntry) × Precedes node_of_sealed (sent_in w) f e × IsSuch f.entry.deed
+    any_asked {test} {IsSuch} decides e s ce deny =
+        asked (λ n. IsSuch n.deed) e s ce (holds_decides test IsSuch decides (entries_in s.past)) deny
+
+    -- where it is asked for that an entry of the maker's own is held
+    pub own_asked : {test : Deed → Bool} {IsSuch : Deed → Type 0} → ((d : Deed) → Decides (test d) (IsSuch d)) →
+        (e : SealedEntry) (s : SentBy w e) → Contains (sent_in w) e →
+        ((HoldsOwn e.entry.maker (entries_in s.past) IsSuch → ⊥) → ⊥) →
+        (f : SealedEntry) × Precedes node_of_sealed (sent_in w) f e
+        × ((f.entry.maker ≡ e.entry.maker) × IsSuch f.entry.deed)
+    own_asked {test} {IsSuch} decides e s ce deny =
+        asked (λ n. (n.maker ≡ e.entry.maker) × IsSuch n.deed) e s ce
+        (own_decides e.entry.maker test IsSuch decides (entries_in s.past)) deny

@@ -1,397 +1,135 @@
--- What is left of a log is read as its events.
-use Rattle.honest_places.proofs.LogImports.{◌≡◌, ◌∙◌, ℕ, zero, suc, ◌+◌, ◌-◌, ◌^◌, ◌<◌, ◌≤◌, ◌⊎◌, inl, inr, true, false}
-use Rattle.honest_places.proofs.LogImports.{List, [], ◌∷◌, ◌++◌, length, map, take, drop, Some, None, refl, ap, sym, subst}
-use Rattle.honest_places.proofs.LogImports.{arith, append_assoc, slice_get, All, Contains, flat_map, flat_map-append}
-use Rattle.honest_places.proofs.LogImports.{cases_lt, take-append-drop, take-append-le, take_all, length-drop, All-nil}
-use Rattle.honest_places.proofs.LogImports.{All-cons, slice_get_within, get_or_from_slice_get, text_of, Fits}
-use Rattle.honest_places.proofs.LogImports.{IsProperPrefixOfText, one_tree, Event, Sent, Got, entry_of, held, IsLegal}
-use Rattle.honest_places.proofs.LogImports.{Contains-none, Contains-at, Contains-head, Contains-later, Contains-map}
-use Rattle.honest_places.proofs.LogImports.{Contains-cons_cases, member_at, taken_more, Post, EntryFault, signed_tree}
-use Rattle.honest_places.proofs.LogImports.{node_of_sealed, SealedEntry, Unseals, End, Clean, Torn, Malformed, Kept}
-use Rattle.honest_places.proofs.LogImports.{LogRead, header_tree, HasHeader, IsEnd, Gives, EachGives, kept_of, refused_of}
-use Rattle.honest_places.proofs.LogImports.{AreLog, event_of, BreaksAt, IsReadSealed, SaysSealed, record_text, log_text}
-use Rattle.honest_places.proofs.LogImports.{header_fits, breaks_once, one_said, IsLeftOf, IsPrefixRead, IsWholeRead}
-use Rattle.honest_places.proofs.LogImports.{StandWhole, IsCutAt, end_of, members_in, tree_of, records_fit, records_spelt}
-use Rattle.honest_places.proofs.LogImports.{one_sealed, kept_with}
-use Rattle.std.proofs.Common.{Result, Ok}
-use Rattle.std.proofs.Common.{append-nil, length-append}
-use Rattle.honest_places.proofs.Cuts.{IsCut, cut_of, take_after}
+-- What is left of a log is read as its events, in one way.
+use Rattle.canonical_sexp.proofs.Unique.{one_tree}
+use Rattle.canonical_sexp.specs.Text.{Fits, IsProperPrefixOfText, text_of}
+use Rattle.entry_format.proofs.Limits.{members_in}
+use Rattle.entry_format.specs.EntryText.{signed_tree}
+use Rattle.entry_format.specs.Nodes.{node_of_sealed}
+use Rattle.entry_format.specs.SealedEntry.{SealedEntry}
+use Rattle.entry_format.specs.Unsealing.{Unseals}
+use Rattle.entry_format.specs.declared.plain.EntryFault.{EntryFault}
+use Rattle.entry_order.proofs.Lists.{Contains-head, Contains-later}
+use Rattle.entry_order.proofs.Places.{all_from_places, member_at}
+use Rattle.entry_order.specs.History.{IsLegal, entry_of}
+use Rattle.entry_order.specs.World.{World, history}
+use Rattle.entry_order.specs.declared.event.Event.{Event}
+use Rattle.entry_order.specs.declared.event.Event.TheVariants.{Got, Sent}
+use Rattle.honest_places.proofs.Given.{event_was_sent}
+use Rattle.honest_places.proofs.Lists.{Contains-take}
+use Rattle.honest_places.specs.HonestWorld.{IsHonestWorld}
+use Rattle.honest_places.specs.WhatIsLeft.{AreLeftOf, AreReadIn, IsCutAt, IsLeftIn, IsLeftOf, IsPrefixRead, IsReadIn}
+use Rattle.honest_places.specs.WhatIsLeft.{IsUnbrokenLog, IsWholeRead, StandWhole, end_of}
+use Rattle.log_files.proofs.Headers.{header_fits}
+use Rattle.log_files.proofs.OneBreak.{breaks_once}
+use Rattle.log_files.proofs.OneLog.{one_said}
+use Rattle.log_files.proofs.RecordTexts.{records_fit, records_spelt, tree_of}
+use Rattle.log_files.proofs.SealedLogs.{kept_with, one_sealed}
+use Rattle.log_files.proofs.WrittenLogs.{text_more}
+use Rattle.log_files.specs.LogText.{AreLog, EachGives, Gives, HasHeader, IsEnd, header_tree, kept_of, refused_of}
+use Rattle.log_files.specs.SealedLog.{BreaksAt, IsReadSealed, SaysSealed, event_of}
+use Rattle.log_files.specs.Written.{log_text, record_text}
+use Rattle.log_files.specs.declared.plain_log.End.{End}
+use Rattle.log_files.specs.declared.plain_log.End.TheVariants.{Clean, Malformed, Torn}
+use Rattle.log_files.specs.declared.sealed_log.Kept.{Kept}
+use Rattle.log_files.specs.declared.sealed_log.LogRead.{LogRead}
+use Rattle.polling_world.specs.Making.{election_of}
+use Rattle.roster.specs.declared.post.Post.{Post}
+use Rattle.std.proofs.Common.{All, Bool, Contains, List, None, Ok, Result, Some, [], ap, append-nil, append_assoc}
+use Rattle.std.proofs.Common.{arith, drop, false, flat_map, get_or, if◌then◌else◌, inl, inr, length, length-append}
+use Rattle.std.proofs.Common.{length-drop, map, refl, slice_get, subst, suc, sym, take, take-append-drop, take-take}
+use Rattle.std.proofs.Common.{take_all, true, zero, ℕ, ◌++◌, ◌+◌, ◌-◌, ◌<◌, ◌^◌, ◌∙◌, ◌∷◌, ◌≡◌, ◌≤◌, ◌⊎◌}
+use Rattle.std.proofs.Math.Seq.{take-append-add}
+use Rattle.std.proofs.lemmas.Bool.{cases_lt}
+use Rattle.std.proofs.lemmas.Grind.{flat_map-append}
+use Rattle.std.proofs.lemmas.List.{take-append-le}
+use Rattle.std.proofs.lemmas.List.Elements.{All-get_or, All-map}
+use Rattle.std.proofs.lemmas.Option.{get_or_from_slice_get, slice_get-get_or, slice_get_within}
 
--- ---- lists of events
+-- ---- texts that are cut
 
--- the first events and one more
-take_one : {X : Type 0} (xs : List X) (k : ℕ) (x : X) → slice_get xs k ≡ Some x → take (k + 1) xs ≡ take k xs ++ x ∷ []
-take_one xs k x at = taken_more xs k x (slice_get_within xs k x at) (sym (get_or_from_slice_get xs k x x at))
+-- bytes after a front that is kept are cut by as many bytes less
+take_after : (front rest : List ℕ) (n : ℕ) → length front ≤ n →
+    take n (front ++ rest) ≡ front ++ take (n - length front) rest
+take_after front rest n le =
+    let long : n ≡ length front + (n - length front) = omega arith in
+    ap (λ (k : ℕ). take k (front ++ rest)) long ∙ take-append-add front rest (n - length front)
 
--- the first n events of a legal history are one
-pub legal_prefix : (owner : ℕ) (h : List (Event SealedEntry)) (k : ℕ) → IsLegal node_of_sealed owner h →
+module _ {X : Type 0} (text : X → List ℕ) where
+  -- where the first n bytes of the texts end: after this many whole texts, with a rest that is a
+  -- proper prefix of the next one's text, if there is a next one
+  record IsCut (xs : List X) (n : ℕ) : Type 0 where
+    pub count : ℕ
+    pub rest : List ℕ
+    -- no more texts are whole than there are
+    pub some_of : count ≤ length xs
+    -- the bytes that are left are the whole texts and the rest
+    pub spelt : take n (flat_map text xs) ≡ flat_map text (take count xs) ++ rest
+    -- after the last text there is no rest, and otherwise the rest is a proper prefix of the next
+    -- one
+    pub inside : ((count ≡ length xs) × (rest ≡ []))
+        ⊎ ((x : X) × (slice_get xs count ≡ Some x) × ((more : List ℕ) × (0 < length more) × (text x ≡ rest ++ more)))
+
+  -- the first n bytes end so: the first text is cut, or those after it are
+  cut_of : (xs : List X) (n : ℕ) → IsCut xs n
+  cut_of [] n =
+      let none : take {A = ℕ} n [] ≡ [] = take_all n [] (omega arith) in
+      record { count = 0; rest = []; some_of = omega arith; spelt = none; inside = inl (refl, refl) }
+  cut_of (x ∷ xs) n =
+      elim (cases_lt n (length (text x))) [
+        | inl less ↦ record {
+          count = 0;
+          rest = take n (text x);
+          some_of = omega arith;
+          spelt = take-append-le n (text x) (flat_map text xs) (omega (arith, less));
+          inside = inr (
+            x,
+            refl,
+            (
+              drop n (text x),
+              omega (arith, less, length-drop n (text x)),
+              sym (take-append-drop n (text x)),
+            ),
+          );
+        }
+        | inr le ↦ (let c = cut_of xs (n - length (text x)) in record {
+          count = suc c.count;
+          rest = c.rest;
+          some_of = omega (arith, c.some_of);
+          spelt = take_after (text x) (flat_map text xs) n le ∙ ap (λ (bs : List ℕ). text x ++ bs) c.spelt
+              ∙ sym (append_assoc (text x) (flat_map text (take c.count xs)) c.rest);
+          inside = elim c.inside [ inl h ↦ inl (ap suc h.0, h.1) | inr h ↦ inr h ];
+        })
+      ]
+
+-- ---- the first events
+
+-- the first events of a legal history are one
+legal_prefix : (owner : ℕ) (h : List (Event SealedEntry)) (k : ℕ) → IsLegal node_of_sealed owner h →
     IsLegal node_of_sealed owner (take k h)
 legal_prefix owner h k legal before x later is =
     legal before x (later ++ drop k h)
     (sym (take-append-drop k h) ∙ ap (λ (p : List (Event SealedEntry)). p ++ drop k h) is
     ∙ append_assoc before (x ∷ later) (drop k h))
 
--- what is held by the first n events is held
-held_prefix : (h : List (Event SealedEntry)) (k : ℕ) (e : SealedEntry) → Contains (held (take k h)) e →
-    Contains (held h) e
-held_prefix [] zero e c = c
-held_prefix [] (suc k) e c = c
-held_prefix (x ∷ h) zero e c = absurd (Contains-none e c)
-held_prefix (x ∷ h) (suc k) e c =
-    elim (Contains-cons_cases (entry_of x) (held (take k h)) e c) [
-      | inl is ↦ Contains-at (entry_of x) (held h) e is
-      | inr later ↦ Contains-later (entry_of x) (held h) e (held_prefix h k e later)
-    ]
-
--- the text of the first n events is no longer than that of all
-pub end_within : (owner : ℕ) (events : List (Event SealedEntry)) (k : ℕ) →
+-- the text of the first events is no longer than that of all
+end_within : (owner : ℕ) (events : List (Event SealedEntry)) (k : ℕ) →
     end_of owner events k ≤ length (log_text owner events)
 end_within owner events k =
-    let header = text_of (header_tree owner) in
+    let front = text_of (header_tree owner) in
     let first = flat_map record_text (take k events) in
     let last = flat_map record_text (drop k events) in
     let all : flat_map record_text events ≡ first ++ last =
     ap (flat_map record_text) (sym (take-append-drop k events))
     ∙ flat_map-append record_text (take k events) (drop k events) in
-    omega (
-      arith,
-      ap length all,
-      length-append first last,
-      length-append header first,
-      length-append header (flat_map record_text events),
-    )
+    let long = length-append front (flat_map record_text events) in
+    omega (arith, ap length all, long, length-append front first, length-append first last)
 
 -- a whole log is what is left of it where nothing is gone
 pub whole_is_left : (owner : ℕ) (events : List (Event SealedEntry)) → IsLeftOf owner events (log_text owner events)
-whole_is_left owner events =
-    let text = log_text owner events in
-    record {
-      place = length text;
-      after_header = omega (arith, length-append (text_of (header_tree owner)) (flat_map record_text events));
-      cut = sym (take_all (length text) text (omega arith));
-    }
-
--- ---- records that are read
-
--- the record of an event, at a place
-abbrev kept_at : ℕ → Event SealedEntry → Kept
-kept_at place (Sent e) = kept_with place true e
-kept_at place (Got e) = kept_with place false e
-
--- the records of events, the first at the place
-abbrev kept_from : ℕ → List (Event SealedEntry) → List Kept
-kept_from place [] = []
-kept_from place (x ∷ events) = kept_at place x ∷ kept_from (place + 1) events
-
--- what is read of these records
-abbrev readings_of : List Kept → List (Result Kept EntryFault)
-readings_of ks = map (λ kept. Ok kept) ks
-
--- what is read of the records of events, the first at the place
-abbrev readings_from : ℕ → List (Event SealedEntry) → List (Result Kept EntryFault)
-readings_from place events = readings_of (kept_from place events)
-
--- a record is of its event
-event_kept : (place : ℕ) (x : Event SealedEntry) → event_of (kept_at place x) ≡ x
-event_kept place (Sent e) = refl
-event_kept place (Got e) = refl
-
--- they are of these events
-events_kept : (place : ℕ) (events : List (Event SealedEntry)) → map event_of (kept_from place events) ≡ events
-events_kept place [] = refl
-events_kept place (x ∷ events) =
-    ap (λ (y : Event SealedEntry). y ∷ map event_of (kept_from (place + 1) events)) (event_kept place x)
-    ∙ ap (λ (ys : List (Event SealedEntry)). x ∷ ys) (events_kept (place + 1) events)
-
--- it is at its place
-place_kept : (place : ℕ) (x : Event SealedEntry) → (kept_at place x).place ≡ place
-place_kept place (Sent e) = refl
-place_kept place (Got e) = refl
-
--- each is at its place
-places_kept : (place : ℕ) (events : List (Event SealedEntry)) (i : ℕ) (kept : Kept) →
-    slice_get (kept_from place events) i ≡ Some kept → kept.place ≡ place + i
-places_kept place [] i kept at = cc
-places_kept place (x ∷ events) zero kept at =
-    let same : kept_at place x ≡ kept = cc in
-    let here : kept.place ≡ place = sym (ap (λ (k : Kept). k.place) same) ∙ place_kept place x in
-    omega (arith, here)
-places_kept place (x ∷ events) (suc i) kept at =
-    let later : kept.place ≡ (place + 1) + i = places_kept (place + 1) events i kept at in
-    omega (arith, later)
-
--- what is kept of records that were all read is these records
-kept_readings : (ks : List Kept) → kept_of (readings_of ks) ≡ ks
-kept_readings [] = refl
-kept_readings (k ∷ ks) = ap (λ (l : List Kept). k ∷ l) (kept_readings ks)
-
--- and none of them is refused
-none_refused : (ks : List Kept) (place : ℕ) → refused_of place (readings_of ks) ≡ []
-none_refused [] place = refl
-none_refused (k ∷ ks) place = none_refused ks (place + 1)
-
--- the end of the bytes, where the rest after the whole records is this
-abbrev end_at : ℕ → List ℕ → End
-end_at offset [] = Clean
-end_at offset (b ∷ rest) = Torn offset
-
--- the end is determined by the rest: clean without one, and else torn
-is_end : (offset : ℕ) (rest : List ℕ) → (rest ≡ []) ⊎ IsProperPrefixOfText rest → IsEnd offset rest (end_at offset rest)
-is_end offset [] h = refl
-is_end offset (b ∷ rest) (inl none) = cc
-is_end offset (b ∷ rest) (inr prefix) = (refl, omega arith, prefix)
-
--- it lies where the whole records end
-is_cut_at : (place size offset : ℕ) (rest : List ℕ) → size ≡ place + length rest → offset ≡ place →
-    IsCutAt place size (end_at offset rest)
-is_cut_at place size offset [] long same = omega (arith, long)
-is_cut_at place size offset (b ∷ rest) long same = (omega (arith, long), same)
-
-module _ (posts : List Post) (election : List ℕ) where
-  -- the entry's text is its own, and valid
-  abbrev pub IsValidly : SealedEntry → Type 0
-  IsValidly e = Unseals posts election e.text (Ok e)
-
-  -- each entry that is held has a text of its own, which is valid
-  abbrev pub AreValid : List (Event SealedEntry) → Type 0
-  AreValid events = (e : SealedEntry) → Contains (held events) e → IsValidly e
-
-  -- the first entry of a valid history is valid
-  first_valid : (x : Event SealedEntry) (events : List (Event SealedEntry)) → AreValid (x ∷ events) →
-      IsValidly (entry_of x)
-  first_valid x events valid = valid (entry_of x) (Contains-head (entry_of x) (held events))
-
-  -- and so are those after it
-  later_valid : (x : Event SealedEntry) (events : List (Event SealedEntry)) → AreValid (x ∷ events) → AreValid events
-  later_valid x events valid e c = valid e (Contains-later (entry_of x) (held events) e c)
-
-  -- the signed tree's text unseals to the entry
-  unseals_tree : (e : SealedEntry) → IsValidly e →
-      Unseals posts election (text_of (signed_tree e.entry e.signature)) (Ok e)
-  unseals_tree e valid = subst (λ (t : List ℕ). Unseals posts election t (Ok e)) valid.kept.spelt.spelt valid
-
-  -- the tree of a valid event's record is read as that record
-  gives_kept : (place : ℕ) (x : Event SealedEntry) → IsValidly (entry_of x) →
-      Gives (IsReadSealed posts election) place (tree_of x) (Ok (kept_at place x))
-  gives_kept place (Sent e) valid =
-      inl (members_in (signed_tree e.entry e.signature), true, refl, (refl, refl, unseals_tree e valid))
-  gives_kept place (Got e) valid =
-      inl (members_in (signed_tree e.entry e.signature), false, refl, (refl, refl, unseals_tree e valid))
-
-  -- the trees of valid events are read as their records
-  all_given : (place : ℕ) (events : List (Event SealedEntry)) → AreValid events →
-      EachGives (IsReadSealed posts election) place (map tree_of events) (readings_from place events)
-  all_given place [] valid = tt
-  all_given place (x ∷ events) valid =
-      (gives_kept place x (first_valid x events valid), all_given (place + 1) events (later_valid x events valid))
-
-  -- the records of valid events keep within the limits of trees
-  all_fit : (events : List (Event SealedEntry)) → AreValid events → All Fits (map tree_of events)
-  all_fit [] valid = All-nil Fits
-  all_fit (x ∷ events) valid =
-      All-cons Fits (tree_of x) (map tree_of events) (records_fit x (first_valid x events valid).kept)
-      (all_fit events (later_valid x events valid))
-
-  -- the texts of their trees are those of their records
-  all_spelt : (events : List (Event SealedEntry)) → AreValid events →
-      flat_map text_of (map tree_of events) ≡ flat_map record_text events
-  all_spelt [] valid = refl
-  all_spelt (x ∷ events) valid =
-      ap (λ (bs : List ℕ). bs ++ flat_map text_of (map tree_of events))
-      (records_spelt x (first_valid x events valid).kept)
-      ∙ ap (λ (bs : List ℕ). record_text x ++ bs) (all_spelt events (later_valid x events valid))
-
-  module _ (owner : ℕ) (small : owner < 2 ^ 32) (events : List (Event SealedEntry)) (valid : AreValid events)
-      (legal : IsLegal node_of_sealed owner events) (bytes : List ℕ) (n : ℕ)
-      (is : bytes ≡ text_of (header_tree owner) ++ take n (flat_map record_text events))
-      (cut : IsCut record_text events n) where
-    -- the events whose records are complete are valid
-    first_valid_ones : AreValid (take cut.count events)
-    first_valid_ones e c = valid e (held_prefix events cut.count e c)
-
-    -- the bytes are the header, the whole records and the rest
-    spelt : bytes ≡ text_of (header_tree owner) ++ (flat_map record_text (take cut.count events) ++ cut.rest)
-    spelt = is ∙ ap (λ (bs : List ℕ). text_of (header_tree owner) ++ bs) cut.spelt
-
-    -- the rest is nothing, or a proper prefix of the next record
-    rest_is : (cut.rest ≡ []) ⊎ IsProperPrefixOfText cut.rest
-    rest_is =
-        elim cut.inside [
-          | inl h ↦ inl h.1
-          | inr (x, at, (more, some, text)) ↦
-              (let kept = (valid (entry_of x)
-              (Contains-map entry_of events x (member_at events cut.count x at))).kept in
-              inr (record {
-                tree = tree_of x;
-                rest = more;
-                fits = records_fit x kept;
-                goes_on = some;
-                spelt = records_spelt x kept ∙ text;
-              }))
-        ]
-
-    -- where the whole records end in the bytes
-    abbrev offset : ℕ
-    offset = length (text_of (header_tree owner)) + length (flat_map text_of (map tree_of (take cut.count events)))
-
-    -- that is where the text of this many events ends
-    offset_is : offset ≡ end_of owner events cut.count
-    offset_is =
-        ap (λ (bs : List ℕ). length (text_of (header_tree owner)) + length bs)
-        (all_spelt (take cut.count events) first_valid_ones)
-        ∙ sym (length-append (text_of (header_tree owner)) (flat_map record_text (take cut.count events)))
-
-    -- as many bytes follow it as the rest has
-    size_is : length bytes ≡ end_of owner events cut.count + length cut.rest
-    size_is =
-        let front = text_of (header_tree owner) in
-        let whole = flat_map record_text (take cut.count events) in
-        omega (
-          arith,
-          ap length spelt,
-          length-append front (whole ++ cut.rest),
-          length-append whole cut.rest,
-          length-append front whole,
-        )
-
-    -- they say the records of the first events
-    are_log : AreLog (IsReadSealed posts election) bytes owner (kept_from 0 (take cut.count events)) []
-        (end_at offset cut.rest)
-    are_log = record {
-      following = flat_map record_text (take cut.count events) ++ cut.rest;
-      trees = map tree_of (take cut.count events);
-      readings = readings_from 0 (take cut.count events);
-      number = small;
-      header = spelt;
-      records = record {
-        rest = cut.rest;
-        within = all_fit (take cut.count events) first_valid_ones;
-        spelt = ap (λ (bs : List ℕ). bs ++ cut.rest) (sym (all_spelt (take cut.count events) first_valid_ones));
-        ends = is_end offset cut.rest rest_is;
-      };
-      gives = all_given 0 (take cut.count events) first_valid_ones;
-      keeps = sym (kept_readings (kept_from 0 (take cut.count events)));
-      refuses = sym (none_refused (kept_from 0 (take cut.count events)) 0);
-    }
-
-    -- the next record, if there is one, doesn't fit
-    no_more : cut.count < length events → length bytes < end_of owner events (cut.count + 1)
-    no_more less =
-        elim cut.inside [
-          | inl h ↦ absurd (omega (arith, less, h.0))
-          | inr (x, at, (more, some, text)) ↦
-              (let front = text_of (header_tree owner) in
-              let whole = flat_map record_text (take cut.count events) in
-              let one : flat_map record_text (take (cut.count + 1) events) ≡ whole ++ record_text x =
-              ap (flat_map record_text) (take_one events cut.count x at)
-              ∙ flat_map-append record_text (take cut.count events) (x ∷ [])
-              ∙ ap (λ (bs : List ℕ). whole ++ bs) (append-nil (record_text x)) in
-              omega (
-                arith,
-                size_is,
-                some,
-                ap length one,
-                ap length text,
-                length-append cut.rest more,
-                length-append whole (record_text x),
-                length-append front whole,
-                length-append front (flat_map record_text (take (cut.count + 1) events)),
-              ))
-        ]
-
-    -- this many records are complete in bytes of this size
-    stand_whole : StandWhole owner events (length bytes) cut.count
-    stand_whole = record { some_of = cut.some_of; fit = omega (arith, size_is); no_more = no_more }
-
-    -- which break nowhere
-    no_break : BreaksAt owner (kept_from 0 (take cut.count events)) None
-    no_break =
-        subst (λ (h : List (Event SealedEntry)). IsLegal node_of_sealed owner h)
-        (sym (events_kept 0 (take cut.count events))) (legal_prefix owner events cut.count legal)
-
-    -- the bytes are a log without a break or a refused record
-    pub log_so : (kept : List Kept) × (end : End) × BreaksAt owner kept None
-        × AreLog (IsReadSealed posts election) bytes owner kept [] end
-    log_so = (kept_from 0 (take cut.count events), end_at offset cut.rest, no_break, are_log)
-
-    -- whatever is read of them is that
-    pub read_so : (log : LogRead) → SaysSealed posts election bytes log → IsPrefixRead owner events bytes log
-    read_so log said =
-        let same =
-        one_said (IsReadSealed posts election) (one_sealed posts election) bytes log.owner owner log.kept.items
-        (kept_from 0 (take cut.count events)) log.refused.items [] log.end (end_at offset cut.rest) said.says are_log in
-        let kept : map event_of log.kept.items ≡ take cut.count events =
-        ap (map event_of) same.kept ∙ events_kept 0 (take cut.count events) in
-        record {
-          count = cut.count;
-          whole = stand_whole;
-          of_owner = same.owners;
-          kept = kept;
-          places = λ i k at. (let place = places_kept 0 (take cut.count events) i k
-              (ap (λ (ks : List Kept). slice_get ks i) (sym same.kept) ∙ at) in
-              omega (arith, place));
-          none_refused = same.refused;
-          ends = subst (λ (end : End). IsCutAt (end_of owner events cut.count) (length bytes) end) (sym same.ends)
-              (is_cut_at (end_of owner events cut.count) (length bytes) offset cut.rest size_is offset_is);
-          no_break = breaks_once owner log.kept.items log.broke None
-              (subst (λ (o : ℕ). BreaksAt o log.kept.items log.broke) same.owners said.broke)
-              (subst (λ (ks : List Kept). BreaksAt owner ks None) (sym same.kept) no_break);
-        }
-
-  module _ (owner : ℕ) (small : owner < 2 ^ 32) (events : List (Event SealedEntry)) (valid : AreValid events)
-      (legal : IsLegal node_of_sealed owner events) where
-    module _ (bytes : List ℕ) (left : IsLeftOf owner events bytes) where
-      -- how many bytes are left after the header
-      abbrev cut_at : ℕ
-      cut_at = left.place - length (text_of (header_tree owner))
-
-      -- what is left is the header and the first n bytes of the records
-      cut_after_header : bytes ≡ text_of (header_tree owner) ++ take cut_at (flat_map record_text events)
-      cut_after_header =
-          left.cut
-          ∙ take_after (text_of (header_tree owner)) (flat_map record_text events) left.place left.after_header
-
-      -- what is left of a log is one
-      pub left_is_log : (kept : List Kept) × (end : End) × BreaksAt owner kept None
-          × AreLog (IsReadSealed posts election) bytes owner kept [] end
-      left_is_log =
-          log_so owner small events valid legal bytes cut_at cut_after_header (cut_of record_text events cut_at)
-
-      -- what is left is read as the events that are complete in it
-      pub left_is_read : (log : LogRead) → SaysSealed posts election bytes log → IsPrefixRead owner events bytes log
-      left_is_read log said =
-          read_so owner small events valid legal bytes cut_at cut_after_header (cut_of record_text events cut_at) log
-          said
-
-    -- a whole log is read as all of its events
-    pub whole_is_read : (log : LogRead) → SaysSealed posts election (log_text owner events) log →
-        IsWholeRead owner events log
-    whole_is_read log said =
-        let text = log_text owner events in
-        let read = left_is_read text (whole_is_left owner events) log said in
-        let all : length events ≤ read.count = all_of read.count read.whole.no_more in
-        let kept : take read.count events ≡ events = take_all read.count events all in
-        record {
-          prefix = read;
-          kept = read.kept ∙ kept;
-          ends = clean_at (end_of owner events read.count) (length text) log.end
-              (ap (λ (h : List (Event SealedEntry)). length (log_text owner h)) kept) read.ends;
-        }
-      where
-        -- where all bytes are there, all records are complete
-        all_of : (k : ℕ) → (k < length events → length (log_text owner events) < end_of owner events (k + 1)) →
-            length events ≤ k
-        all_of k none =
-            elim (cases_lt k (length events)) [
-              | inl less ↦ absurd (omega (arith, none less, end_within owner events (k + 1)))
-              | inr le ↦ le
-            ]
-
-        -- bytes that end where the records do end clean
-        clean_at : (place size : ℕ) (end : End) → place ≡ size → IsCutAt place size end → end ≡ Clean
-        clean_at place size Clean same h = refl
-        clean_at place size (Torn at) same h = absurd (omega (arith, same, h.0))
-        clean_at place size (Malformed at why) same h = absurd h
+whole_is_left owner events = record {
+  place = length (log_text owner events);
+  after_header = omega (arith, length-append (text_of (header_tree owner)) (flat_map record_text events));
+  cut = sym (take_all (length (log_text owner events)) (log_text owner events) (omega arith));
+}
 
 -- what is left of a log begins with its header
 pub left_has_header : (owner : ℕ) → owner < 2 ^ 32 → (events : List (Event SealedEntry)) (bytes : List ℕ) →
@@ -411,9 +149,374 @@ cut_has_no_header owner small events place less (other, rest, low, is) =
     let front = text_of (header_tree owner) in
     let begins : take place front ≡ text_of (header_tree other) ++ rest =
     sym (take-append-le place front (flat_map record_text events) (omega (arith, less))) ∙ is in
-    let whole : text_of (header_tree owner) ++ [] ≡ text_of (header_tree other) ++ (rest ++ drop place front) =
+    let whole : front ++ [] ≡ text_of (header_tree other) ++ (rest ++ drop place front) =
     append-nil front ∙ sym (take-append-drop place front) ∙ ap (λ (bs : List ℕ). bs ++ drop place front) begins
     ∙ append_assoc (text_of (header_tree other)) rest (drop place front) in
     let one = one_tree 8 (header_tree owner) (header_tree other) [] (rest ++ drop place front)
     (header_fits owner small) (header_fits other low) whole in
-    absurd (omega (arith, less, ap length one.1, length-append rest (drop place front), length-drop place front))
+    omega (arith, less, ap length one.1, length-append rest (drop place front), length-drop place front)
+
+-- ---- records that are read
+
+-- whether its machine sent the event's entry
+abbrev is_sent : Event SealedEntry → Bool
+is_sent (Sent e) = true
+is_sent (Got e) = false
+
+-- the records of events, the first at the place
+abbrev kept_from : ℕ → List (Event SealedEntry) → List Kept
+kept_from place [] = []
+kept_from place (x ∷ events) = kept_with place (is_sent x) (entry_of x) ∷ kept_from (place + 1) events
+
+-- what is read of these records
+abbrev readings_of : List Kept → List (Result Kept EntryFault)
+readings_of ks = map (λ kept. Ok kept) ks
+
+-- they are of these events
+events_kept : (n : ℕ) (events : List (Event SealedEntry)) → map event_of (kept_from n events) ≡ events
+events_kept n [] = refl
+events_kept n (Sent e ∷ events) = ap (λ (xs : List (Event SealedEntry)). Sent e ∷ xs) (events_kept (n + 1) events)
+events_kept n (Got e ∷ events) = ap (λ (xs : List (Event SealedEntry)). Got e ∷ xs) (events_kept (n + 1) events)
+
+-- each record is at its place, the first one's being n
+abbrev AreAt : ℕ → List Kept → Type 0
+AreAt n ks = (i : ℕ) (kept : Kept) → slice_get ks i ≡ Some kept → kept.place ≡ n + i
+
+-- so these are
+places_kept : (n : ℕ) (events : List (Event SealedEntry)) → AreAt n (kept_from n events)
+places_kept n [] i kept at = cc
+places_kept n (x ∷ events) zero kept at =
+    let same : kept_with n (is_sent x) (entry_of x) ≡ kept = cc in omega (arith, ap (λ (k : Kept). k.place) same)
+places_kept n (x ∷ events) (suc i) kept at = omega (arith, places_kept (n + 1) events i kept at)
+
+-- records at their places are those of their events
+remade : (n : ℕ) (ks : List Kept) → AreAt n ks → ks ≡ kept_from n (map event_of ks)
+remade n [] at = refl
+remade n (k ∷ ks) at =
+    let here : k.place ≡ n = omega (arith, at zero k refl) in
+    let later = remade (n + 1) ks (λ i kept there. omega (arith, at (suc i) kept there)) in
+    ap (λ (p : ℕ). kept_with p k.sent k.entry ∷ ks) here ∙ ap (λ (x : Kept). x ∷ ks) (one k.sent k.entry)
+    ∙ ap (λ (xs : List Kept). kept_with n (is_sent (event_of k)) (entry_of (event_of k)) ∷ xs) later
+  where
+    -- the same of a record that was sent or got
+    one : (b : Bool) (e : SealedEntry) → kept_with n b e
+        ≡ kept_with n (is_sent (if b then Sent e else Got e)) (entry_of (if b then Sent e else Got e))
+    one true e = refl
+    one false e = refl
+
+-- what is kept of records that were all read is these records
+kept_readings : (ks : List Kept) → kept_of (readings_of ks) ≡ ks
+kept_readings [] = refl
+kept_readings (k ∷ ks) = ap (λ (l : List Kept). k ∷ l) (kept_readings ks)
+
+-- and none of them is refused
+none_refused : (ks : List Kept) (place : ℕ) → refused_of place (readings_of ks) ≡ []
+none_refused [] place = refl
+none_refused (k ∷ ks) place = none_refused ks (place + 1)
+
+-- the end of the bytes, where the rest after the whole records is this
+abbrev end_at : ℕ → List ℕ → End
+end_at offset [] = Clean
+end_at offset (b ∷ rest) = Torn offset
+
+-- the end is determined by the rest: clean without one, and else torn
+is_end : (at offset : ℕ) (rest : List ℕ) → at ≡ offset → (rest ≡ []) ⊎ IsProperPrefixOfText rest →
+    IsEnd offset rest (end_at at rest)
+is_end at offset [] same h = refl
+is_end at offset (b ∷ rest) same (inl none) = cc
+is_end at offset (b ∷ rest) same (inr prefix) = (same, omega arith, prefix)
+
+-- it lies where the whole records end
+is_cut_at : (place size : ℕ) (rest : List ℕ) → size ≡ place + length rest → IsCutAt place size (end_at place rest)
+is_cut_at place size [] long = omega (arith, long)
+is_cut_at place size (b ∷ rest) long = (omega (arith, long), refl)
+
+-- bytes of a size end at a place in one way
+one_end : (place size : ℕ) (end other : End) → IsCutAt place size end → IsCutAt place size other → end ≡ other
+one_end place size Clean Clean h k = refl
+one_end place size Clean (Torn at) h k = absurd (omega (arith, h, k.0))
+one_end place size (Torn at) Clean h k = absurd (omega (arith, h.0, k))
+one_end place size (Torn at) (Torn there) h k = ap Torn (h.1 ∙ sym k.1)
+one_end place size (Malformed at why) other h k = absurd h
+one_end place size end (Malformed at why) h k = absurd k
+
+-- ---- events whose entries are valid
+
+module _ (posts : List Post) where
+  -- the entry's text is its own, and valid
+  abbrev IsValidly : SealedEntry → Type 0
+  IsValidly e = Unseals posts (election_of posts) e.text (Ok e)
+
+  -- so is each event's
+  abbrev AreValid : List (Event SealedEntry) → Type 0
+  AreValid events = (x : Event SealedEntry) → Contains events x → IsValidly (entry_of x)
+
+  -- the events after the first are valid
+  later_valid : (x : Event SealedEntry) (events : List (Event SealedEntry)) → AreValid (x ∷ events) → AreValid events
+  later_valid x events valid y c = valid y (Contains-later x events y c)
+
+  -- the signed tree's text unseals to the entry
+  unseals_tree : (e : SealedEntry) → IsValidly e →
+      Unseals posts (election_of posts) (text_of (signed_tree e.entry e.signature)) (Ok e)
+  unseals_tree e valid =
+      subst (λ (t : List ℕ). Unseals posts (election_of posts) t (Ok e)) valid.kept.spelt.spelt valid
+
+  -- the tree of a valid event's record is read as that record
+  gives_kept : (place : ℕ) (x : Event SealedEntry) → IsValidly (entry_of x) →
+      Gives (IsReadSealed posts (election_of posts)) place (tree_of x) (Ok (kept_with place (is_sent x) (entry_of x)))
+  gives_kept place (Sent e) valid =
+      inl (members_in (signed_tree e.entry e.signature), true, refl, (refl, refl, unseals_tree e valid))
+  gives_kept place (Got e) valid =
+      inl (members_in (signed_tree e.entry e.signature), false, refl, (refl, refl, unseals_tree e valid))
+
+  -- the trees of valid events are read as their records
+  all_given : (n : ℕ) (events : List (Event SealedEntry)) → AreValid events →
+      EachGives (IsReadSealed posts (election_of posts)) n (map tree_of events) (readings_of (kept_from n events))
+  all_given n [] valid = tt
+  all_given n (x ∷ events) valid =
+      (gives_kept n x (valid x (Contains-head x events)), all_given (n + 1) events (later_valid x events valid))
+
+  -- the records of valid events keep within the limits of trees
+  all_fit : (events : List (Event SealedEntry)) → AreValid events → All Fits (map tree_of events)
+  all_fit events valid =
+      All-map Fits tree_of events (all_from_places (λ x. Fits (tree_of x)) events (λ i x at.
+      records_fit x (valid x (member_at events i x at)).kept))
+
+  -- the texts of their trees are those of their records
+  all_spelt : (events : List (Event SealedEntry)) → AreValid events →
+      flat_map text_of (map tree_of events) ≡ flat_map record_text events
+  all_spelt [] valid = refl
+  all_spelt (x ∷ events) valid =
+      ap (λ (bs : List ℕ). bs ++ flat_map text_of (map tree_of events))
+      (records_spelt x (valid x (Contains-head x events)).kept)
+      ∙ ap (λ (bs : List ℕ). record_text x ++ bs) (all_spelt events (later_valid x events valid))
+
+-- ---- the logs of an honest world
+
+module _ (posts : List Post) (w : World SealedEntry) (honest : IsHonestWorld posts w) where
+  module _ (m : ℕ) (below : m < length w) where
+    -- what the machine did
+    abbrev events : List (Event SealedEntry)
+    events = history w m
+
+    -- the number of a machine is small
+    small : m < 2 ^ 32
+    small = let each = honest.one_each in let few = honest.few_machines in omega (arith, below, each, few)
+
+    module _ (bytes : List ℕ) (left : IsLeftOf m events bytes) where
+      -- how many records are complete, and what is left of the next one
+      cut : IsCut record_text events (left.place - length (text_of (header_tree m)))
+      cut = cut_of record_text events (left.place - length (text_of (header_tree m)))
+
+      -- the events whose records are complete
+      abbrev first : List (Event SealedEntry)
+      first = take cut.count events
+
+      -- the end of the bytes
+      abbrev end : End
+      end = end_at (end_of m events cut.count) cut.rest
+
+      -- these events are valid
+      first_valid : AreValid posts first
+      first_valid x c =
+          honest.valid (entry_of x) (event_was_sent w honest.orderly m x (Contains-take events cut.count x c))
+
+      -- the bytes are the header, the whole records and the rest
+      spelt : bytes ≡ text_of (header_tree m) ++ (flat_map record_text first ++ cut.rest)
+      spelt =
+          left.cut ∙ take_after (text_of (header_tree m)) (flat_map record_text events) left.place left.after_header
+          ∙ ap (λ (bs : List ℕ). text_of (header_tree m) ++ bs) cut.spelt
+
+      -- the rest is nothing, or a proper prefix of the next record
+      rest_is : (cut.rest ≡ []) ⊎ IsProperPrefixOfText cut.rest
+      rest_is =
+          elim cut.inside [
+            | inl h ↦ inl h.1
+            | inr (x, at, (more, some, text)) ↦
+                (let there = event_was_sent w honest.orderly m x (member_at events cut.count x at) in
+                let kept = (honest.valid (entry_of x) there).kept in
+                inr (record {
+                  tree = tree_of x;
+                  rest = more;
+                  fits = records_fit x kept;
+                  goes_on = some;
+                  spelt = records_spelt x kept ∙ text;
+                }))
+          ]
+
+      -- as many bytes follow the whole records as the rest has
+      size_is : length bytes ≡ end_of m events cut.count + length cut.rest
+      size_is =
+          let front = text_of (header_tree m) in
+          let whole = flat_map record_text first in
+          omega (
+            arith,
+            ap length spelt,
+            length-append front (whole ++ cut.rest),
+            length-append whole cut.rest,
+            length-append front whole,
+          )
+
+      -- they say the records of the first events
+      are_log : AreLog (IsReadSealed posts (election_of posts)) bytes m (kept_from 0 first) [] end
+      are_log = record {
+        following = flat_map record_text first ++ cut.rest;
+        trees = map tree_of first;
+        readings = readings_of (kept_from 0 first);
+        number = small;
+        header = spelt;
+        records = record {
+          rest = cut.rest;
+          within = all_fit posts first first_valid;
+          spelt = ap (λ (bs : List ℕ). bs ++ cut.rest) (sym (all_spelt posts first first_valid));
+          ends = is_end (end_of m events cut.count) _ cut.rest
+              (omega (
+                arith,
+                ap length (all_spelt posts first first_valid),
+                length-append (text_of (header_tree m)) (flat_map record_text first),
+              )) rest_is;
+        };
+        gives = all_given posts 0 first first_valid;
+        keeps = sym (kept_readings (kept_from 0 first));
+        refuses = sym (none_refused (kept_from 0 first) 0);
+      }
+
+      -- the next record, if there is one, doesn't fit
+      no_more : cut.count < length events → length bytes < end_of m events (cut.count + 1)
+      no_more less =
+          elim cut.inside [
+            | inl h ↦ absurd (omega (arith, less, h.0))
+            | inr (x, at, (more, some, text)) ↦
+                (let one = text_more (text_of (header_tree m)) (log_text m first) (log_text m first ++ record_text x)
+                events cut.count x (slice_get_within events cut.count x at)
+                (sym (get_or_from_slice_get events cut.count x x at)) refl refl in
+                omega (
+                  arith,
+                  size_is,
+                  some,
+                  ap length one,
+                  ap length text,
+                  length-append cut.rest more,
+                  length-append (log_text m first) (record_text x),
+                ))
+          ]
+
+      -- which break nowhere
+      no_break : BreaksAt m (kept_from 0 first) None
+      no_break =
+          subst (IsLegal node_of_sealed m) (sym (events_kept 0 first))
+          (legal_prefix m events cut.count (honest.orderly.legal m))
+
+      -- what is left of a machine's log has the header
+      pub header_in : HasHeader bytes
+      header_in = left_has_header m small events bytes left
+
+      -- it is a log of its machine, which breaks nowhere
+      pub log_in : IsUnbrokenLog posts m bytes
+      log_in = record { kept = kept_from 0 first; end = end; says = are_log; no_break = no_break }
+
+      -- it is read as the events that are complete in it
+      pub read_in : (log : LogRead) → SaysSealed posts (election_of posts) bytes log → IsPrefixRead m events bytes log
+      read_in log said =
+          let same =
+          one_said (IsReadSealed posts (election_of posts)) (one_sealed posts (election_of posts)) bytes log.owner m
+          log.kept.items (kept_from 0 first) log.refused.items [] log.end end said.says are_log in
+          record {
+            count = cut.count;
+            whole = record { some_of = cut.some_of; fit = omega (arith, size_is); no_more = no_more };
+            of_owner = same.owners;
+            kept = ap (map event_of) same.kept ∙ events_kept 0 first;
+            places = λ i k at. omega (
+              arith,
+              places_kept 0 first i k
+                  (ap (λ (ks : List Kept). slice_get ks i) (sym same.kept) ∙ at),
+            );
+            none_refused = same.refused;
+            ends = subst (IsCutAt (end_of m events cut.count) (length bytes)) (sym same.ends)
+                (is_cut_at (end_of m events cut.count) (length bytes) cut.rest size_is);
+            no_break = breaks_once m log.kept.items log.broke None
+                (subst (λ (o : ℕ). BreaksAt o log.kept.items log.broke) same.owners said.broke)
+                (subst (λ (ks : List Kept). BreaksAt m ks None) (sym same.kept) no_break);
+          }
+
+    -- a whole log is read as all that its machine did
+    pub whole_in : (log : LogRead) → SaysSealed posts (election_of posts) (log_text m events) log →
+        IsWholeRead m events log
+    whole_in log said =
+        let read = read_in (log_text m events) (whole_is_left m events) log said in
+        let all : length events ≤ read.count = all_of read.count read.whole.no_more in
+        let kept : take read.count events ≡ events = take_all read.count events all in
+        record {
+          prefix = read;
+          kept = read.kept ∙ kept;
+          ends = one_end (end_of m events read.count) (length (log_text m events)) log.end Clean read.ends
+              (ap (λ (h : List (Event SealedEntry)). length (log_text m h)) (sym kept));
+        }
+      where
+        -- where all bytes are there, all records are complete
+        all_of : (k : ℕ) → (k < length events → length (log_text m events) < end_of m events (k + 1)) →
+            length events ≤ k
+        all_of k none =
+            elim (cases_lt k (length events)) [
+              | inl less ↦ absurd (omega (arith, none less, end_within m events (k + 1)))
+              | inr le ↦ le
+            ]
+
+  -- what is left of some machine's log is read as a log of the world
+  left_in_is_read : (bytes : List ℕ) → IsLeftIn w bytes → (log : LogRead) →
+      SaysSealed posts (election_of posts) bytes log → IsReadIn w log
+  left_in_is_read bytes (m, below, left) log said =
+      record { machine = m; bytes = bytes; there = below; read = read_in m below bytes left log said }
+
+  -- files that are left are read one by one as logs of the world
+  pub all_read : (files : List (List ℕ)) → AreLeftOf w files → (logs : List LogRead) → length logs ≡ length files →
+      ((i : ℕ) (bytes : List ℕ) (log : LogRead) → slice_get files i ≡ Some bytes → slice_get logs i ≡ Some log →
+      SaysSealed posts (election_of posts) bytes log) → AreReadIn w logs
+  all_read files left logs count said i d within =
+      let inside : i < length files = omega (arith, within, count) in
+      left_in_is_read (get_or files i []) (All-get_or (IsLeftIn w) files i [] inside left) (get_or logs i d)
+      (said i (get_or files i []) (get_or logs i d) (slice_get-get_or files i [] inside)
+      (slice_get-get_or logs i d within))
+
+-- ---- one reading
+
+module _ (owner : ℕ) (events : List (Event SealedEntry)) (size : ℕ) where
+  -- no count of whole records is below another: with one record more it would fit, and wouldn't
+  no_fewer : (k j : ℕ) → StandWhole owner events size k → StandWhole owner events size j → k < j → ⊥
+  no_fewer k j one two less =
+      let few = two.some_of in
+      let over = one.no_more (omega (arith, less, few)) in
+      let same : take (k + 1) (take j events) ≡ take (k + 1) events =
+      take-take (k + 1) j events (omega (arith, less)) in
+      let long = ap (λ (h : List (Event SealedEntry)). length (log_text owner h)) same in
+      let fit = two.fit in
+      omega (arith, over, fit, long, end_within owner (take j events) (k + 1))
+
+  -- only one number of records is complete
+  one_count : (k j : ℕ) → StandWhole owner events size k → StandWhole owner events size j → k ≡ j
+  one_count k j one two =
+      let not_less : k < j → ⊥ = no_fewer k j one two in
+      let not_more : j < k → ⊥ = no_fewer j k two one in
+      omega (arith, not_less, not_more)
+
+module _ (owner : ℕ) (events : List (Event SealedEntry)) (bytes : List ℕ) (log other : LogRead)
+    (one : IsPrefixRead owner events bytes log) (two : IsPrefixRead owner events bytes other) where
+  -- two readings of the same bytes find the same number of whole records
+  counts : one.count ≡ two.count
+  counts = one_count owner events (length bytes) one.count two.count one.whole two.whole
+
+  -- two readings of the same bytes have the same records
+  pub same_kept : log.kept.items ≡ other.kept.items
+  same_kept =
+      remade 0 log.kept.items (λ i k at. omega (arith, one.places i k at))
+      ∙ ap (kept_from 0) (one.kept ∙ ap (λ n. take n events) counts ∙ sym two.kept)
+      ∙ sym (remade 0 other.kept.items (λ i k at. omega (arith, two.places i k at)))
+
+  -- two readings of the same bytes have the same end
+  pub same_end : log.end ≡ other.end
+  same_end =
+      one_end (end_of owner events two.count) (length bytes) log.end other.end
+      (subst (λ (n : ℕ). IsCutAt (end_of owner events n) (length bytes) log.end) counts one.ends) two.ends
+
+-- how what is left of logs is read
+pub ruleset logs_give = (read_in, log_in, all_read)

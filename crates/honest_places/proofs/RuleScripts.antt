@@ -1,48 +1,43 @@
 -- What a script's machines come to is an honest polling place.
-use Rattle.honest_places.proofs.RuleImports.{◌≡◌, ℕ, zero, suc, ◌+◌, List, ◌∷◌, ◌++◌, map, length, refl, sym, ap, ◌∙◌, subst}
-use Rattle.honest_places.proofs.RuleImports.{arith, slice_get, Ok, option_map, enumerate_from, slice_get-map, Deed, Entry}
-use Rattle.honest_places.proofs.RuleImports.{IsDeedOf, node_of_sealed, SealedEntry, Event, Sent, Step, sent, MayFollow}
-use Rattle.honest_places.proofs.RuleImports.{World, start, history, history_of, play, IsLegalNext, plays_are_made}
-use Rattle.honest_places.proofs.RuleImports.{IsOrderly-play, IsOrderly-start, all_at, Role, Cast0, Script, IsLawful, IsCast}
-use Rattle.honest_places.proofs.RuleImports.{IsDeedAmong, IsDeedIn, Config, config_of, script_configs, roster_of, post_of}
-use Rattle.honest_places.proofs.RuleImports.{RoleRefuses, MaySend, MachineState, machine_of, world_of, TellsNext, IsNextAt}
-use Rattle.honest_places.proofs.RuleImports.{IsNextOf, entry-made, may_follow, roster_has_text, role_in, IsHonest, MayAs}
-use Rattle.honest_places.proofs.RuleImports.{role_at, AreOrderlyMachinesOf, MachinesAreHonest, ScriptsLeadToHonestPlaces}
-use Rattle.honest_places.proofs.RuleImports.{ScriptsKeepTheRules, ScriptsAreNeverBroken, ScriptsAreKept}
-use Rattle.std.proofs.Common.{[], Option, Some, None}
-use Rattle.honest_places.proofs.LogScripts.{scripts_are_honest}
-use Rattle.honest_places.specs.PlacesOfScripts.{ScriptsAreNeverTooWide, ScriptsHaveNoEarlyEnd}
-use Rattle.honest_places.proofs.Ends.{honest_entries_have_no_early_end}
-use Rattle.honest_places.proofs.Standard.{honest_entries_keep_the_rules}
+use Rattle.election_script.specs.Lawful.{IsCast, IsDeedAmong, IsLawful}
+use Rattle.election_script.specs.declared.script.Cast0.{Cast0}
+use Rattle.election_script.specs.declared.script.Script.{Script}
+use Rattle.entry_format.specs.Deeds.{IsDeedOf}
+use Rattle.entry_format.specs.EntryText.{IsDeedIn}
+use Rattle.entry_format.specs.Nodes.{node_of_sealed}
+use Rattle.entry_format.specs.SealedEntry.{SealedEntry}
+use Rattle.entry_format.specs.declared.deed.Deed.{Deed}
+use Rattle.entry_format.specs.declared.entry.Entry.{Entry}
+use Rattle.entry_order.proofs.Machines.{in_world}
+use Rattle.entry_order.proofs.Orders.{sent_in_cases, sent_in_from}
+use Rattle.entry_order.proofs.Places.{all_at, element_at}
+use Rattle.entry_order.specs.History.{IsLegal, sent}
+use Rattle.entry_order.specs.World.{history}
+use Rattle.entry_order.specs.declared.event.Event.{Event}
+use Rattle.entry_order.specs.declared.event.Event.TheVariants.{Got, Sent}
+use Rattle.honest_places.proofs.LogScripts.{MaySendAt, could_send, scripts_are_honest}
 use Rattle.honest_places.proofs.RuleAudits.{honest_audits_never_say_broken, honest_audits_say_kept}
-use Rattle.honest_places.proofs.Narrow.{standard_rules_are_narrow}
-
--- it is what the script gives the machine at this place
-abbrev IsConfigAt : Script → ℕ → Config → Type 0
-IsConfigAt script m config =
-    (cast : Cast0) × (slice_get script.machines m ≡ Some cast) × (config ≡ config_of script m cast)
-
--- what the machines of a part of the script are made of, of which the first is at the place n
-config_from : (script : Script) (n : ℕ) (casts : List Cast0) (k : ℕ) (config : Config) →
-    slice_get (map (λ at. config_of script at.0 at.1) (enumerate_from n casts)) k ≡ Some config →
-    (cast : Cast0) × (slice_get casts k ≡ Some cast) × (config ≡ config_of script (n + k) cast)
-config_from script n [] k config is = cc
-config_from script n (cast ∷ casts) zero config is =
-    let same : config_of script n cast ≡ config = cc in
-    let place : n ≡ n + zero = omega arith in
-    (cast, refl, sym same ∙ ap (λ (j : ℕ). config_of script j cast) place)
-config_from script n (cast ∷ casts) (suc k) config is =
-    let (line, at, of_line) = config_from script (n + 1) casts k config is in
-    let place : (n + 1) + k ≡ n + suc k = omega arith in
-    (line, at, of_line ∙ ap (λ (j : ℕ). config_of script j line) place)
-
--- the machine at a place is configured by the script's line there
-config_at : (script : Script) (m : ℕ) (config : Config) → slice_get (script_configs script) m ≡ Some config →
-    IsConfigAt script m config
-config_at script m config is =
-    let (line, at, of_line) = config_from script 0 script.machines m config is in
-    let place : 0 + m ≡ m = omega arith in
-    (line, at, of_line ∙ ap (λ (j : ℕ). config_of script j line) place)
+use Rattle.honest_places.proofs.RuleAudits.{standard_rules_are_narrow}
+use Rattle.honest_places.proofs.Rules.{honest_entries_have_no_early_end, honest_entries_keep_the_rules}
+use Rattle.honest_places.specs.Honest.{HonestyIsOfHistories, MayAs, role_at}
+use Rattle.honest_places.specs.PlacesOfScripts.{AreOrderlyMachinesOf, MachinesAreHonest, ScriptsAreKept}
+use Rattle.honest_places.specs.PlacesOfScripts.{ScriptsAreNeverBroken, ScriptsAreNeverTooWide, ScriptsHaveNoEarlyEnd}
+use Rattle.honest_places.specs.PlacesOfScripts.{ScriptsKeepTheRules, ScriptsLeadToHonestPlaces}
+use Rattle.polling_world.proofs.MadeEntries.{entry-made}
+use Rattle.polling_world.proofs.Placing.{history_there}
+use Rattle.polling_world.proofs.Rosters.{roster_has_text}
+use Rattle.polling_world.specs.Configs.{Config, config_of}
+use Rattle.polling_world.specs.Keys.{post_of, roster_of}
+use Rattle.polling_world.specs.Machines.{MachineState}
+use Rattle.polling_world.specs.Rules.{RoleRefuses}
+use Rattle.polling_world.specs.Sending.{MaySend}
+use Rattle.polling_world.specs.Worlds.{machine_of, world_of}
+use Rattle.roster.specs.declared.post.Role.{Role}
+use Rattle.std.proofs.Common.{Contains, List, Ok, Some, ap, arith, length, option_map, slice_get, subst, sym, ℕ, ◌++◌}
+use Rattle.std.proofs.Common.{◌∙◌, ◌∷◌, ◌≡◌}
+use Rattle.std.proofs.lemmas.List.{length-map}
+use Rattle.std.proofs.lemmas.Option.{slice_get-map}
+use Rattle.survivor_rows.specs.Rows.{role_in}
 
 module _ (script : Script) (lawful : IsLawful script) where
   -- the role of a machine in the script's roster is the script's
@@ -51,104 +46,55 @@ module _ (script : Script) (lawful : IsLawful script) where
       ap role_in (slice_get-map (post_of script) script.machines m ∙ ap (option_map (post_of script)) is)
 
   -- what a machine of the script may send, its role may
-  may_as : (m : ℕ) (config : Config) → IsConfigAt script m config → (past : List (Event SealedEntry))
-      (e : SealedEntry) → MaySend config past e → MayAs (role_at (roster_of script) m) m past e
-  may_as m config (cast, at, of_script) past e may =
-      let role : config.role ≡ role_at (roster_of script) m =
-      ap (λ (c : Config). c.role) of_script ∙ sym (role_is m cast at) in
-      let number : config.number ≡ m = ap (λ (c : Config). c.number) of_script in
-      let actions : config.actions ≡ cast.actions = ap (λ (c : Config). c.actions) of_script in
+  may_as : (m : ℕ) (past : List (Event SealedEntry)) (e : SealedEntry) → MaySendAt script m past e →
+      MayAs (role_at (roster_of script) m) m past e
+  may_as m past e (cast, at, may) =
       let each = all_at (IsCast script.version script.machines) script.machines m cast lawful.machines.actions at in
       let among = all_at
       (λ (d : Deed). IsDeedOf cast.role d × IsDeedIn script.version d × IsDeedAmong script.machines d) cast.actions
-      (length (sent past)) may.deed each
-      (ap (λ (ds : List Deed). slice_get ds (length (sent past))) (sym actions) ∙ may.action) in
+      (length (sent past)) may.deed each may.action in
       let says : may.deed ≡ e.entry.deed =
       sym (ap (λ (s : SealedEntry). s.entry.deed) may.made
-      ∙ ap (λ (n : Entry). n.deed) (entry-made config _ _ _ may.deed)) in
+      ∙ ap (λ (n : Entry). n.deed) (entry-made (config_of script m cast) _ _ _ may.deed)) in
       record {
         of_role = subst (λ (r : Role). IsDeedOf r e.entry.deed) (sym (role_is m cast at))
-            (subst (λ (d : Deed). IsDeedOf cast.role d) says among.0);
-        no_cause = subst (λ (r : Role). RoleRefuses r m past e.entry.deed (Ok tt)) role
-            (subst (λ (k : ℕ). RoleRefuses config.role k past e.entry.deed (Ok tt)) number
-            (subst (λ (d : Deed). RoleRefuses config.role config.number past d (Ok tt)) says may.allowed));
-      }
-
-  module _ (next : ℕ → List (Event SealedEntry) → Option SealedEntry) (tells : TellsNext (script_configs script) next)
-    where
-      -- what is sent next is of a machine of the script, which may send it
-      may_next : (m : ℕ) (h : List (Event SealedEntry)) (e : SealedEntry) → next m h ≡ Some e →
-          (config : Config) × IsConfigAt script m config × MaySend config h e
-      may_next m h e is = by (slice_get (script_configs script) m) refl (tells m h)
-        where
-          -- the same by whether there is a machine at the place
-          by : (o : Option Config) → slice_get (script_configs script) m ≡ o → IsNextAt o h (next m h) →
-              (config : Config) × IsConfigAt script m config × MaySend config h e
-          by None at none = let both : Some e ≡ None = sym is ∙ none in cc
-          by (Some config) at tells = (
-            config,
-            config_at script m config at,
-            subst (λ (o : Option SealedEntry). IsNextOf config h o) is tells,
-          )
-
-      -- what is sent next is what a legal history asks
-      legal_next : IsLegalNext node_of_sealed next
-      legal_next m h e is =
-          let (config, at, may) = may_next m h e is in
-          subst (λ (k : ℕ). MayFollow node_of_sealed k h (Sent e)) (ap (λ (c : Config). c.number) at.2)
-          (may_follow config h e may)
-
-      -- so what the machines come to by any steps is an honest place
-      honest_play : (steps : List Step) →
-          IsHonest (roster_of script) (play node_of_sealed next script.log (start (length script.machines)) steps)
-      honest_play steps = record {
-        supervisor = (roster_has_text script lawful).roster.supervisor;
-        orderly = IsOrderly-play node_of_sealed next script.log legal_next (start (length script.machines)) steps
-            (IsOrderly-start node_of_sealed (length script.machines));
-        allowed = λ m past e later is.
-            let (config, at, may) = may_next m past e
-            (plays_are_made node_of_sealed next script.log (length script.machines) steps m past e later is) in
-            may_as m config at past e may;
+            (subst (IsDeedOf cast.role) says among.0);
+        no_cause = subst (λ (r : Role). RoleRefuses r m past e.entry.deed (Ok tt)) (sym (role_is m cast at))
+            (subst (λ (d : Deed). RoleRefuses cast.role m past d (Ok tt)) says may.allowed);
       }
 
   -- what was sent by machines that are there, which could send it
-  machine_allowed : (machines : List MachineState) → AreOrderlyMachinesOf script machines → (m : ℕ)
+  machine_could : (machines : List MachineState) → AreOrderlyMachinesOf script machines → (m : ℕ)
       (past : List (Event SealedEntry)) (e : SealedEntry) (later : List (Event SealedEntry)) →
-      history (world_of machines) m ≡ past ++ Sent e ∷ later → MayAs (role_at (roster_of script) m) m past e
-  machine_allowed machines are m past e later is =
-      by (slice_get machines m) refl (sym (ap history_of (slice_get-map machine_of machines m)) ∙ is)
-    where
-      -- a machine without a history sent nothing
-      none : (p : List (Event SealedEntry)) → [] ≡ p ++ Sent e ∷ later → ⊥
-      none [] is = cc
-      none (x ∷ p) is = cc
+      history (world_of machines) m ≡ past ++ Sent e ∷ later → MaySendAt script m past e
+  machine_could machines are m past e later is =
+      let there = in_world (world_of machines) m past (Sent e) later is in
+      let (u, at) = element_at machines m (omega (arith, there, length-map machines machine_of)) in
+      let number = are.number m u at in
+      let (cast, stands, of) = are.config m u at in (
+        cast,
+        ap (slice_get script.machines) (sym number) ∙ stands,
+        subst (λ (c : Config). MaySend c past e) (of ∙ ap (λ (n : ℕ). config_of script n cast) number)
+            (are.made m u at past e later (sym (history_there machines m u at) ∙ is)),
+      )
 
-      -- the same by whether there is a machine at the place
-      by : (o : Option MachineState) → slice_get machines m ≡ o →
-          history_of (option_map machine_of o) ≡ past ++ Sent e ∷ later → MayAs (role_at (roster_of script) m) m past e
-      by None at is = absurd (none past is)
-      by (Some u) at is =
-          let number = are.number m u at in
-          let (line, stands, of_line) = are.config m u at in
-          may_as m u.config (
-            line,
-            ap (slice_get script.machines) (sym number) ∙ stands,
-            of_line ∙ ap (λ (n : ℕ). config_of script n line) number,
-          ) past e (are.made m u at past e later is)
-
--- the laws
+-- the machines of a script that are orderly together are an honest place
 pub machines_are_honest : MachinesAreHonest
 machines_are_honest script machines lawful are = record {
   supervisor = (roster_has_text script lawful).roster.supervisor;
   orderly = are.orderly;
-  allowed = machine_allowed script lawful machines are;
+  allowed = λ m past e later is.
+      may_as script lawful m past e (machine_could script lawful machines are m past e later is);
 }
 
 -- a lawful script's machines come to an honest polling place
 pub scripts_lead_to_honest_places : ScriptsLeadToHonestPlaces
-scripts_lead_to_honest_places script steps w lawful (next, tells, played) =
-    subst (λ (v : World SealedEntry). IsHonest (roster_of script) v) (sym played)
-    (honest_play script lawful next tells steps)
+scripts_lead_to_honest_places script steps w lawful come = record {
+  supervisor = (roster_has_text script lawful).roster.supervisor;
+  orderly = (scripts_are_honest script lawful steps w come).orderly;
+  allowed = λ m past e later is.
+      may_as script lawful m past e (could_send script lawful steps w come m past e later is);
+}
 
 -- of any entries that were sent there each standard rule holds
 pub scripts_keep_the_rules : ScriptsKeepTheRules
@@ -176,3 +122,18 @@ pub scripts_are_never_too_wide : ScriptsAreNeverTooWide
 scripts_are_never_too_wide script steps w lawful come distinct =
     standard_rules_are_narrow (roster_of script) w (scripts_lead_to_honest_places script steps w lawful come) distinct
     (scripts_are_honest script lawful steps w come).few_sent
+
+-- whether a place is honest depends on its histories alone: what was sent in the one was sent in
+-- the other
+pub honesty_is_of_histories : HonestyIsOfHistories
+honesty_is_of_histories posts v w same honest = record {
+  supervisor = honest.supervisor;
+  orderly = record {
+    legal = λ m. subst (IsLegal node_of_sealed m) (sym (same m)) (honest.orderly.legal m);
+    heard = λ m e c.
+        let (k, there) = sent_in_cases v e
+        (honest.orderly.heard m e (subst (λ (h : List (Event SealedEntry)). Contains h (Got e)) (same m) c)) in
+        sent_in_from w k e (subst (λ (h : List (Event SealedEntry)). Contains h (Sent e)) (sym (same k)) there);
+  };
+  allowed = λ m past e later is. honest.allowed m past e later (sym (same m) ∙ is);
+}

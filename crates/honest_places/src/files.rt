@@ -37,6 +37,7 @@ ghost use Rattle.honest_places.specs.WhatIsLeft.{AreReadIn};
 
 /// A world of a script whose roster was read is honest under that roster, and in its election,
 /// which is that of every roster that is read of a file.
+#[tactic(auto, using(crate::proofs::HonestFiles::roster_election))]
 pub fn worlds_of_scripts_are_honest()
     ensures honest { (machines : List Post) (election : List ℕ) (w : World SealedEntry) →
         IsOfScript machines election w → IsHonestWorld machines w }
@@ -56,6 +57,7 @@ pub fn rosters_of_scripts_are_read()
 
 /// The logs of a script's machines that have played, as they are written, are files of their world,
 /// all of them whole.
+#[tactic(auto, using(crate::proofs::PlayedFiles::written_are_left))]
 pub fn written_logs_are_of_their_world()
     ensures left { (script : Script) (machines : List MachineState) → IsPlayed script machines →
         AreFilesOf (world_of machines) (written_logs machines) }
@@ -65,6 +67,7 @@ pub fn written_logs_are_of_their_world()
 
 /// What is left of the logs of an honest world, under its roster, gives logs that are read as what
 /// the machines did. None of them is refused, since each is within the limit of a log's file.
+#[tactic(auto, using(crate::proofs::LeftFileFacts::files_give))]
 pub fn left_files_give_their_logs()
     ensures read { (posts : List Post) (w : World SealedEntry) → IsHonestWorld posts w →
         (names : List (List ℕ)) (files : List (Option (List ℕ))) → AreFilesOf w files →
@@ -87,6 +90,7 @@ pub fn left_files_give_their_logs()
 
 /// Where different entries have different digests, the graph of what is read of an honest world's
 /// logs accuses nobody and agrees with the world, and it isn't refused.
+#[tactic(auto, using(crate::proofs::HonestFiles::graph_is_honest))]
 pub fn left_logs_give_an_honest_graph()
     ensures graph { (posts : List Post) (w : World SealedEntry) → IsHonestWorld posts w →
         Distinct node_of_sealed (sent_in w) → (logs : List LogRead) → AreReadIn w logs →

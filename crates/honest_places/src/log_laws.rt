@@ -38,6 +38,7 @@ pub fn scripts_lead_to_honest_worlds()
 {}
 
 /// What is left of a machine's log has a header, and is read as what the machine did.
+#[tactic(auto, using(crate::proofs::ReadLogs::logs_give))]
 pub fn what_is_left_is_read()
     ensures header { (posts : List Post) (w : World SealedEntry) → IsHonestWorld posts w →
         (m : ℕ) → m < length w → (bytes : List ℕ) → IsLeftOf m (history w m) bytes →

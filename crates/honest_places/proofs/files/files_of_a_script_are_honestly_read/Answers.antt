@@ -1,4 +1,4 @@
-use Rattle.honest_places.proofs.HonestFiles.{script_distinct, script_given, script_not_refused, script_read}
+use Rattle.honest_places.proofs.HonestFiles.{script_read, script_given, script_not_refused, script_distinct}
 use Rattle.honest_places.proofs.files.files_of_a_script_are_honestly_read.Goals as goal
 
 pub returns-clause-read : goal.returns-clause-read

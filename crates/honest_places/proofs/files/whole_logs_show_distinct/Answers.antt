@@ -1,4 +1,4 @@
-use Rattle.honest_places.proofs.HonestGraphs.{graph_shows_distinct}
+use Rattle.honest_places.proofs.HonestFiles.{graph_shows_distinct}
 use Rattle.honest_places.proofs.files.whole_logs_show_distinct.Goals as goal
 
 pub returns : goal.returns

@@ -1,4 +1,4 @@
-use Rattle.honest_places.proofs.HonestGraphs.{of_script_election, of_script_is_honest, roster_election}
+use Rattle.honest_places.proofs.HonestFiles.{of_script_is_honest, of_script_election}
 use Rattle.honest_places.proofs.files.worlds_of_scripts_are_honest.Goals as goal
 
 pub returns-clause-honest : goal.returns-clause-honest
@@ -6,6 +6,3 @@ returns-clause-honest c = of_script_is_honest
 
 pub returns-clause-election : goal.returns-clause-election
 returns-clause-election c = of_script_election
-
-pub returns-clause-read : goal.returns-clause-read
-returns-clause-read c = roster_election

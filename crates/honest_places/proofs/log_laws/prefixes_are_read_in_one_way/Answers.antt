@@ -1,4 +1,4 @@
-use Rattle.honest_places.proofs.OneReading.{same_end, same_kept}
+use Rattle.honest_places.proofs.ReadLogs.{same_kept, same_end}
 use Rattle.honest_places.proofs.log_laws.prefixes_are_read_in_one_way.Goals as goal
 
 pub returns-clause-kept : goal.returns-clause-kept

@@ -1,4 +1,4 @@
-use Rattle.honest_places.proofs.Ends.{honest_entries_have_no_early_end}
+use Rattle.honest_places.proofs.Rules.{honest_entries_have_no_early_end}
 use Rattle.honest_places.proofs.rule_laws.honest_entries_have_no_early_end.Goals as goal
 
 pub returns : goal.returns

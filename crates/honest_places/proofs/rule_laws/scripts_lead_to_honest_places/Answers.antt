@@ -1,13 +1,10 @@
-use Rattle.honest_places.proofs.RuleScripts.{scripts_lead_to_honest_places, machines_are_honest, scripts_keep_the_rules}
+use Rattle.honest_places.proofs.RuleScripts.{scripts_lead_to_honest_places, scripts_keep_the_rules}
 use Rattle.honest_places.proofs.RuleScripts.{scripts_are_never_broken, scripts_are_kept, scripts_are_never_too_wide}
 use Rattle.honest_places.proofs.RuleScripts.{scripts_have_no_early_end}
 use Rattle.honest_places.proofs.rule_laws.scripts_lead_to_honest_places.Goals as goal
 
 pub returns-clause-honest : goal.returns-clause-honest
 returns-clause-honest c = scripts_lead_to_honest_places
-
-pub returns-clause-machines : goal.returns-clause-machines
-returns-clause-machines c = machines_are_honest
 
 pub returns-clause-rules : goal.returns-clause-rules
 returns-clause-rules c = scripts_keep_the_rules
