@@ -1,15 +1,14 @@
 -- The lines of a proof list exactly the ancestors of their entries, and so they say of them what
 -- the graph does.
 use Rattle.std.proofs.Common.{Bool, false}
-use Rattle.audit_proof.proofs.Imports.{◌≡◌, ℕ, zero, suc, ◌+◌, ◌<◌, true, List, [], ◌∷◌, ◌++◌, refl, sym, subst, ap}
-use Rattle.audit_proof.proofs.Imports.{◌∙◌, inl, inr, arith, cond, Some, slice_get, not, ◌==◌, Contains, list_all}
-use Rattle.audit_proof.proofs.Imports.{eqb-true, eq-eqb, and_parts, and_from, not-true, not_from_false, False}
-use Rattle.audit_proof.proofs.Imports.{Unknown, True, IsWalk, IsAncestor, Descends, reaches, is_whole, before}
-use Rattle.audit_proof.proofs.Imports.{Contains-map_cases, list_any_some, list_any_of, place_of, list_all_each}
-use Rattle.audit_proof.proofs.Imports.{list_all_from_each, ancestor_from_reaches, reaches_from_walk, clean_itself}
-use Rattle.audit_proof.proofs.Imports.{clean_ancestor, is_whole_from_clean, walk_on, Graph, ProofStep, Line}
-use Rattle.audit_proof.proofs.Imports.{listed_in, IsOnLine, IsLineOf, lists, is_whole_line, before_on}
-use Rattle.audit_proof.proofs.Imports.{LinesListAncestors}
+use Rattle.audit_proof.proofs.Imports.{Contains, Contains-map_cases, Descends, False, Graph, IsAncestor, IsLineOf}
+use Rattle.audit_proof.proofs.Imports.{IsOnLine, IsWalk, Line, LinesListAncestors, List, ProofStep, Some, True, Unknown}
+use Rattle.audit_proof.proofs.Imports.{[], ancestor_from_reaches, and_from, and_parts, ap, arith, before, before_on}
+use Rattle.audit_proof.proofs.Imports.{clean_ancestor, clean_itself, cond, eq-eqb, eqb-true, inl, inr, is_whole}
+use Rattle.audit_proof.proofs.Imports.{is_whole_from_clean, is_whole_line, list_all, list_all_each, list_all_from_each}
+use Rattle.audit_proof.proofs.Imports.{list_any_of, list_any_some, listed_in, lists, not, not-true, not_from_false}
+use Rattle.audit_proof.proofs.Imports.{place_of, reaches, reaches_from_walk, refl, slice_get, subst, suc, sym, true}
+use Rattle.audit_proof.proofs.Imports.{walk_on, zero, ℕ, ◌++◌, ◌+◌, ◌<◌, ◌==◌, ◌∙◌, ◌∷◌, ◌≡◌}
 
 -- tests of which each implies the other are one
 pub same_test : (a b : Bool) → (a ≡ true → b ≡ true) → (b ≡ true → a ≡ true) → a ≡ b

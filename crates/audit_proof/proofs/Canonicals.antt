@@ -2,11 +2,10 @@
 use Rattle.audit_proof.specs.declared.fault.ProofFault.TheVariants.{Memory}
 use Rattle.audit_proof.proofs.Imports.{At, Contains, Contains-cons_cases, Contains-head, Contains-later, Contains-map}
 use Rattle.audit_proof.proofs.Imports.{Contains-map_cases, Contains-none, Err, Falls, Graph, HasEachLine}
-use Rattle.audit_proof.proofs.Imports.{IsCanonicalProof, IsGreatest, IsLineOf, IsOnLine, IsTextFor, IsWalk, Line}
-use Rattle.audit_proof.proofs.Imports.{List, Ok, OneTextIsCanonical, ProofStep, Some, WrittenProofsSayAll, [], all_at}
-use Rattle.audit_proof.proofs.Imports.{ap, arith, element_at, head_text, inl, inr, length, listed_in, member_at}
-use Rattle.audit_proof.proofs.Imports.{place_of, proof_text, refl, slice_get, subst, suc, sym, zero, ℕ, ◌++◌}
-use Rattle.audit_proof.proofs.Imports.{◌<◌, ◌∙◌, ◌∷◌, ◌≡◌}
+use Rattle.audit_proof.proofs.Imports.{IsCanonicalProof, IsGreatest, IsLineOf, IsOnLine, IsTextFor, IsWalk, Line, List}
+use Rattle.audit_proof.proofs.Imports.{Ok, OneTextIsCanonical, ProofStep, Some, WrittenProofsSayAll, [], all_at, ap}
+use Rattle.audit_proof.proofs.Imports.{arith, element_at, head_text, inl, inr, length, listed_in, member_at, place_of}
+use Rattle.audit_proof.proofs.Imports.{proof_text, refl, slice_get, subst, suc, sym, zero, ℕ, ◌++◌, ◌<◌, ◌∙◌, ◌∷◌, ◌≡◌}
 use Rattle.audit_proof.proofs.Ancestries.{ancestor_listed, listed_ancestor}
 use Rattle.audit_proof.proofs.Listings.{pair_at}
 use Rattle.audit_proof.proofs.Trusted.{full_proofs_say_all}

@@ -1,9 +1,9 @@
 -- A rule has the same value by a table of a proof's lines.
 use Rattle.std.proofs.Common.{Bool}
-use Rattle.audit_proof.proofs.Imports.{◌≡◌, ℕ, ◌<◌, List, length, get_or, ap, ◌∙◌, subst, Option, Some, slice_get}
-use Rattle.audit_proof.proofs.Imports.{slice_get-get_or, Graph, Trees, first_value, values, Row, Kind, has_kind, unbound}
-use Rattle.audit_proof.proofs.Imports.{same_values, Listing, Line, own_line, before_on, before_by, whole_by, three_by}
-use Rattle.audit_proof.proofs.Imports.{IsListingOf, listing_before, listing_whole}
+use Rattle.audit_proof.proofs.Imports.{Graph, IsListingOf, Kind, Line, List, Listing, Option, Row, Some, Trees, ap}
+use Rattle.audit_proof.proofs.Imports.{before_by, before_on, first_value, get_or, has_kind, length, listing_before}
+use Rattle.audit_proof.proofs.Imports.{listing_whole, own_line, same_values, slice_get, slice_get-get_or, subst}
+use Rattle.audit_proof.proofs.Imports.{three_by, unbound, values, whole_by, ℕ, ◌<◌, ◌∙◌, ◌≡◌}
 
 -- within the rows, the row at a place is of the kind that the list says
 pub at_row : (rows : List Row) (kind : Kind) (i : ℕ) (d : Row) → i < length rows →

@@ -4,7 +4,6 @@ pub mod Trusted
 pub mod Listings
 pub mod PackedFacts
 pub mod Checks
-pub mod Texts
 pub mod Parts
 pub mod LongerLines
 pub mod Tests
@@ -14,7 +13,6 @@ pub mod ReadTexts
 pub mod Walked
 pub mod Writing
 pub mod Canonicals
-pub mod WordsRead
 pub mod StepsRead
 pub mod LinesRead
 pub mod SameArrows

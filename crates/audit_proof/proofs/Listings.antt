@@ -1,14 +1,14 @@
 -- Tables of a proof's lines, step by step.
 use Rattle.std.proofs.Common.{Bool, false}
-use Rattle.audit_proof.proofs.Imports.{◌≡◌, ◌≢◌, ℕ, zero, suc, ◌+◌, ◌-◌, ◌<◌, ◌≤◌, true, cond, List, [], ◌∷◌, ◌++◌}
-use Rattle.audit_proof.proofs.Imports.{length, get_or, take, drop, refl, sym, ap, ◌∙◌, subst, inl, inr, Option, Some}
-use Rattle.audit_proof.proofs.Imports.{None, arith, append_assoc, replicate, ◌||◌, slice_get, slice_set, not, ◌==◌}
-use Rattle.audit_proof.proofs.Imports.{◌&&◌, AllPairs, option_or, filter, range_with_len, list_any, list_all}
-use Rattle.audit_proof.proofs.Imports.{drop_more, get_or-set_same, get_or-set_other, length-set, length-replicate}
-use Rattle.audit_proof.proofs.Imports.{get_or-replicate, find-append, slice_get_past, slice_get_within}
-use Rattle.audit_proof.proofs.Imports.{get_or_from_slice_get, same_Some, eqb-true, eq-eqb, ne_eqb, cases_eq, cases_lt}
-use Rattle.audit_proof.proofs.Imports.{Contains-map_cases, list_any_some, place_of, taken_more, ProofStep, Line}
-use Rattle.audit_proof.proofs.Imports.{listed_in, own_line, is_whole_line, Falls}
+use Rattle.audit_proof.proofs.Imports.{AllPairs, Contains-map_cases, Falls, Line, List, None, Option, ProofStep, Some}
+use Rattle.audit_proof.proofs.Imports.{[], ap, append_assoc, arith, cases_eq, cases_lt, cond, drop, drop_more, eq-eqb}
+use Rattle.audit_proof.proofs.Imports.{eqb-true, filter, find-append, get_or, get_or-replicate, get_or-set_other}
+use Rattle.audit_proof.proofs.Imports.{get_or-set_same, get_or_from_slice_get, inl, inr, is_whole_line, length}
+use Rattle.audit_proof.proofs.Imports.{length-replicate, length-set, list_all, list_any, list_any_some, listed_in}
+use Rattle.audit_proof.proofs.Imports.{ne_eqb, not, option_or, own_line, place_of, range_with_len, refl, replicate}
+use Rattle.audit_proof.proofs.Imports.{same_Some, slice_get, slice_get_past, slice_get_within, slice_set, subst, suc}
+use Rattle.audit_proof.proofs.Imports.{sym, take, taken_more, true, zero, ℕ, ◌&&◌, ◌++◌, ◌+◌, ◌-◌, ◌<◌, ◌==◌, ◌||◌, ◌∙◌}
+use Rattle.audit_proof.proofs.Imports.{◌∷◌, ◌≡◌, ◌≢◌, ◌≤◌}
 use Rattle.audit_proof.proofs.Trusted.{line_found}
 
 -- in a list whose pairs are related, what is at two places is related

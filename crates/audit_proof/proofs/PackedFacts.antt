@@ -1,14 +1,14 @@
 -- The table of a line of a proof, place by place.
 use Rattle.std.proofs.Common.{Bool, false}
-use Rattle.audit_proof.proofs.Imports.{◌≡◌, ◌∙◌, ℕ, zero, suc, ◌+◌, ◌<◌, ◌≤◌, true, cond, List, [], ◌∷◌, ◌++◌, length}
-use Rattle.audit_proof.proofs.Imports.{get_or, take, drop, replicate, refl, sym, ap, subst, inl, inr, Some, ◌||◌}
-use Rattle.audit_proof.proofs.Imports.{arith, ◌-◌, slice_get, slice_set, not, ◌==◌, ◌&&◌, list_any}
-use Rattle.audit_proof.proofs.Imports.{list_all, drop_more, map-append, get_or-set_other, length-set}
-use Rattle.audit_proof.proofs.Imports.{length-replicate, get_or-replicate, length-append}
-use Rattle.audit_proof.proofs.Imports.{get_or_append_left, get_or-append-add, list_any-append, list_all-append}
-use Rattle.audit_proof.proofs.Imports.{slice_get_within, get_or_from_slice_get, slice_get-get_or, eq-eqb, ne_eqb}
-use Rattle.audit_proof.proofs.Imports.{eqb-true, cases_eq, Contains-map_cases, list_any_some, all_at, place_of}
-use Rattle.audit_proof.proofs.Imports.{taken_more, ProofStep, listed_in, Falls, step_in, steps_from, unpacked}
+use Rattle.audit_proof.proofs.Imports.{Contains-map_cases, Falls, List, ProofStep, Some, [], all_at, ap, arith}
+use Rattle.audit_proof.proofs.Imports.{cases_eq, codes, cond, drop, drop_more, eq-eqb, eqb-true, get_or}
+use Rattle.audit_proof.proofs.Imports.{get_or-append-add, get_or-replicate, get_or-set_other, get_or_append_left}
+use Rattle.audit_proof.proofs.Imports.{get_or_from_slice_get, inl, inr, length, length-append, length-replicate}
+use Rattle.audit_proof.proofs.Imports.{length-set, list_all, list_all-append, list_any, list_any-append, list_any_some}
+use Rattle.audit_proof.proofs.Imports.{listed_in, map-append, ne_eqb, not, place_of, refl, replicate, slice_get}
+use Rattle.audit_proof.proofs.Imports.{slice_get-get_or, slice_get_within, slice_set, step_in, steps_from, subst, suc}
+use Rattle.audit_proof.proofs.Imports.{sym, take, taken_more, true, unpacked, zero, ℕ, ◌&&◌, ◌++◌, ◌+◌, ◌-◌, ◌<◌, ◌==◌}
+use Rattle.audit_proof.proofs.Imports.{◌||◌, ◌∙◌, ◌∷◌, ◌≡◌, ◌≤◌}
 use Rattle.std.proofs.Common.{append-nil}
 use Rattle.std.specs.Prelude.{All}
 use Rattle.audit_proof.proofs.Listings.{pair_at}

@@ -1,13 +1,13 @@
 -- By a proof a rule has the value that it has by the graph, or none.
 use Rattle.std.proofs.Common.{Bool, false}
-use Rattle.audit_proof.proofs.Imports.{◌≡◌, ℕ, ◌<◌, true, cond, List, [], ◌∷◌, length, refl, sym, subst, ap, ◌∙◌, inl}
-use Rattle.audit_proof.proofs.Imports.{inr, Option, Some, None, ◌==◌, Contains, eqb-true, eq-eqb, false≢true}
-use Rattle.audit_proof.proofs.Imports.{length-map, Three, False, Unknown, True, Descends, is_whole, before, Node}
-use Rattle.audit_proof.proofs.Imports.{Contains-none, Contains-head, Contains-later, Contains-cons_cases, place_of}
-use Rattle.audit_proof.proofs.Imports.{all_at, Graph, Row, unbound, first_value, three_in, IsLess, IsLessKnown}
-use Rattle.audit_proof.proofs.Imports.{less_is_known, rules_are_settled, same_values, Line, IsLineOf, IsProofOf}
-use Rattle.audit_proof.proofs.Imports.{HasEachLine, own_line, lists, is_whole_line, before_on, before_by, whole_by}
-use Rattle.audit_proof.proofs.Imports.{three_by, ProofsSayNoMore, FullProofsSayAll, ProofsAreRight}
+use Rattle.audit_proof.proofs.Imports.{Contains, Contains-cons_cases, Contains-head, Contains-later, Contains-none}
+use Rattle.audit_proof.proofs.Imports.{Descends, False, FullProofsSayAll, Graph, HasEachLine, IsLess, IsLessKnown}
+use Rattle.audit_proof.proofs.Imports.{IsLineOf, IsProofOf, Line, List, Node, None, Option, ProofsAreRight}
+use Rattle.audit_proof.proofs.Imports.{ProofsSayNoMore, Row, Some, Three, True, Unknown, [], all_at, ap, before}
+use Rattle.audit_proof.proofs.Imports.{before_by, before_on, cond, eq-eqb, eqb-true, false≢true, first_value, inl, inr}
+use Rattle.audit_proof.proofs.Imports.{is_whole, is_whole_line, length, length-map, less_is_known, lists, own_line}
+use Rattle.audit_proof.proofs.Imports.{place_of, refl, rules_are_settled, same_values, subst, sym, three_by, three_in}
+use Rattle.audit_proof.proofs.Imports.{true, unbound, whole_by, ℕ, ◌<◌, ◌==◌, ◌∙◌, ◌∷◌, ◌≡◌}
 use Rattle.std.specs.Prelude.{map}
 use Rattle.audit_proof.proofs.Ancestries.{order_same, whole_same}
 

@@ -1,14 +1,13 @@
 -- The line of a survivor, made from its parents down.
-use Rattle.audit_proof.proofs.Imports.{◌≡◌, ◌≢◌, ℕ, zero, suc, ◌+◌, ◌<◌, ◌≤◌, List, [], ◌∷◌, ◌++◌, refl, sym, ap, ◌∙◌}
-use Rattle.audit_proof.proofs.Imports.{subst, inl, inr, arith, length, get_or, Option, Some, None, ◌⊎◌, option_or}
-use Rattle.audit_proof.proofs.Imports.{Contains, cases_eq, get_or-set_same, get_or-set_other, length-set}
-use Rattle.audit_proof.proofs.Imports.{Contains-append_cases, Contains-append_left, Contains-append_right}
-use Rattle.audit_proof.proofs.Imports.{Contains-none, Contains-head, Contains-cons_cases, replicate, cases_lt}
-use Rattle.audit_proof.proofs.Imports.{get_or-replicate, length-replicate, all_pairs_push, slice_get-get_or}
-use Rattle.audit_proof.proofs.Imports.{same_Some, Contains-map_cases, place_of, Graph, ProofStep, listed_in, IsOnLine}
-use Rattle.audit_proof.proofs.Imports.{IsReached, IsLineOf, IsGreatest, line_with, via_at, noted_one, IsNoted}
-use Rattle.audit_proof.proofs.Imports.{IsWalking}
-use Rattle.audit_proof.proofs.LongerLines.{on_more, listed_more, listed_new, more_on, reach_more, reach_new}
+use Rattle.audit_proof.proofs.Imports.{Contains, Contains-append_cases, Contains-append_left, Contains-append_right}
+use Rattle.audit_proof.proofs.Imports.{Contains-cons_cases, Contains-head, Contains-map_cases, Contains-none, Graph}
+use Rattle.audit_proof.proofs.Imports.{IsGreatest, IsLineOf, IsNoted, IsOnLine, IsWalking, List, None, Option}
+use Rattle.audit_proof.proofs.Imports.{ProofStep, Some, [], ap, arith, before, cases_eq, cases_lt, get_or-replicate}
+use Rattle.audit_proof.proofs.Imports.{get_or-set_other, get_or-set_same, inl, inr, length, length-replicate}
+use Rattle.audit_proof.proofs.Imports.{length-set, line_with, listed_in, noted_one, option_or, place_of, refl}
+use Rattle.audit_proof.proofs.Imports.{replicate, same_Some, subst, suc, sym, via_at, zero, ℕ, ◌++◌, ◌+◌, ◌<◌, ◌∙◌, ◌∷◌}
+use Rattle.audit_proof.proofs.Imports.{◌≡◌, ◌≢◌, ◌≤◌, ◌⊎◌}
+use Rattle.audit_proof.proofs.LongerLines.{begun_more, begun_none, listed_more, listed_new, more_on, on_more}
 use Rattle.audit_proof.proofs.LongerLines.{push_places}
 
 -- what is there or is put there is there
@@ -108,15 +107,7 @@ module _ (graph : Graph) (entry : ℕ) where
       let size : length new ≡ entry = noted.each ∙ length-replicate entry None in
       record {
         each = size;
-        begun = record {
-          inside = λ x on. elim on [
-            | inl same ↦ subst (λ (n : ℕ). n < graph.count) (sym same) inside
-            | inr c ↦ absurd (Contains-none x c)
-          ];
-          falls = λ i j d l m. absurd (omega (arith, m));
-          reached = λ k s there. cc;
-          arrows = λ k s there. cc;
-        };
+        begun = begun_none graph entry inside;
         above = λ k s there. cc;
         noted = λ p v is. elim (noted.fresh p v is) [
           | inl old ↦ absurd (none_yet p v old)
@@ -174,28 +165,13 @@ module _ (graph : Graph) (entry : ℕ) where
         let low : a < entry = subst (λ (n : ℕ). a < n) walking.each (noted_place vias a v is) in
         let own = walking.noted a v is in
         let entry_inside = walking.begun.inside entry (inl refl) in
+        let via_inside = walking.begun.inside v own.0 in
         record {
           each = noted.each ∙ walking.each;
-          begun = record {
-            inside = λ y on. elim (on_more entry steps step y on) [
-              | inl old ↦ walking.begun.inside y old
-              | inr new_is ↦ subst (λ (z : ℕ). z < graph.count) new_is (omega (arith, low, entry_inside))
-            ];
-            falls = all_pairs_push (λ (s t : ProofStep). t.ancestor < s.ancestor) steps step walking.begun.falls
-                (λ k d l. let high = walking.above k (get_or steps k d) (slice_get-get_or steps k d l) in
-                omega (arith, high, is_next));
-            reached = λ k s there. elim (push_places steps step k s there) [
-              | inl old ↦ reach_more entry steps step k s.via (walking.begun.reached k s old)
-              | inr last ↦
-                  subst (λ (t : ProofStep). IsReached (line_with entry (steps ++ step ∷ [])) k t.via) last.1
-                  (subst (λ (n : ℕ). IsReached (line_with entry (steps ++ step ∷ [])) n v) (sym last.0)
-                  (reach_new entry steps step v own.0))
-            ];
-            arrows = λ k s there. elim (push_places steps step k s there) [
-              | inl old ↦ walking.begun.arrows k s old
-              | inr last ↦ subst (λ (t : ProofStep). Contains (graph.parents t.via) t.ancestor) last.1 own.1
-            ];
-          };
+          begun = begun_more graph (line_with entry steps) step (
+            (omega (arith, low, entry_inside), via_inside),
+            (λ s c. above s c, own),
+          ) walking.begun;
           above = λ k s there. elim (push_places steps step k s there) [
             | inl old ↦ let high = walking.above k s old in omega (arith, high, is_next)
             | inr last ↦ subst (λ (t : ProofStep). a ≤ t.ancestor) last.1 (omega arith)
@@ -241,16 +217,18 @@ module _ (graph : Graph) (entry : ℕ) where
           ];
         }
       where
-        -- what is on the line already is above the new ancestor
+        -- what is listed already is above the new ancestor
+        above : (s : ProofStep) → Contains steps s → a < s.ancestor
+        above s c = let (k, there) = place_of steps s c in let high = walking.above k s there in omega (arith, high, is_next)
+
+        -- and so is what is on the line
         all_above : (u : ℕ) → IsOnLine (line_with entry steps) u → a < u
         all_above u (inl same) =
             let low : a < entry = subst (λ (n : ℕ). a < n) walking.each (noted_place vias a v is) in
             omega (arith, low, same)
         all_above u (inr c) =
             let (s, among, same) = Contains-map_cases (λ (s : ProofStep). s.ancestor) steps u c in
-            let (k, there) = place_of steps s among in
-            let high = walking.above k s there in
-            omega (arith, high, same, is_next)
+            omega (arith, above s among, same)
 
   -- where all places are done the line is complete
   pub walk_ends : (vias : List (Option ℕ)) (steps : List ProofStep) → IsWalking graph entry 0 vias steps →

@@ -1,12 +1,11 @@
 -- A proof's text, written line by line.
-use Rattle.audit_proof.proofs.Imports.{◌≡◌, ℕ, zero, suc, ◌+◌, ◌-◌, ◌<◌, ◌≤◌, List, [], ◌∷◌, ◌++◌, refl, sym, ap, ◌∙◌}
-use Rattle.audit_proof.proofs.Imports.{subst, inl, inr, arith, append_assoc, get_or, length, Option, Some, None}
-use Rattle.audit_proof.proofs.Imports.{replicate, Contains, flat_map, decimal, length-decimal-le, length_push}
-use Rattle.audit_proof.proofs.Imports.{length-append, length-replicate, flat_map-append, all_pairs_push}
-use Rattle.audit_proof.proofs.Imports.{slice_get-get_or, Descends, Contains-head, Contains-later, all_at}
-use Rattle.audit_proof.proofs.Imports.{all_from_places, Graph, ProofStep, Line, IsLineOf, line_text, head_text}
-use Rattle.audit_proof.proofs.Imports.{IsGreatest, IsCanonicalText, line_with, via_at, noted_one, IsNoted, IsWalking}
-use Rattle.audit_proof.proofs.Imports.{IsWriting}
+use Rattle.audit_proof.proofs.Imports.{Contains, Contains-head, Contains-later, Descends, Graph, IsCanonicalText}
+use Rattle.audit_proof.proofs.Imports.{IsGreatest, IsLineOf, IsNoted, IsWalking, IsWriting, Line, List, None, Option}
+use Rattle.audit_proof.proofs.Imports.{ProofStep, Some, [], all_at, all_from_places, all_pairs_push, ap, append_assoc}
+use Rattle.audit_proof.proofs.Imports.{arith, decimal, flat_map, flat_map-append, get_or, head_text, inl, inr, length}
+use Rattle.audit_proof.proofs.Imports.{length-append, length-decimal-le, length-replicate, length_push, line_text}
+use Rattle.audit_proof.proofs.Imports.{line_with, noted_one, refl, replicate, slice_get-get_or, subst, suc, sym, via_at}
+use Rattle.audit_proof.proofs.Imports.{zero, ℕ, ◌++◌, ◌+◌, ◌-◌, ◌<◌, ◌∙◌, ◌∷◌, ◌≡◌, ◌≤◌}
 use Rattle.std.proofs.Common.{append-nil}
 use Rattle.audit_proof.proofs.LongerLines.{push_places}
 use Rattle.audit_proof.proofs.Walked.{noted_none, noted_more, noted_place, walk_starts, walk_past, walk_on_with}

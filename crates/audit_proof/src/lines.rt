@@ -5,7 +5,6 @@ ghost use Rattle.audit_proof.specs.Lines.{IsBegun, listed_in};
 ghost use Rattle.audit_proof.specs.Reading.{end_read, lacks_no_parent, line_of_entry, past_read};
 ghost use Rattle.audit_proof.specs.inside.Begun.{
   IsListedTable,
-  IsNumbered,
   Told,
   line_with,
   spaced,
@@ -98,7 +97,7 @@ fn read_entry_line<A: Arrows>(
     least: usize,
 ) -> Result<PackedLine, Unread>
     requires few { (A.graph graph.now).count ≤ 16384 }
-    requires entry { IsNumbered (codes "past") line.now entry }
+    requires entry { entry.end ≤ length line.now }
     ensures { Told (line_of_entry (A.graph graph.now) (nat_le least) is_ended
         (entry.number, spaced (drop entry.end line.now))) result }
 {
@@ -115,6 +114,7 @@ fn read_entry_line<A: Arrows>(
     }
 }
 
+#[tactic(auto, unfolding(crate::specs::Reading::past_read))]
 /// The line that the bytes are, whose entry is at least this.
 pub(crate) fn read_line<A: Arrows>(
     alloc: Global,

@@ -1,6 +1,6 @@
 use Rattle.audit_proof.proofs.lines.finish.Goals as goal
-use Rattle.audit_proof.proofs.Imports.{List, ProofStep, arith, get_or, length, line_with, slice_get-get_or, subst}
-use Rattle.audit_proof.proofs.Imports.{sym, ℕ, ◌<◌}
+use Rattle.audit_proof.proofs.Imports.{List, ProofStep, arith, get_or, length, line_with, slice_get-get_or, subst, sym}
+use Rattle.audit_proof.proofs.Imports.{ℕ, ◌<◌}
 use Rattle.audit_proof.proofs.LongerLines.{reached_on_line, step_on_line}
 
 pub lacks_no_parent-requires-clause-inside : goal.lacks_no_parent-requires-clause-inside

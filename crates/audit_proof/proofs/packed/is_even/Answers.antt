@@ -1,5 +1,5 @@
 use Rattle.std.proofs.Common.{Bool, false}
-use Rattle.audit_proof.proofs.Imports.{◌≡◌, ◌∙◌, ◌||◌, ap, sym, true, get_or, not, ◌==◌, unpacked}
+use Rattle.audit_proof.proofs.Imports.{ap, get_or, not, sym, true, unpacked, ◌==◌, ◌||◌, ◌∙◌, ◌≡◌}
 use Rattle.audit_proof.proofs.Listings.{or_true}
 use Rattle.audit_proof.proofs.PackedFacts.{listed_below, unlisted, passes_on, passes_stop}
 use Rattle.audit_proof.proofs.packed.is_even.Goals as goal

@@ -1,4 +1,4 @@
-use Rattle.audit_proof.proofs.Imports.{◌≡◌, drop, not, steps_from, unpacked}
+use Rattle.audit_proof.proofs.Imports.{drop, not, steps_from, unpacked, ◌≡◌}
 use Rattle.audit_proof.proofs.PackedFacts.{all_pass}
 use Rattle.audit_proof.proofs.packed.is_even.Given as goal
 

@@ -1,6 +1,6 @@
-use Rattle.audit_proof.proofs.Imports.{◌≡◌, ◌∙◌, ◌+◌, ◌-◌, ◌<◌, ℕ, List, [], ◌∷◌, ◌++◌, Option, None, replicate, sym}
-use Rattle.audit_proof.proofs.Imports.{ap, refl, subst, arith, rules, Contains, all_at, place_of, ProofStep, IsNoted}
-use Rattle.audit_proof.proofs.Imports.{IsWalking, via_at}
+use Rattle.audit_proof.proofs.Imports.{Contains, IsNoted, IsWalking, List, None, Option, ProofStep, [], all_at, ap}
+use Rattle.audit_proof.proofs.Imports.{arith, place_of, refl, replicate, rules, subst, sym, via_at, ℕ, ◌++◌, ◌+◌, ◌-◌}
+use Rattle.audit_proof.proofs.Imports.{◌<◌, ◌∙◌, ◌∷◌, ◌≡◌}
 use Rattle.std.specs.List.{All}
 use Rattle.audit_proof.proofs.Walked.{walk_starts, walk_past, walk_on_with, walk_ends, walk_greatest}
 use Rattle.audit_proof.proofs.proving.line_at.Goals as goal

@@ -1,5 +1,5 @@
-use Rattle.audit_proof.proofs.Imports.{◌+◌, ℕ, List, Option, sym, subst, get_or, take, taken_more}
-use Rattle.audit_proof.proofs.Imports.{get_or_from_slice_get, slice_get-get_or, IsNoted, noted_one}
+use Rattle.audit_proof.proofs.Imports.{IsNoted, List, Option, get_or, get_or_from_slice_get, noted_one}
+use Rattle.audit_proof.proofs.Imports.{slice_get-get_or, subst, sym, take, taken_more, ℕ, ◌+◌}
 use Rattle.audit_proof.proofs.Walked.{noted_more}
 use Rattle.audit_proof.proofs.proving.note.Goals as goal
 

@@ -1,5 +1,5 @@
-use Rattle.audit_proof.proofs.Imports.{◌≡◌, ◌∙◌, ◌++◌, ◌+◌, ◌≤◌, [], sym, ap, subst, List, ℕ, length, rules, arith}
-use Rattle.audit_proof.proofs.Imports.{head_text, IsWriting}
+use Rattle.audit_proof.proofs.Imports.{IsWriting, List, [], ap, arith, head_text, length, rules, subst}
+use Rattle.audit_proof.proofs.Imports.{sym, ℕ, ◌++◌, ◌+◌, ◌∙◌, ◌≡◌, ◌≤◌}
 use Rattle.audit_proof.proofs.Writing.{writing_none, writing_more, writing_ends, too_long, head_short}
 use Rattle.audit_proof.proofs.proving.prove.Goals as goal
 

@@ -1,4 +1,4 @@
-use Rattle.audit_proof.proofs.Imports.{◌≤◌, length, IsWriting}
+use Rattle.audit_proof.proofs.Imports.{IsWriting, length, ◌≤◌}
 use Rattle.audit_proof.proofs.proving.prove.Given as goal
 
 -- the lines so far are written, and aren't too long

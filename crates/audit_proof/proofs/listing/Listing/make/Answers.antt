@@ -1,8 +1,8 @@
 use Rattle.std.proofs.Common.{Bool}
-use Rattle.audit_proof.proofs.Imports.{◌≡◌, ◌∙◌, ◌<◌, sym, ap, refl, subst, length, inl, inr, ℕ, ◌+◌, List, get_or}
-use Rattle.audit_proof.proofs.Imports.{take, arith, slice_set, slice_get_read, slice_get-get_or, take_all, all_at}
-use Rattle.audit_proof.proofs.Imports.{all_from_places, member_at, Contains-map, ProofStep, Line, IsLineOf, own_line}
-use Rattle.audit_proof.proofs.Imports.{is_whole_line, Falls}
+use Rattle.audit_proof.proofs.Imports.{Contains-map, Falls, IsLineOf, Line, List, ProofStep, all_at, all_from_places}
+use Rattle.audit_proof.proofs.Imports.{ap, arith, get_or, inl, inr, is_whole_line, length, member_at, own_line, refl}
+use Rattle.audit_proof.proofs.Imports.{slice_get-get_or, slice_get_read, slice_set, subst, sym, take, take_all, ℕ, ◌+◌}
+use Rattle.audit_proof.proofs.Imports.{◌<◌, ◌∙◌, ◌≡◌}
 use Rattle.audit_proof.proofs.Listings.{IsTable, table_more}
 use Rattle.audit_proof.proofs.listing.Listing.make.Goals as goal
 

@@ -1,5 +1,5 @@
-use Rattle.audit_proof.proofs.Imports.{sym, subst, List, ℕ, listing_before, listing_whole, env_of, IsVisitedFor}
-use Rattle.audit_proof.proofs.Imports.{all_visited}
+use Rattle.audit_proof.proofs.Imports.{IsVisitedFor, List, all_visited, env_of, listing_before, listing_whole, subst}
+use Rattle.audit_proof.proofs.Imports.{sym, ℕ}
 use Rattle.audit_proof.proofs.tables.TablesKnowledge.visited.Goals as goal
 
 pub returns : goal.returns
