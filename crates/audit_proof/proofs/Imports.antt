@@ -29,8 +29,8 @@ pub use Rattle.audit_proof.specs.inside.Kinds.{places_of}
 pub use Rattle.audit_proof.specs.inside.Listing.{IsListingOf, listing_before, listing_whole}
 pub use Rattle.audit_proof.specs.inside.Lists.{IsReadingLines, fault_of, line_from}
 pub use Rattle.audit_proof.specs.inside.Packing.{step_in, steps_from, unpacked}
-pub use Rattle.audit_proof.specs.inside.Walks.{IsNoted, IsWalking, noted_one, via_at}
-pub use Rattle.audit_proof.specs.inside.Writings.{IsWriting}
+pub use Rattle.audit_proof.specs.inside.Walks.{IsNoted, IsWalking, made_line, made_lines, noted_all, noted_one, via_at}
+pub use Rattle.audit_proof.specs.inside.Walks.{visited, walked}
 pub use Rattle.entry_order.proofs.Lists.{Contains-cons_cases, Contains-head, Contains-later, Contains-map}
 pub use Rattle.entry_order.proofs.Lists.{Contains-map_cases, Contains-none, list_any_of, list_any_some}
 pub use Rattle.entry_order.proofs.Places.{all_at, all_from_places, element_at, member_at, place_of, push_before}
@@ -71,22 +71,24 @@ pub use Rattle.std.proofs.lemmas.Bool.{ltb-true, ne_eqb, not-true, not_from_fals
 pub use Rattle.std.proofs.lemmas.Bool.Decides.{Decides-and, Decides-eqb, Decides-like, Decides-ltb, Decides-or}
 pub use Rattle.std.proofs.lemmas.Bool.Decides.{same_from_decides}
 pub use Rattle.std.proofs.lemmas.Fmt.{decimal_by_steps, decimal_nonempty, length-decimal-le}
-pub use Rattle.std.proofs.lemmas.List.{drop-drop, drop_all, drop_more, get_or-append-add, get_or-replicate}
-pub use Rattle.std.proofs.lemmas.List.{get_or-set_other, get_or-set_same, get_or_append_left, get_or_at, length-append}
-pub use Rattle.std.proofs.lemmas.List.{length-drop, length-map, length-replicate, length-set, length_push, map-append}
-pub use Rattle.std.proofs.lemmas.List.{map_push, nil_from_length, take_all, take_at}
-pub use Rattle.std.proofs.lemmas.List.Concat.{flat_map-append}
+pub use Rattle.std.proofs.lemmas.List.{drop-drop, drop_all, drop_more, flat_map_more, get_or-append-add}
+pub use Rattle.std.proofs.lemmas.List.{get_or-replicate, get_or-set_other, get_or-set_same, get_or_append_left}
+pub use Rattle.std.proofs.lemmas.List.{get_or_at, get_or_past, length-append, length-drop, length-map, length-replicate}
+pub use Rattle.std.proofs.lemmas.List.{length-set, map-append, map_push, nil_from_length, same_lists, take_all, take_at}
 pub use Rattle.std.proofs.lemmas.List.Elements.{All-append, All-cons, All-contains, All-from_get_or, All-head, All-map}
-pub use Rattle.std.proofs.lemmas.List.Elements.{All-nil, All-push, All-tail, All-weaker, Contains-append_cases}
-pub use Rattle.std.proofs.lemmas.List.Elements.{Contains-append_left, Contains-append_right, Contains-get_or}
-pub use Rattle.std.proofs.lemmas.List.Elements.{Contains-push, Contains-push_cases}
-pub use Rattle.std.proofs.lemmas.List.Folds.{find-append, flat_map-map, list_all-append, list_any-append, list_any_at}
+pub use Rattle.std.proofs.lemmas.List.Elements.{All-nil, All-push, All-tail, All-weaker, Contains-append_left}
+pub use Rattle.std.proofs.lemmas.List.Elements.{Contains-append_right, Contains-get_or, Contains-push}
+pub use Rattle.std.proofs.lemmas.List.Elements.{Contains-push_cases}
+pub use Rattle.std.proofs.lemmas.List.Folds.{find-append, flat_map-map, length-flat_map-take, list_all-append}
+pub use Rattle.std.proofs.lemmas.List.Folds.{list_any-append, list_any_at}
+pub use Rattle.std.proofs.lemmas.List.FromFn.{get_or-map-range_with_len, length-map-range_with_len}
+pub use Rattle.std.proofs.lemmas.List.FromFn.{map-range_with_len_more, take-map-range_with_len}
 pub use Rattle.std.proofs.lemmas.List.Quantifiers.{all_pairs_push}
 pub use Rattle.std.proofs.lemmas.List.Splits.{join_with_byte-slice_split, length-slice_split, slice_split_at}
 pub use Rattle.std.proofs.lemmas.List.Splits.{slice_split_first, slice_split_none}
 pub use Rattle.std.proofs.lemmas.List.Sums.{fails_before_first, passes_at_first, split_at_first}
-pub use Rattle.std.proofs.lemmas.Option.{cond_some, get_or_from_slice_get, same_Some, slice_get-get_or, slice_get_past}
-pub use Rattle.std.proofs.lemmas.Option.{slice_get_read, slice_get_within}
+pub use Rattle.std.proofs.lemmas.Option.{cond_some, get_or_from_slice_get, none-some, same_Some, slice_get-get_or}
+pub use Rattle.std.proofs.lemmas.Option.{slice_get_past, slice_get_read, slice_get_within}
 pub use Rattle.std.proofs.lemmas.Slice.Eq.{bytes_eq-Decides}
 pub use Rattle.std.specs.Fmt.{decimal}
 pub use Rattle.std.specs.List.{Contains, after_first, before_first, filter, flat_map, join_with_byte, list_all}

@@ -1,15 +1,16 @@
 -- Tables of a proof's lines, step by step.
 use Rattle.std.proofs.Common.{Bool, false}
-use Rattle.audit_proof.proofs.Imports.{AllPairs, Contains-map_cases, Falls, Line, List, None, Option, ProofStep, Some}
-use Rattle.audit_proof.proofs.Imports.{[], ap, append_assoc, arith, cases_eq, cases_lt, cond, drop, drop_more, eq-eqb}
-use Rattle.audit_proof.proofs.Imports.{eqb-true, filter, find-append, get_or, get_or-replicate, get_or-set_other}
-use Rattle.audit_proof.proofs.Imports.{get_or-set_same, get_or_from_slice_get, inl, inr, is_whole_line, length}
-use Rattle.audit_proof.proofs.Imports.{length-replicate, length-set, list_all, list_any, list_any_some, listed_in}
-use Rattle.audit_proof.proofs.Imports.{ne_eqb, not, option_or, own_line, place_of, range_with_len, refl, replicate}
-use Rattle.audit_proof.proofs.Imports.{same_Some, slice_get, slice_get_past, slice_get_within, slice_set, subst, suc}
-use Rattle.audit_proof.proofs.Imports.{sym, take, taken_more, true, zero, ℕ, ◌&&◌, ◌++◌, ◌+◌, ◌-◌, ◌<◌, ◌==◌, ◌||◌, ◌∙◌}
+use Rattle.audit_proof.proofs.Imports.{AllPairs, Contains, Contains-map, Contains-map_cases, Falls, Line, List, None}
+use Rattle.audit_proof.proofs.Imports.{Option, ProofStep, Some, [], ap, append_assoc, arith, cases_eq, cases_lt, cond}
+use Rattle.audit_proof.proofs.Imports.{eq-eqb, false_from_ne_true, filter, find-append, get_or, get_or-replicate}
+use Rattle.audit_proof.proofs.Imports.{get_or-set_other, get_or-set_same, get_or_from_slice_get, inl, inr}
+use Rattle.audit_proof.proofs.Imports.{is_whole_line, length, length-replicate, length-set, list_any, listed_in}
+use Rattle.audit_proof.proofs.Imports.{member_at, ne_eqb, option_or, own_line, place_of, range_with_len, refl}
+use Rattle.audit_proof.proofs.Imports.{replicate, same_Some, slice_get, slice_get_past, slice_get_within, slice_set}
+use Rattle.audit_proof.proofs.Imports.{subst, suc, sym, take, taken_more, true, zero, ℕ, ◌++◌, ◌+◌, ◌-◌, ◌<◌, ◌==◌, ◌∙◌}
 use Rattle.audit_proof.proofs.Imports.{◌∷◌, ◌≡◌, ◌≢◌, ◌≤◌}
 use Rattle.audit_proof.proofs.Trusted.{line_found}
+use Rattle.audit_proof.proofs.Tests.{in_decides}
 
 -- in a list whose pairs are related, what is at two places is related
 pub pair_at : {X : Type 0} (R : X → X → Type 0) (xs : List X) (i j : ℕ) (x y : X) → AllPairs R xs → i < j →
@@ -29,31 +30,6 @@ taken_at (y ∷ xs) zero j x at = cc
 taken_at (y ∷ xs) (suc k) zero x at = (omega arith, at)
 taken_at (y ∷ xs) (suc k) (suc j) x at = let (low, there) = taken_at xs k j x at in (omega (arith, low), there)
 
--- a test or true is true
-pub or_true : (b : Bool) → (b || true) ≡ true
-or_true true = refl
-or_true false = refl
-
--- ---- whether steps are even
-
-module _ (ragged : ℕ → Bool) (steps : List ProofStep) (i : ℕ) (step : ProofStep) (within : i < length steps)
-    (is : step ≡ get_or steps i step) where
-  -- whether no step from a place on is ragged
-  abbrev pub even_from : ℕ → Bool
-  even_from k = list_all (λ y. not (ragged y)) (listed_in (drop k steps))
-
-  -- step by step
-  even_step : even_from i ≡ (not (ragged step.ancestor) && even_from (i + 1))
-  even_step =
-      ap (λ (ss : List ProofStep). list_all (λ y. not (ragged y)) (listed_in ss))
-      (drop_more steps i step within ∙ ap (λ (s : ProofStep). s ∷ drop (i + 1) steps) (sym is))
-
-  pub even_more : ragged step.ancestor ≡ false → even_from i ≡ even_from (i + 1)
-  even_more even = even_step ∙ ap (λ (b : Bool). not b && even_from (i + 1)) even
-
-  pub even_stop : ragged step.ancestor ≡ true → even_from i ≡ false
-  even_stop ragged_here = even_step ∙ ap (λ (b : Bool). not b && even_from (i + 1)) ragged_here
-
 -- ---- searching steps that fall
 
 module _ (steps : List ProofStep) (y : ℕ) where
@@ -67,36 +43,31 @@ module _ (steps : List ProofStep) (y : ℕ) where
   -- a step with y is found
   pub listed_at : (k : ℕ) (step : ProofStep) → slice_get steps k ≡ Some step → step.ancestor ≡ y →
       list_any (λ z. z == y) (listed_in steps) ≡ true
-  listed_at k step at same = any_at steps k at
-    where
-      any_at : (ss : List ProofStep) (j : ℕ) → slice_get ss j ≡ Some step → list_any (λ z. z == y) (listed_in ss) ≡ true
-      any_at [] j found = cc
-      any_at (s ∷ ss) zero found =
-          let here : s ≡ step = cc in
-          ap (λ (b : Bool). b || list_any (λ z. z == y) (listed_in ss))
-          (eq-eqb s.ancestor y (ap (λ (t : ProofStep). t.ancestor) here ∙ same))
-      any_at (s ∷ ss) (suc j) found =
-          ap (λ (b : Bool). (s.ancestor == y) || b) (any_at ss j found) ∙ or_true (s.ancestor == y)
+  listed_at k step at same =
+      (in_decides (listed_in steps) y).1
+      (subst (Contains (listed_in steps)) same (Contains-map (λ (s : ProofStep). s.ancestor) steps step
+      (member_at steps k step at)))
 
   -- where nothing is left between, y isn't listed
   pub none_between : (k : ℕ) → StandsBetween k k → list_any (λ z. z == y) (listed_in steps) ≡ false
-  none_between k (_, _, apart) = by (list_any (λ z. z == y) (listed_in steps)) refl
-    where
-      by : (b : Bool) → list_any (λ z. z == y) (listed_in steps) ≡ b → b ≡ false
-      by false is = refl
-      by true is =
-          let (z, c, t) = list_any_some (λ z. z == y) (listed_in steps) is in
-          let (step, among, same) = Contains-map_cases (λ (s : ProofStep). s.ancestor) steps z c in
-          let (j, at) = place_of steps step among in
-          let here : step.ancestor ≡ y = same ∙ eqb-true z y t in
-          let sides = apart j step at in
-          elim (cases_lt j k) [
-            | inl low ↦ absurd (omega (arith, sides.0 low, here))
-            | inr high ↦ absurd (omega (arith, sides.1 high, here))
-          ]
+  none_between k (_, _, apart) = false_from_ne_true _ (λ is.
+      let (step, among, same) = Contains-map_cases (λ (s : ProofStep). s.ancestor) steps y
+      ((in_decides (listed_in steps) y).0 is) in
+      let (j, at) = place_of steps step among in
+      let sides = apart j step at in
+      elim (cases_lt j k) [
+        | inl low ↦ omega (arith, sides.0 low, same)
+        | inr high ↦ omega (arith, sides.1 high, same)
+      ])
 
   module _ (falls : Falls steps) (low high middle : ℕ) (step : ProofStep) (at : slice_get steps middle ≡ Some step)
       (inside : low ≤ middle) (below : middle < high) (between : StandsBetween low high) where
+    -- what is in the middle
+    at_middle : (k : ℕ) (other : ProofStep) → slice_get steps k ≡ Some other → k ≡ middle →
+        other.ancestor ≡ step.ancestor
+    at_middle k other there same =
+        ap (λ (s : ProofStep). s.ancestor) (same_Some other step (sym there ∙ ap (slice_get steps) same ∙ at))
+
     -- above y the search goes on after the middle
     pub go_up : y < step.ancestor → StandsBetween (middle + 1) high
     go_up above = (
@@ -108,13 +79,10 @@ module _ (steps : List ProofStep) (y : ℕ) where
         up : (k : ℕ) (other : ProofStep) → slice_get steps k ≡ Some other → k < middle + 1 → y < other.ancestor
         up k other there l =
             elim (cases_eq k middle) [
-              | inl same ↦
-                  let one : other ≡ step = same_Some other step (sym there ∙ ap (slice_get steps) same ∙ at) in
-                  omega (arith, above, ap (λ (s : ProofStep). s.ancestor) one)
+              | inl same ↦ omega (arith, above, at_middle k other there same)
               | inr apart ↦
-                  let less = pair_at (λ (a b : ProofStep). b.ancestor < a.ancestor) steps k middle other step falls
-                  (omega (arith, l, apart)) there at in
-                  omega (arith, above, less)
+                  omega (arith, above, pair_at (λ (a b : ProofStep). b.ancestor < a.ancestor) steps k middle other step
+                  falls (omega (arith, l, apart)) there at)
             ]
 
     -- below y the search goes on before the middle
@@ -128,13 +96,10 @@ module _ (steps : List ProofStep) (y : ℕ) where
         down : (k : ℕ) (other : ProofStep) → slice_get steps k ≡ Some other → middle ≤ k → other.ancestor < y
         down k other there l =
             elim (cases_eq k middle) [
-              | inl same ↦
-                  let one : other ≡ step = same_Some other step (sym there ∙ ap (slice_get steps) same ∙ at) in
-                  omega (arith, under, ap (λ (s : ProofStep). s.ancestor) one)
+              | inl same ↦ omega (arith, under, at_middle k other there same)
               | inr apart ↦
-                  let less = pair_at (λ (a b : ProofStep). b.ancestor < a.ancestor) steps middle k step other falls
-                  (omega (arith, l, apart)) at there in
-                  omega (arith, under, less)
+                  omega (arith, under, pair_at (λ (a b : ProofStep). b.ancestor < a.ancestor) steps middle k step other
+                  falls (omega (arith, l, apart)) at there)
             ]
 
 -- ---- the table
@@ -164,9 +129,7 @@ module _ (ragged : ℕ → Bool) (lines : List Line) (count : ℕ) where
     other_line x apart =
         ap (λ (ls : List Line). own_line ls x) more_lines
         ∙ find-append (λ (l : Line). l.entry == x) (take k lines) (line ∷ [])
-        ∙ ap (λ (b : Bool). option_or (own_line (take k lines) x) (cond b (Some line) None))
-        (ne_eqb line.entry x (λ e. apart (sym e)))
-        ∙ or_none (own_line (take k lines) x)
+        ∙ rw (ne_eqb line.entry x (λ e. apart (sym e))) (or_none (own_line (take k lines) x))
 
     -- none of the lines before is of the line's entry
     none_before : own_line (take k lines) line.entry ≡ None
@@ -178,16 +141,15 @@ module _ (ragged : ℕ → Bool) (lines : List Line) (count : ℕ) where
             let (c, same) = line_found (take k lines) line.entry other is in
             let (j, there) = place_of (take k lines) other c in
             let (low, also) = taken_at lines k j other there in
-            let less = pair_at (λ (a b : Line). a.entry < b.entry) lines j k other line rises low also at in
-            absurd (omega (arith, less, same))
+            absurd (omega (arith, pair_at (λ (a b : Line). a.entry < b.entry) lines j k other line rises low also at,
+            same))
 
     -- its own survivor has it now
     found_now : own_line (take (k + 1) lines) line.entry ≡ Some line
     found_now =
         ap (λ (ls : List Line). own_line ls line.entry) more_lines
         ∙ find-append (λ (l : Line). l.entry == line.entry) (take k lines) (line ∷ [])
-        ∙ ap (λ (o : Option Line). option_or o (cond (line.entry == line.entry) (Some line) None)) none_before
-        ∙ ap (λ (b : Bool). cond b (Some line) None) (eq-eqb line.entry line.entry refl)
+        ∙ rw (none_before, eq-eqb line.entry line.entry refl) refl
 
     pub table_more : (numbers : List ℕ) (wholes : List Bool) → line.entry < count → IsTable numbers wholes k →
         IsTable (slice_set numbers line.entry k) (slice_set wholes line.entry (is_whole_line ragged (Some line)))
@@ -197,23 +159,18 @@ module _ (ragged : ℕ → Bool) (lines : List Line) (count : ℕ) where
       wholes_all = length-set wholes line.entry (is_whole_line ragged (Some line)) ∙ table.wholes_all;
       found = λ x l. elim (cases_eq x line.entry) [
         | inl same ↦
-            ap (λ (z : ℕ). slice_get lines (get_or (slice_set numbers line.entry k) z 0)) same
-            ∙ ap (slice_get lines) (get_or-set_same numbers line.entry k 0 (subst (λ (n : ℕ). line.entry < n)
-            (sym table.numbers_all) inside))
-            ∙ at ∙ sym found_now ∙ ap (own_line (take (k + 1) lines)) (sym same)
+            rw (same, get_or-set_same numbers line.entry k 0 (omega (arith, table.numbers_all, inside)))
+            (at ∙ sym found_now)
         | inr apart ↦
-            ap (slice_get lines) (get_or-set_other numbers line.entry x k 0 apart)
-            ∙ table.found x l ∙ sym (other_line x apart)
+            rw (get_or-set_other numbers line.entry x k 0 apart, other_line x apart) (table.found x l)
       ];
       whole = λ x l. elim (cases_eq x line.entry) [
         | inl same ↦
-            ap (λ (z : ℕ). get_or (slice_set wholes line.entry (is_whole_line ragged (Some line))) z false) same
-            ∙ get_or-set_same wholes line.entry (is_whole_line ragged (Some line)) false
-            (subst (λ (n : ℕ). line.entry < n) (sym table.wholes_all) inside)
-            ∙ ap (is_whole_line ragged) (sym found_now ∙ ap (own_line (take (k + 1) lines)) (sym same))
+            rw (same, get_or-set_same wholes line.entry (is_whole_line ragged (Some line)) false
+            (omega (arith, table.wholes_all, inside))) (ap (is_whole_line ragged) (sym found_now))
         | inr apart ↦
-            get_or-set_other wholes line.entry x (is_whole_line ragged (Some line)) false apart
-            ∙ table.whole x l ∙ ap (is_whole_line ragged) (sym (other_line x apart))
+            rw (get_or-set_other wholes line.entry x (is_whole_line ragged (Some line)) false apart,
+            other_line x apart) (table.whole x l)
       ];
     }
 

@@ -1,6 +1,6 @@
 use Rattle.audit_proof.proofs.lines.read_entry_line.Goals as goal
 use Rattle.audit_proof.proofs.Imports.{Err, Line, List, Ok, ProofRead, Told, [], ap, arith, false_from_ne_true}
-use Rattle.audit_proof.proofs.Imports.{le-leb, leb-true, line_of_entry, line_with, nat_le, spaced}
+use Rattle.audit_proof.proofs.Imports.{if◌then◌else◌, le-leb, leb-true, line_of_entry, line_with, nat_le, spaced}
 use Rattle.audit_proof.proofs.Imports.{steps_read, subst, sym, ℕ, ◌∙◌}
 use Rattle.audit_proof.proofs.LinesRead.{entry_by, not_rising, out_of_range, read_begun, words_refused}
 

@@ -1,4 +1,4 @@
-use Rattle.audit_proof.proofs.Imports.{List, get_or, replicate, rules, slice_get-get_or, subst, sym, ℕ, ◌+◌, ◌≡◌}
+use Rattle.audit_proof.proofs.Imports.{List, codes, get_or, replicate, rules, slice_get-get_or, subst, sym, ℕ, ◌+◌, ◌≡◌}
 use Rattle.audit_proof.proofs.PackedFacts.{IsTableOf, a_step, table_blank, table_step}
 use Rattle.audit_proof.proofs.packed.table_of.Goals as goal
 
