@@ -1,20 +1,14 @@
 -- The lines of a proof list exactly the ancestors of their entries, and so they say of them what
 -- the graph does.
 use Rattle.std.proofs.Common.{Bool, false}
-use Rattle.audit_proof.proofs.Imports.{Contains, Contains-map_cases, Descends, False, Graph, IsAncestor, IsLineOf}
-use Rattle.audit_proof.proofs.Imports.{IsOnLine, IsWalk, Line, LinesListAncestors, List, ProofStep, Some, True, Unknown}
-use Rattle.audit_proof.proofs.Imports.{[], ancestor_from_reaches, and_from, and_parts, ap, arith, before, before_on}
-use Rattle.audit_proof.proofs.Imports.{clean_ancestor, clean_itself, cond, eq-eqb, eqb-true, inl, inr, is_whole}
-use Rattle.audit_proof.proofs.Imports.{is_whole_from_clean, is_whole_line, list_all, list_all_each, list_all_from_each}
-use Rattle.audit_proof.proofs.Imports.{list_any_of, list_any_some, listed_in, lists, not, not-true, not_from_false}
-use Rattle.audit_proof.proofs.Imports.{place_of, reaches, reaches_from_walk, refl, slice_get, subst, suc, sym, true}
-use Rattle.audit_proof.proofs.Imports.{walk_on, zero, ℕ, ◌++◌, ◌+◌, ◌<◌, ◌==◌, ◌∙◌, ◌∷◌, ◌≡◌}
-
--- tests of which each implies the other are one
-pub same_test : (a b : Bool) → (a ≡ true → b ≡ true) → (b ≡ true → a ≡ true) → a ≡ b
-same_test true b f g = sym (f refl)
-same_test false true f g = g refl
-same_test false false f g = refl
+use Rattle.audit_proof.proofs.Imports.{Contains, Contains-map_cases, Decides, Decides-and, Decides-like, Descends}
+use Rattle.audit_proof.proofs.Imports.{False, Graph, IsAncestor, IsLineOf, IsOnLine, IsWalk, Line, LinesListAncestors}
+use Rattle.audit_proof.proofs.Imports.{List, ProofStep, Some, True, Unknown, [], ancestor_from_reaches, ap, arith}
+use Rattle.audit_proof.proofs.Imports.{before, before_on, clean_ancestor, clean_itself, cond, inl, inr, is_whole}
+use Rattle.audit_proof.proofs.Imports.{is_whole_from_clean, is_whole_line, listed_in, lists, not, not-true}
+use Rattle.audit_proof.proofs.Imports.{not_from_false, place_of, reaches, reaches_from_walk, refl, same_from_decides}
+use Rattle.audit_proof.proofs.Imports.{slice_get, subst, suc, walk_on, zero, ℕ, ◌++◌, ◌+◌, ◌<◌, ◌∙◌, ◌∷◌, ◌≡◌}
+use Rattle.audit_proof.proofs.Tests.{all_decides, in_decides, itself}
 
 module _ (graph : Graph) (line : Line) (is : IsLineOf graph line) where
   -- the ancestor at each step is one of the line's entry
@@ -52,32 +46,28 @@ module _ (graph : Graph) (line : Line) (is : IsLineOf graph line) where
     -- y is listed if and only if it is reached
     lists_same : (y : ℕ) → lists (Some line) y ≡ reaches graph.parents line.entry y line.entry
     lists_same y =
-        same_test (lists (Some line) y) (reaches graph.parents line.entry y line.entry)
-        (λ l. let (z, c, t) = list_any_some (λ z. z == y) (listed_in line.steps) l in
-        let (zs, walk) = listed_ancestor y (subst (Contains (listed_in line.steps)) (eqb-true z y t) c) in
-        reaches_from_walk graph.parents descends line.entry y line.entry zs (omega arith) walk)
-        (λ r. list_any_of (λ z. z == y) (listed_in line.steps) y
-        (ancestor_listed y (ancestor_from_reaches graph.parents line.entry y line.entry r)) (eq-eqb y y refl))
+        same_from_decides _ _ (Decides-like _ (listed_ancestor y) (ancestor_listed y)
+        (in_decides (listed_in line.steps) y)) (
+          ancestor_from_reaches graph.parents line.entry y line.entry,
+          λ (zs, walk). reaches_from_walk graph.parents descends line.entry y line.entry zs (omega arith) walk,
+        )
 
     -- the line is whole if and only if its entry is
     pub whole_same : is_whole_line graph.ragged (Some line) ≡ is_whole graph.parents graph.ragged line.entry line.entry
     whole_same =
-        let rest = list_all (λ y. not (graph.ragged y)) (listed_in line.steps) in
-        same_test (is_whole_line graph.ragged (Some line))
-        (is_whole graph.parents graph.ragged line.entry line.entry)
-        (λ w. let parts = and_parts (not (graph.ragged line.entry)) rest w in
-        is_whole_from_clean graph.parents descends graph.ragged line.entry line.entry (
-          not-true (graph.ragged line.entry) parts.0,
-          λ y a. not-true (graph.ragged y)
-              (list_all_each (λ z. not (graph.ragged z)) (listed_in line.steps) parts.1 y (ancestor_listed y a)),
-        ))
-        (λ w. and_from (not (graph.ragged line.entry)) rest
-        (not_from_false (graph.ragged line.entry)
-        (clean_itself graph.parents descends graph.ragged line.entry line.entry w))
-        (list_all_from_each (λ z. not (graph.ragged z)) (listed_in line.steps)
-        (λ y c. let (zs, walk) = listed_ancestor y c in
-        not_from_false (graph.ragged y)
-        (clean_ancestor graph.parents descends graph.ragged line.entry line.entry (omega arith) w y zs walk))))
+        same_from_decides _ _ (Decides-like _ (λ w. (w.0, λ y a. w.1 y (ancestor_listed y a)))
+        (λ w. (w.0, λ y c. w.1 y (listed_ancestor y c)))
+        (Decides-and _ _ (even line.entry) (all_decides _ (λ y. graph.ragged y ≡ false) (listed_in line.steps) even)))
+        (Decides-like _ (λ w. (
+          clean_itself graph.parents descends graph.ragged line.entry line.entry w,
+          λ y (zs, walk). clean_ancestor graph.parents descends graph.ragged line.entry line.entry (omega arith) w y zs
+              walk,
+        )) (is_whole_from_clean graph.parents descends graph.ragged line.entry line.entry)
+        (itself (is_whole graph.parents graph.ragged line.entry line.entry)))
+      where
+        -- of one survivor
+        even : (y : ℕ) → Decides (not (graph.ragged y)) (graph.ragged y ≡ false)
+        even y = (not-true (graph.ragged y), not_from_false (graph.ragged y))
 
     -- the line says of the order before its entry what the graph says
     pub order_same : (y : ℕ) →

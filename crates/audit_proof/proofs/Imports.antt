@@ -25,7 +25,6 @@ pub use Rattle.audit_proof.specs.inside.Begun.{text_line}
 pub use Rattle.audit_proof.specs.inside.Bytes.{first_from}
 pub use Rattle.audit_proof.specs.inside.Closed.{closed_at}
 pub use Rattle.audit_proof.specs.inside.Falls.{Falls}
-pub use Rattle.audit_proof.specs.inside.Kinds.{places_of}
 pub use Rattle.audit_proof.specs.inside.Listing.{IsListingOf, listing_before, listing_whole}
 pub use Rattle.audit_proof.specs.inside.Lists.{IsReadingLines, fault_of, line_from}
 pub use Rattle.audit_proof.specs.inside.Packing.{step_in, steps_from, unpacked}
@@ -33,8 +32,7 @@ pub use Rattle.audit_proof.specs.inside.Walks.{IsNoted, IsWalking, made_line, ma
 pub use Rattle.audit_proof.specs.inside.Walks.{visited, walked}
 pub use Rattle.entry_order.proofs.Lists.{Contains-cons_cases, Contains-head, Contains-later, Contains-map}
 pub use Rattle.entry_order.proofs.Lists.{Contains-map_cases, Contains-none, list_any_of, list_any_some}
-pub use Rattle.entry_order.proofs.Places.{all_at, all_from_places, element_at, member_at, place_of, push_before}
-pub use Rattle.entry_order.proofs.Places.{taken_more}
+pub use Rattle.entry_order.proofs.Places.{all_at, element_at, member_at, place_of, push_before, taken_more}
 pub use Rattle.entry_order.proofs.Settled.{ancestor_from_reaches, clean_ancestor, clean_itself, is_whole_from_clean}
 pub use Rattle.entry_order.proofs.Settled.{list_all_each, list_all_from_each, reaches_from_walk, walk_on}
 pub use Rattle.entry_order.specs.Ancestors.{Descends, IsAncestor, IsWalk, before, is_whole, reaches}
@@ -65,24 +63,26 @@ pub use Rattle.std.proofs.Common.{cond, drop, false, get_or, inl, inr, length, n
 pub use Rattle.std.proofs.Common.{suc, sym, take, true, zero, ℕ, ◌%◌, ◌++◌, ◌+◌, ◌-◌, ◌/◌, ◌<◌, ◌^◌, ◌||◌, ◌↔◌, ◌∙◌}
 pub use Rattle.std.proofs.Common.{◌∷◌, ◌≡◌, ◌≢◌, ◌≤◌}
 pub use Rattle.std.proofs.Math.Seq.{drop-append-add}
-pub use Rattle.std.proofs.lemmas.Bool.{and_from, and_parts, and_right, cases_eq, cases_lt, eq-eqb, eqb-true}
-pub use Rattle.std.proofs.lemmas.Bool.{false_from_ne_true, false≢true, le-leb, le-ltb, leb-true, lt-leb, lt-ltb}
-pub use Rattle.std.proofs.lemmas.Bool.{ltb-true, ne_eqb, not-true, not_from_false}
+pub use Rattle.std.proofs.lemmas.Bool.{and_parts, and_right, cases_eq, cases_lt, eq-eqb, eqb-true, false_from_ne_true}
+pub use Rattle.std.proofs.lemmas.Bool.{false≢true, le-leb, le-ltb, leb-true, lt-leb, lt-ltb, ltb-true, ne_eqb, not-true}
+pub use Rattle.std.proofs.lemmas.Bool.{not_from_false}
 pub use Rattle.std.proofs.lemmas.Bool.Decides.{Decides-and, Decides-eqb, Decides-like, Decides-ltb, Decides-or}
 pub use Rattle.std.proofs.lemmas.Bool.Decides.{same_from_decides}
 pub use Rattle.std.proofs.lemmas.Fmt.{decimal_by_steps, decimal_nonempty, length-decimal-le}
 pub use Rattle.std.proofs.lemmas.List.{drop-drop, drop_all, drop_more, flat_map_more, get_or-append-add}
 pub use Rattle.std.proofs.lemmas.List.{get_or-replicate, get_or-set_other, get_or-set_same, get_or_append_left}
 pub use Rattle.std.proofs.lemmas.List.{get_or_at, get_or_past, length-append, length-drop, length-map, length-replicate}
-pub use Rattle.std.proofs.lemmas.List.{length-set, map-append, map_push, nil_from_length, same_lists, take_all, take_at}
+pub use Rattle.std.proofs.lemmas.List.{length-set, map-append, map-id, map_push, nil_from_length, same_lists, take_all}
+pub use Rattle.std.proofs.lemmas.List.{take_at}
 pub use Rattle.std.proofs.lemmas.List.Elements.{All-append, All-cons, All-contains, All-from_get_or, All-head, All-map}
 pub use Rattle.std.proofs.lemmas.List.Elements.{All-nil, All-push, All-tail, All-weaker, Contains-append_left}
 pub use Rattle.std.proofs.lemmas.List.Elements.{Contains-append_right, Contains-get_or, Contains-push}
 pub use Rattle.std.proofs.lemmas.List.Elements.{Contains-push_cases}
-pub use Rattle.std.proofs.lemmas.List.Folds.{find-append, flat_map-map, length-flat_map-take, list_all-append}
+pub use Rattle.std.proofs.lemmas.List.Folds.{find-append, find_at, flat_map-map, length-flat_map-take, list_all-append}
 pub use Rattle.std.proofs.lemmas.List.Folds.{list_any-append, list_any_at}
-pub use Rattle.std.proofs.lemmas.List.FromFn.{get_or-map-range_with_len, length-map-range_with_len}
-pub use Rattle.std.proofs.lemmas.List.FromFn.{map-range_with_len_more, take-map-range_with_len}
+pub use Rattle.std.proofs.lemmas.List.FromFn.{filter_of_map_range_with_len_more, get_or-map-range_with_len}
+pub use Rattle.std.proofs.lemmas.List.FromFn.{length-map-range_with_len, map-range_with_len_more}
+pub use Rattle.std.proofs.lemmas.List.FromFn.{take-map-range_with_len}
 pub use Rattle.std.proofs.lemmas.List.Quantifiers.{all_pairs_push}
 pub use Rattle.std.proofs.lemmas.List.Splits.{join_with_byte-slice_split, length-slice_split, slice_split_at}
 pub use Rattle.std.proofs.lemmas.List.Splits.{slice_split_first, slice_split_none}

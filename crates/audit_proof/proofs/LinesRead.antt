@@ -2,18 +2,17 @@
 use Rattle.audit_proof.specs.declared.fault.ProofFault.TheVariants.{Memory as OutOfMemory}
 use Rattle.audit_proof.specs.declared.reading.Unread.TheVariants.{Why, Memory}
 use Rattle.audit_proof.proofs.Imports.{At, Bool, Err, Form, Graph, IsBegun, IsListedTable, IsReadAnswer, IsReadingLines}
-use Rattle.audit_proof.proofs.Imports.{IsWordsAnswer, Line, LineAt, List, None, NotRising, Ok, Option, OutOfRange}
-use Rattle.audit_proof.proofs.Imports.{ProofFault, ProofRead, ProofStep, Result, Some, TextLine, Told, Unread, []}
-use Rattle.audit_proof.proofs.Imports.{after_first, after_line, and_right, ap, arith, at_number, before_first, bytes_eq}
-use Rattle.audit_proof.proofs.Imports.{cases_lt, closed_at, codes, count_read, decimal_nonempty, decimal_read, drop}
-use Rattle.audit_proof.proofs.Imports.{drop_all, drop_more, end_read, false, fault_of, first_from, form_read, get_or}
-use Rattle.audit_proof.proofs.Imports.{inl, inr, is_above, lacks_no_parent, le-leb, le-ltb, leb-true, length}
-use Rattle.audit_proof.proofs.Imports.{length-slice_split, line_from, line_of_entry, line_with, lines_in, lines_read}
-use Rattle.audit_proof.proofs.Imports.{list_all, list_all-append, list_any, listed_in, lists_parents, lt-leb, lt-ltb}
-use Rattle.audit_proof.proofs.Imports.{nat_le, nat_lt, ne_eqb, need, number-none, number_after, number_in, ok_or}
-use Rattle.audit_proof.proofs.Imports.{past_read, position_or_len, proof_of, refl, spaced, step_of_word, steps_read}
-use Rattle.audit_proof.proofs.Imports.{sym, take, text_line, true, words_on, ℕ, ◌&&◌, ◌++◌, ◌+◌, ◌-◌, ◌<◌, ◌==◌, ◌>>=◌}
-use Rattle.audit_proof.proofs.Imports.{◌∙◌, ◌∷◌, ◌≡◌, ◌≢◌, ◌≤◌}
+use Rattle.audit_proof.proofs.Imports.{IsWordsAnswer, Line, LineAt, List, None, Ok, Option, ProofFault, ProofRead}
+use Rattle.audit_proof.proofs.Imports.{ProofStep, Result, Some, TextLine, Told, Unread, [], after_first, after_line}
+use Rattle.audit_proof.proofs.Imports.{and_right, ap, arith, at_number, before_first, bytes_eq, cases_lt, closed_at}
+use Rattle.audit_proof.proofs.Imports.{codes, count_read, decimal_nonempty, decimal_read, drop, drop_all, drop_more}
+use Rattle.audit_proof.proofs.Imports.{end_read, false, fault_of, first_from, form_read, get_or, inl, inr, is_above}
+use Rattle.audit_proof.proofs.Imports.{lacks_no_parent, le-leb, le-ltb, leb-true, length, length-slice_split, line_from}
+use Rattle.audit_proof.proofs.Imports.{line_of_entry, line_with, lines_in, lines_read, list_all, list_all-append}
+use Rattle.audit_proof.proofs.Imports.{list_any, listed_in, lists_parents, lt-leb, lt-ltb, nat_le, nat_lt, ne_eqb, need}
+use Rattle.audit_proof.proofs.Imports.{number-none, number_after, number_in, ok_or, past_read, position_or_len}
+use Rattle.audit_proof.proofs.Imports.{proof_of, refl, spaced, step_of_word, steps_read, sym, take, text_line, true}
+use Rattle.audit_proof.proofs.Imports.{words_on, ℕ, ◌&&◌, ◌++◌, ◌+◌, ◌-◌, ◌<◌, ◌==◌, ◌>>=◌, ◌∙◌, ◌∷◌, ◌≡◌, ◌≢◌, ◌≤◌}
 use Rattle.audit_proof.proofs.Parts.{next_line, next_word, words_taken}
 use Rattle.audit_proof.proofs.Tests.{all_same}
 use Rattle.audit_proof.proofs.LongerLines.{begun_none}
@@ -101,23 +100,13 @@ closed_by graph entry steps listed table =
 
 -- ---- the line of an entry
 
-module _ (graph : Graph) (rises : ℕ → Bool) (ended : Bool) (entry : ℕ) (words : List (List ℕ)) where
-  -- an entry that is no survivor
-  pub out_of_range : graph.count ≤ entry → line_of_entry graph rises ended (entry, words) ≡ Err OutOfRange
-  unfolding line_of_entry
-  out_of_range over = rw (le-ltb entry graph.count over) refl
-
-  module _ (low : entry < graph.count) where
-    -- one that doesn't rise
-    pub not_rising : rises entry ≡ false → line_of_entry graph rises ended (entry, words) ≡ Err NotRising
-    unfolding line_of_entry
-    not_rising falls = rw (lt-ltb entry graph.count low, falls) refl
-
-    -- one that rises, by what is read of its words
-    pub entry_by : rises entry ≡ true → (read : ProofRead Line) → steps_read graph (line_with entry []) words ≡ read →
-        line_of_entry graph rises ended (entry, words) ≡ (read >>= end_read graph ended)
-    unfolding line_of_entry
-    entry_by above read is = rw (lt-ltb entry graph.count low, above, is) refl
+-- by what is read of its words, where it is a survivor and rises
+pub entry_by : (graph : Graph) (rises : ℕ → Bool) (ended : Bool) (entry : ℕ) (words : List (List ℕ)) →
+    entry < graph.count → rises entry ≡ true → (read : ProofRead Line) →
+    steps_read graph (line_with entry []) words ≡ read →
+    line_of_entry graph rises ended (entry, words) ≡ (read >>= end_read graph ended)
+unfolding line_of_entry
+entry_by graph rises ended entry words low above read is = rw (lt-ltb entry graph.count low, above, is) refl
 
 -- a line whose words are read has begun
 pub read_begun : (graph : Graph) (entry : ℕ) (words : List (List ℕ)) (line : Line) →

@@ -1,14 +1,15 @@
 -- Tables of a proof's lines, step by step.
 use Rattle.std.proofs.Common.{Bool, false}
-use Rattle.audit_proof.proofs.Imports.{AllPairs, Contains, Contains-map, Contains-map_cases, Falls, Line, List, None}
-use Rattle.audit_proof.proofs.Imports.{Option, ProofStep, Some, [], ap, append_assoc, arith, cases_eq, cases_lt, cond}
-use Rattle.audit_proof.proofs.Imports.{eq-eqb, false_from_ne_true, filter, find-append, get_or, get_or-replicate}
+use Rattle.audit_proof.proofs.Imports.{AllPairs, Contains, Contains-map, Contains-map_cases, Falls, Graph, IsLineOf}
+use Rattle.audit_proof.proofs.Imports.{IsProofOf, Line, List, None, Option, ProofStep, Some, [], ap, arith, cases_eq}
+use Rattle.audit_proof.proofs.Imports.{cases_lt, cond, eq-eqb, false_from_ne_true, filter}
+use Rattle.audit_proof.proofs.Imports.{filter_of_map_range_with_len_more, find-append, get_or, get_or-replicate}
 use Rattle.audit_proof.proofs.Imports.{get_or-set_other, get_or-set_same, get_or_from_slice_get, inl, inr}
-use Rattle.audit_proof.proofs.Imports.{is_whole_line, length, length-replicate, length-set, list_any, listed_in}
+use Rattle.audit_proof.proofs.Imports.{is_whole_line, length, length-replicate, length-set, list_any, listed_in, map-id}
 use Rattle.audit_proof.proofs.Imports.{member_at, ne_eqb, option_or, own_line, place_of, range_with_len, refl}
 use Rattle.audit_proof.proofs.Imports.{replicate, same_Some, slice_get, slice_get_past, slice_get_within, slice_set}
-use Rattle.audit_proof.proofs.Imports.{subst, suc, sym, take, taken_more, true, zero, ℕ, ◌++◌, ◌+◌, ◌-◌, ◌<◌, ◌==◌, ◌∙◌}
-use Rattle.audit_proof.proofs.Imports.{◌∷◌, ◌≡◌, ◌≢◌, ◌≤◌}
+use Rattle.audit_proof.proofs.Imports.{subst, suc, sym, take, taken_more, true, zero, ℕ, ◌++◌, ◌+◌, ◌<◌, ◌==◌, ◌∙◌, ◌∷◌}
+use Rattle.audit_proof.proofs.Imports.{◌≡◌, ◌≢◌, ◌≤◌}
 use Rattle.audit_proof.proofs.Trusted.{line_found}
 use Rattle.audit_proof.proofs.Tests.{in_decides}
 
@@ -184,31 +185,20 @@ module _ (ragged : ℕ → Bool) (lines : List Line) (count : ℕ) where
     whole = λ x l. get_or-replicate count x false false l;
   }
 
+module _ (graph : Graph) (lines : List Line) (proof : IsProofOf graph lines) (k : ℕ) (line : Line)
+    (low : k < length lines) (is : line ≡ get_or lines k line) where
+  -- what is in a place of a proof is a line
+  pub own_inside : IsLineOf graph line
+  own_inside = subst (IsLineOf graph) (sym is) (proof.each k line low)
+
+  pub entry_inside : line.entry < graph.count
+  entry_inside = own_inside.begun.inside line.entry (inl refl)
+
 -- ---- the places of a kind
 
--- one place more or less
-pub filter_step : (p : ℕ → Bool) (i n : ℕ) (b : Bool) → p i ≡ b → 0 < n → (done : List ℕ) →
-    done ++ filter p (range_with_len i n)
-    ≡ cond b (done ++ i ∷ []) done ++ filter p (range_with_len (i + 1) (n - 1))
-filter_step p i zero b is some done = absurd (omega arith)
-filter_step p i (suc n) b is some done =
-    let same : suc n - 1 ≡ n = omega arith in
-    ap (λ (c : Bool). done ++ cond c (i ∷ filter p (range_with_len (i + 1) n)) (filter p (range_with_len (i + 1) n))) is
-    ∙ by b
-    ∙ ap (λ (k : ℕ). cond b (done ++ i ∷ []) done ++ filter p (range_with_len (i + 1) k)) (sym same)
-  where
-    by : (b : Bool) →
-        done ++ cond b (i ∷ filter p (range_with_len (i + 1) n)) (filter p (range_with_len (i + 1) n))
-        ≡ cond b (done ++ i ∷ []) done ++ filter p (range_with_len (i + 1) n)
-    by true = sym (append_assoc done (i ∷ []) (filter p (range_with_len (i + 1) n)))
-    by false = refl
-
--- the places so far and those that are left
-pub kinds_step : (p : ℕ → Bool) (i n : ℕ) (b : Bool) (items new total : List ℕ) → p i ≡ b → i < n →
-    new ≡ cond b (items ++ i ∷ []) items → total ≡ items ++ filter p (range_with_len i (n - i)) →
-    total ≡ new ++ filter p (range_with_len (i + 1) (n - (i + 1)))
-kinds_step p i n b items new total is inside new_is so_far =
-    let less : n - i - 1 ≡ n - (i + 1) = omega arith in
-    so_far ∙ filter_step p i (n - i) b is (omega (arith, inside)) items
-    ∙ ap (λ (xs : List ℕ). xs ++ filter p (range_with_len (i + 1) (n - i - 1))) (sym new_is)
-    ∙ ap (λ (k : ℕ). new ++ filter p (range_with_len (i + 1) k)) less
+-- one place more
+pub kinds_more : (p : ℕ → Bool) (i : ℕ) →
+    filter p (range_with_len 0 (i + 1)) ≡ filter p (range_with_len 0 i) ++ cond (p i) (i ∷ []) []
+kinds_more p i =
+    let more = filter_of_map_range_with_len_more p (λ (j : ℕ). j) 0 i i (omega arith) in
+    rw (map-id (range_with_len 0 (i + 1)), map-id (range_with_len 0 i)) at more

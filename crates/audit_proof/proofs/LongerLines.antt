@@ -1,10 +1,10 @@
 -- A line with one step more.
-use Rattle.audit_proof.proofs.Imports.{All-push, Contains, Contains-append_left, Contains-get_or, Contains-map}
+use Rattle.audit_proof.proofs.Imports.{All, All-push, Contains, Contains-append_left, Contains-get_or, Contains-map}
 use Rattle.audit_proof.proofs.Imports.{Contains-map_cases, Contains-none, Contains-push, Contains-push_cases, Graph}
 use Rattle.audit_proof.proofs.Imports.{IsBegun, IsLineOf, IsOnLine, IsProofOf, IsReached, Line, List, ProofStep, Some}
 use Rattle.audit_proof.proofs.Imports.{[], all_pairs_push, ap, arith, inl, inr, length, line_with, listed_in, map_push}
-use Rattle.audit_proof.proofs.Imports.{member_at, place_of, push_before, refl, same_Some, slice_get, slice_get_within}
-use Rattle.audit_proof.proofs.Imports.{subst, suc, sym, with_step, zero, ℕ, ◌++◌, ◌<◌, ◌∷◌, ◌≡◌, ◌⊎◌}
+use Rattle.audit_proof.proofs.Imports.{member_at, place_of, push_before, refl, same_Some, slice_get, slice_get-get_or}
+use Rattle.audit_proof.proofs.Imports.{slice_get_within, subst, suc, sym, with_step, zero, ℕ, ◌++◌, ◌<◌, ◌∷◌, ◌≡◌, ◌⊎◌}
 
 -- a listed ancestor is on the line
 pub step_on_line : (line : Line) (k : ℕ) (step : ProofStep) → slice_get line.steps k ≡ Some step →
@@ -17,6 +17,15 @@ pub reached_on_line : (line : Line) (k x : ℕ) → IsReached line k x → IsOnL
 reached_on_line line k x (inl same) = inl same
 reached_on_line line k x (inr (j, earlier, low, at, same)) =
     subst (IsOnLine line) same (step_on_line line j earlier at)
+
+-- all numbers on a line are of survivors
+pub numbers_inside : (graph : Graph) (line : Line) → IsBegun graph line →
+    All (λ step. (step.ancestor < graph.count) × (step.via < graph.count)) line.steps
+numbers_inside graph line begun k d low =
+    let at = slice_get-get_or line.steps k d low in (
+      begun.inside _ (step_on_line line k _ at),
+      begun.inside _ (reached_on_line line k _ (begun.reached k _ at)),
+    )
 
 -- what is in a longer list was in the shorter, or is the new one at the end
 pub push_places : {X : Type 0} (xs : List X) (y : X) (i : ℕ) (x : X) → slice_get (xs ++ y ∷ []) i ≡ Some x →

@@ -8,11 +8,11 @@ use Rattle.audit_proof.proofs.Imports.{false_from_ne_true, false≢true, flat_ma
 use Rattle.audit_proof.proofs.Imports.{get_or_from_slice_get, inl, inr, is_above, length, length-append, line_with}
 use Rattle.audit_proof.proofs.Imports.{line_words, lines_read, list_all_from_each, list_any, list_any_at, lt-ltb, map}
 use Rattle.audit_proof.proofs.Imports.{nat_lt, ne_eqb, number-found, number_after, ok_or, past_read, place_of, refl}
-use Rattle.audit_proof.proofs.Imports.{slice_get, slice_get-get_or, slice_get_within, step_of_word, step_text}
-use Rattle.audit_proof.proofs.Imports.{step_word, steps_read, subst, suc, sym, text_line, true, words_on, zero, ℕ, ◌%◌}
-use Rattle.audit_proof.proofs.Imports.{◌++◌, ◌+◌, ◌<◌, ◌==◌, ◌^◌, ◌∙◌, ◌∷◌, ◌≡◌, ◌≢◌, ◌≤◌}
+use Rattle.audit_proof.proofs.Imports.{slice_get, slice_get_within, step_of_word, step_text, step_word, steps_read}
+use Rattle.audit_proof.proofs.Imports.{subst, suc, sym, text_line, true, words_on, zero, ℕ, ◌%◌, ◌++◌, ◌+◌, ◌<◌, ◌==◌}
+use Rattle.audit_proof.proofs.Imports.{◌^◌, ◌∙◌, ◌∷◌, ◌≡◌, ◌≢◌, ◌≤◌}
 use Rattle.audit_proof.proofs.Parts.{HasNo, IsNot, full, part_after, part_before, parts_at, parts_last}
-use Rattle.audit_proof.proofs.LongerLines.{Fits, reached_on_line, step_on_line}
+use Rattle.audit_proof.proofs.LongerLines.{Fits, numbers_inside, reached_on_line, step_on_line}
 use Rattle.audit_proof.proofs.ReadSaid.{end_is, entry_is, fits_is}
 
 -- ---- bytes
@@ -163,11 +163,10 @@ module _ (graph : Graph) where
   module _ (few : graph.count ≤ 16384) where
     -- the numbers of a line are small
     pub small_steps : (line : Line) → IsBegun graph line → All IsSmall line.steps
-    small_steps line begun k d low =
-        let at = slice_get-get_or line.steps k d low in
-        let step = begun.inside _ (step_on_line line k _ at) in
-        let via = begun.inside _ (reached_on_line line k _ (begun.reached k _ at)) in
-        (omega (arith, few, step), omega (arith, few, via))
+    small_steps line begun k d low = let small = numbers_inside graph line begun k d low in (
+      omega (arith, few, small.0),
+      omega (arith, few, small.1),
+    )
 
     -- a line that rises is read
     past_back : (rises : ℕ → Bool) (line : Line) → IsLineOf graph line → rises line.entry ≡ true →

@@ -13,7 +13,7 @@ use Rattle.audit_proof.proofs.Imports.{with_step, words_on, ℕ, ◌&&◌, ◌++
 use Rattle.audit_proof.proofs.Imports.{◌≡◌}
 use Rattle.audit_proof.proofs.Parts.{full, words_back}
 use Rattle.audit_proof.proofs.LongerLines.{Fits, begun_more, begun_none, proof_more}
-use Rattle.audit_proof.proofs.Tests.{all_decides, closed_decides, in_decides, on_decides}
+use Rattle.audit_proof.proofs.Tests.{all_decides, closed_decides, in_decides, itself, on_decides}
 
 -- a chain that gives a value gave one at each step
 pub followed : {A B E : Type 0} (read : Result A E) (next : A → Result B E) (value : B) → (read >>= next) ≡ Ok value →
@@ -35,10 +35,6 @@ needs false why next value means rest = (λ e. cc, λ w. absurd (false≢true (m
 pub needed : (test : Bool) (why : ProofWhy) {P : Type 0} → Decides test P → (need test why ≡ Ok tt) ↔ P
 needed true why means = (λ e. means.0 refl, λ p. refl)
 needed false why means = (λ e. cc, λ p. absurd (false≢true (means.1 p)))
-
--- a test means that it holds
-pub itself : (test : Bool) → Decides test (test ≡ true)
-itself test = (λ e. e, λ e. e)
 
 -- values that are read as one are one
 same_value : {A E : Type 0} (a b : A) → ◌≡◌ {A = Result A E} (Ok a) (Ok b) → a ≡ b

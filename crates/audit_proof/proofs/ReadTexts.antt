@@ -9,7 +9,8 @@ use Rattle.audit_proof.proofs.Imports.{map, nil_from_length, number_after, proof
 use Rattle.audit_proof.proofs.Imports.{sym, text_line, words_on, ℕ, ◌++◌, ◌∙◌, ◌∷◌, ◌≡◌, ◌≢◌, ◌≤◌}
 use Rattle.audit_proof.proofs.Parts.{HasNo, IsNot, full, line_bytes, lines_at, lines_back, words_back}
 use Rattle.audit_proof.proofs.LongerLines.{proof_none}
-use Rattle.audit_proof.proofs.ReadSaid.{after_said, followed, itself, needed, needs, pasts_said, told}
+use Rattle.audit_proof.proofs.Tests.{itself}
+use Rattle.audit_proof.proofs.ReadSaid.{after_said, followed, needed, needs, pasts_said, told}
 use Rattle.audit_proof.proofs.ReadBack.{IsSmall, after_back, decimal_has_no, has_no_by, line_has, line_has_no, pasts_back, small_steps}
 
 -- its bytes

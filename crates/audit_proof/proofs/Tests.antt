@@ -3,7 +3,11 @@ use Rattle.audit_proof.proofs.Imports.{Bool, Contains, Contains-head, Contains-l
 use Rattle.audit_proof.proofs.Imports.{Decides-like, Decides-or, Graph, IsOnLine, LacksNoParent, Line, List, [], ap}
 use Rattle.audit_proof.proofs.Imports.{eq-eqb, eqb-true, inl, inr, is_on_line, lacks_no_parent, list_all, list_all_each}
 use Rattle.audit_proof.proofs.Imports.{list_all_from_each, list_any, list_any_of, list_any_some, listed_in}
-use Rattle.audit_proof.proofs.Imports.{lists_parents, refl, subst, ℕ, ◌&&◌, ◌==◌, ◌∙◌, ◌∷◌, ◌≡◌}
+use Rattle.audit_proof.proofs.Imports.{lists_parents, refl, subst, true, ℕ, ◌&&◌, ◌==◌, ◌∙◌, ◌∷◌, ◌≡◌}
+
+-- a test means that it holds
+pub itself : (test : Bool) → Decides test (test ≡ true)
+itself test = (λ e. e, λ e. e)
 
 -- a number is found exactly in lists that contain it
 pub in_decides : (xs : List ℕ) (x : ℕ) → Decides (list_any (λ z. z == x) xs) (Contains xs x)

@@ -1,50 +1,44 @@
 -- By a proof a rule has the value that it has by the graph, or none.
 use Rattle.std.proofs.Common.{Bool, false}
-use Rattle.audit_proof.proofs.Imports.{Contains, Contains-cons_cases, Contains-head, Contains-later, Contains-none}
-use Rattle.audit_proof.proofs.Imports.{Descends, False, FullProofsSayAll, Graph, HasEachLine, IsLess, IsLessKnown}
-use Rattle.audit_proof.proofs.Imports.{IsLineOf, IsProofOf, Line, List, Node, None, Option, ProofsAreRight}
-use Rattle.audit_proof.proofs.Imports.{ProofsSayNoMore, Row, Some, Three, True, Unknown, [], all_at, ap, before}
-use Rattle.audit_proof.proofs.Imports.{before_by, before_on, cond, eq-eqb, eqb-true, false≢true, first_value, inl, inr}
-use Rattle.audit_proof.proofs.Imports.{is_whole, is_whole_line, length, length-map, less_is_known, lists, own_line}
-use Rattle.audit_proof.proofs.Imports.{place_of, refl, rules_are_settled, same_values, subst, sym, three_by, three_in}
-use Rattle.audit_proof.proofs.Imports.{true, unbound, whole_by, ℕ, ◌<◌, ◌==◌, ◌∙◌, ◌∷◌, ◌≡◌}
+use Rattle.audit_proof.proofs.Imports.{Contains, Descends, False, FullProofsSayAll, Graph, HasEachLine, IsLess}
+use Rattle.audit_proof.proofs.Imports.{IsLessKnown, IsLineOf, IsProofOf, Line, List, Node, None, Option, ProofsAreRight}
+use Rattle.audit_proof.proofs.Imports.{ProofsSayNoMore, Row, Some, Three, True, Unknown, all_at, ap, arith, before}
+use Rattle.audit_proof.proofs.Imports.{before_by, before_on, cases_lt, cond, eq-eqb, eqb-true, fails_before_first}
+use Rattle.audit_proof.proofs.Imports.{false≢true, find_at, first_value, get_or, get_or_from_slice_get, inl, inr}
+use Rattle.audit_proof.proofs.Imports.{is_whole, is_whole_line, length, length-map, less_is_known, lists, member_at}
+use Rattle.audit_proof.proofs.Imports.{own_line, passes_at_first, place_of, position_or_len, refl, rules_are_settled}
+use Rattle.audit_proof.proofs.Imports.{same_values, slice_get, slice_get-get_or, slice_get_within, subst, sym, three_by}
+use Rattle.audit_proof.proofs.Imports.{three_in, true, unbound, whole_by, ℕ, ◌<◌, ◌==◌, ◌∙◌, ◌≡◌}
 use Rattle.std.specs.Prelude.{map}
 use Rattle.audit_proof.proofs.Ancestries.{order_same, whole_same}
 
 -- the line that is found for x is a line, and x's
 pub line_found : (lines : List Line) (x : ℕ) (line : Line) → own_line lines x ≡ Some line →
     Contains lines line × (line.entry ≡ x)
-line_found [] x line is = cc
-line_found (l ∷ lines) x line is = by (l.entry == x) refl is (line_found lines x line)
-  where
-    -- by cases: whether the first line is x's
-    by : (b : Bool) → (l.entry == x) ≡ b → cond b (Some l) (own_line lines x) ≡ Some line →
-        (own_line lines x ≡ Some line → Contains lines line × (line.entry ≡ x)) →
-        Contains (l ∷ lines) line × (line.entry ≡ x)
-    by true at found later =
-        let here : l ≡ line = cc in (
-          subst (Contains (l ∷ lines)) here (Contains-head l lines),
-          sym (ap (λ (k : Line). k.entry) here)
-              ∙ eqb-true l.entry x at,
-        )
-    by false at found later = let rest = later found in (Contains-later l lines line rest.0, rest.1)
+line_found lines x line is =
+    let n = position_or_len (λ (l : Line). l.entry == x) lines in
+    let at : slice_get lines n ≡ Some line = sym (find_at (λ (l : Line). l.entry == x) lines) ∙ is in
+    let passes = passes_at_first (λ (l : Line). l.entry == x) lines line (slice_get_within lines n line at) in (
+      member_at lines n line at,
+      eqb-true line.entry x (subst (λ (l : Line). (l.entry == x) ≡ true) (get_or_from_slice_get lines n line line at)
+          passes),
+    )
 
 -- where some line is x's, one is found
 pub line_there : (lines : List Line) (x : ℕ) (line : Line) → Contains lines line → line.entry ≡ x →
     (found : Line) × (own_line lines x ≡ Some found)
-line_there [] x line c same = absurd (Contains-none line c)
-line_there (l ∷ lines) x line c same = by (l.entry == x) refl (λ later. line_there lines x line later same)
-  where
-    -- by cases: whether the first line is x's
-    by : (b : Bool) → (l.entry == x) ≡ b →
-        (Contains lines line → (found : Line) × (own_line lines x ≡ Some found)) →
-        (found : Line) × (cond b (Some l) (own_line lines x) ≡ Some found)
-    by true at others = (l, refl)
-    by false at others =
-        elim (Contains-cons_cases l lines line c) [
-          | inl here ↦ absurd (false≢true (sym at ∙ eq-eqb l.entry x (ap (λ (k : Line). k.entry) here ∙ same)))
-          | inr later ↦ others later
-        ]
+line_there lines x line c same =
+    let n = position_or_len (λ (l : Line). l.entry == x) lines in
+    elim (cases_lt n (length lines)) [
+      | inl low ↦
+          (get_or lines n line, find_at (λ (l : Line). l.entry == x) lines ∙ slice_get-get_or lines n line low)
+      | inr over ↦
+          let (k, at) = place_of lines line c in
+          let low : k < n = omega (arith, over, slice_get_within lines k line at) in
+          let fails = fails_before_first (λ (l : Line). l.entry == x) lines k line low in
+          let other = ap (λ (l : Line). l.entry == x) (get_or_from_slice_get lines k line line at) in
+          absurd (false≢true (sym fails ∙ other ∙ eq-eqb line.entry x same))
+    ]
 
 -- what is settled isn't unknown
 settled_known : (l w : Bool) → w ≡ true → cond l True (cond w False Unknown) ≡ Unknown → ⊥

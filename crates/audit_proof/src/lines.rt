@@ -47,6 +47,7 @@ fn are_closed<A: Arrows>(graph: &A, steps: &[ProofStep], listed: &[bool]) -> boo
     true
 }
 
+#[tactic(auto, using(crate::proofs::LinesRead::closed_by))]
 /// Whether no parent is missing on the line of an entry with these steps.
 fn lacks_no_parent<A: Arrows>(graph: &A, entry: usize, steps: &[ProofStep], listed: &[bool]) -> bool
     requires entry { entry < (A.graph graph.now).count }
@@ -87,6 +88,7 @@ fn finish<A: Arrows>(
     Ok(PackedLine::of(alloc, entry, read.steps)?)
 }
 
+#[tactic(auto, unfolding(crate::specs::Reading::line_of_entry))]
 /// The line that begins with this entry.
 fn read_entry_line<A: Arrows>(
     alloc: Global,

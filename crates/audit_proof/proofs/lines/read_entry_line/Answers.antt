@@ -1,16 +1,7 @@
 use Rattle.audit_proof.proofs.lines.read_entry_line.Goals as goal
-use Rattle.audit_proof.proofs.Imports.{Err, Line, List, Ok, ProofRead, Told, [], ap, arith, false_from_ne_true}
-use Rattle.audit_proof.proofs.Imports.{if◌then◌else◌, le-leb, leb-true, line_of_entry, line_with, nat_le, spaced}
-use Rattle.audit_proof.proofs.Imports.{steps_read, subst, sym, ℕ, ◌∙◌}
-use Rattle.audit_proof.proofs.LinesRead.{entry_by, not_rising, out_of_range, read_begun, words_refused}
-
-pub returns-then-number-count : goal.returns-then-number-count
-returns-then-number-count g c = out_of_range _ _ _ _ _ (omega (arith, c.if-number-count.true, c.count.ensures))
-
-pub returns-then-number-least : goal.returns-then-number-least
-returns-then-number-least g c =
-    not_rising _ _ _ _ _ (omega (arith, c.if-number-count.false, c.count.ensures))
-    (false_from_ne_true _ (λ rises. let low = leb-true _ _ rises in omega (arith, low, c.if-number-least.true)))
+use Rattle.audit_proof.proofs.Imports.{Err, Line, List, Ok, ProofRead, Told, [], ap, arith, if◌then◌else◌, le-leb}
+use Rattle.audit_proof.proofs.Imports.{line_of_entry, line_with, nat_le, spaced, steps_read, subst, sym, ℕ, ◌∙◌}
+use Rattle.audit_proof.proofs.LinesRead.{entry_by, read_begun, words_refused}
 
 pub finish-requires-clause-begun : goal.finish-requires-clause-begun
 finish-requires-clause-begun g c =
