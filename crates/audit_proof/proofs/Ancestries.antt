@@ -2,12 +2,12 @@
 -- the graph does.
 use Rattle.std.proofs.Common.{Bool, false}
 use Rattle.audit_proof.proofs.Imports.{Contains, Contains-map_cases, Decides, Decides-and, Decides-like, Descends}
-use Rattle.audit_proof.proofs.Imports.{False, Graph, IsAncestor, IsLineOf, IsOnLine, IsWalk, Line, LinesListAncestors}
-use Rattle.audit_proof.proofs.Imports.{List, ProofStep, Some, True, Unknown, [], ancestor_from_reaches, ap, arith}
-use Rattle.audit_proof.proofs.Imports.{before, before_on, clean_ancestor, clean_itself, cond, inl, inr, is_whole}
-use Rattle.audit_proof.proofs.Imports.{is_whole_from_clean, is_whole_line, listed_in, lists, not, not-true}
-use Rattle.audit_proof.proofs.Imports.{not_from_false, place_of, reaches, reaches_from_walk, refl, same_from_decides}
-use Rattle.audit_proof.proofs.Imports.{slice_get, subst, suc, walk_on, zero, ℕ, ◌++◌, ◌+◌, ◌<◌, ◌∙◌, ◌∷◌, ◌≡◌}
+use Rattle.audit_proof.proofs.Imports.{Graph, IsAncestor, IsLineOf, IsOnLine, IsWalk, Line, LinesListAncestors, List}
+use Rattle.audit_proof.proofs.Imports.{ProofStep, Some, [], ancestor_from_reaches, arith, before, before_on}
+use Rattle.audit_proof.proofs.Imports.{clean_ancestor, clean_itself, inl, inr, is_whole, is_whole_from_clean}
+use Rattle.audit_proof.proofs.Imports.{is_whole_line, listed_in, lists, not, not-true, not_from_false, place_of}
+use Rattle.audit_proof.proofs.Imports.{reaches, reaches_from_walk, refl, same_from_decides, slice_get, subst, suc}
+use Rattle.audit_proof.proofs.Imports.{walk_on, zero, ℕ, ◌++◌, ◌+◌, ◌<◌, ◌∷◌, ◌≡◌}
 use Rattle.audit_proof.proofs.Tests.{all_decides, in_decides, itself}
 
 module _ (graph : Graph) (line : Line) (is : IsLineOf graph line) where
@@ -74,8 +74,7 @@ module _ (graph : Graph) (line : Line) (is : IsLineOf graph line) where
         before_on (Some line) (is_whole_line graph.ragged (Some line)) y
         ≡ before graph.parents graph.ragged y line.entry
     order_same y =
-        ap (λ (b : Bool). cond b True (cond (is_whole_line graph.ragged (Some line)) False Unknown)) (lists_same y)
-        ∙ ap (λ (b : Bool). cond (reaches graph.parents line.entry y line.entry) True (cond b False Unknown)) whole_same
+        rw (lists_same y, whole_same) refl
 
 -- the law
 pub lines_list_ancestors : LinesListAncestors

@@ -1,19 +1,82 @@
 -- A graph has one canonical proof.
 use Rattle.audit_proof.specs.declared.fault.ProofFault.TheVariants.{Memory}
 use Rattle.audit_proof.proofs.Imports.{At, Contains, Contains-cons_cases, Contains-head, Contains-later, Contains-map}
-use Rattle.audit_proof.proofs.Imports.{Contains-map_cases, Contains-none, Err, Falls, Graph, HasEachLine}
-use Rattle.audit_proof.proofs.Imports.{IsCanonicalProof, IsGreatest, IsLineOf, IsOnLine, IsTextFor, IsWalk, Line, List}
-use Rattle.audit_proof.proofs.Imports.{Ok, OneTextIsCanonical, ProofStep, WrittenProofsSayAll, [], all_at, ap, arith}
-use Rattle.audit_proof.proofs.Imports.{element_at, inl, inr, line_with, listed_in, made_lines, member_at, place_of}
-use Rattle.audit_proof.proofs.Imports.{proof_text, refl, same_lists, slice_get-get_or, subst, suc, sym, zero, ℕ, ◌<◌}
-use Rattle.audit_proof.proofs.Imports.{◌∙◌, ◌∷◌, ◌≡◌}
+use Rattle.audit_proof.proofs.Imports.{Contains-map_cases, Contains-none, Descends, Err, Falls, Graph, HasEachLine}
+use Rattle.audit_proof.proofs.Imports.{IsCanonicalProof, IsCanonicalText, IsGreatest, IsLineOf, IsOnLine, IsTextFor}
+use Rattle.audit_proof.proofs.Imports.{IsWalk, Line, List, Ok, OneTextIsCanonical, ProofStep, WrittenProofsSayAll, []}
+use Rattle.audit_proof.proofs.Imports.{all_at, ap, arith, decimal, element_at, flat_map, get_or}
+use Rattle.audit_proof.proofs.Imports.{get_or-map-range_with_len, get_or_from_slice_get, head_text, inl, inr, length}
+use Rattle.audit_proof.proofs.Imports.{length-append, length-decimal-le, length-flat_map-take}
+use Rattle.audit_proof.proofs.Imports.{length-map-range_with_len, line_text, line_with, listed_in, made_line}
+use Rattle.audit_proof.proofs.Imports.{made_lines, map-range_with_len_more, member_at, place_of, proof_text, refl}
+use Rattle.audit_proof.proofs.Imports.{same_lists, slice_get-get_or, slice_get_within, subst, suc, sym, take}
+use Rattle.audit_proof.proofs.Imports.{take-map-range_with_len, zero, ℕ, ◌++◌, ◌+◌, ◌<◌, ◌∙◌, ◌∷◌, ◌≡◌, ◌≤◌}
 use Rattle.audit_proof.proofs.Ancestries.{ancestor_listed, listed_ancestor}
 use Rattle.audit_proof.proofs.Listings.{pair_at}
 use Rattle.audit_proof.proofs.Trusted.{full_proofs_say_all}
 use Rattle.audit_proof.proofs.LongerLines.{reached_on_line}
 use Rattle.audit_proof.proofs.ReadTexts.{one_proof, read_as}
 use Rattle.audit_proof.proofs.PackedFacts.{a_step}
-use Rattle.audit_proof.proofs.Writing.{made_text}
+use Rattle.audit_proof.proofs.Walked.{made_is}
+
+-- ---- every graph has one
+
+-- the first two lines are short
+pub head_short : (count : ℕ) → count ≤ 16384 → length (head_text count) ≤ 67108864
+head_short count few =
+    let digits = length-decimal-le 5 count (omega arith) (omega (arith, few)) (omega (arith, few)) in
+    omega (arith, digits, length-append (decimal count) (10 ∷ []))
+
+-- one line more
+pub lines_push : (graph : Graph) (k : ℕ) → made_lines graph (k + 1) ≡ made_lines graph k ++ made_line graph k ∷ []
+lines_push graph k = map-range_with_len_more (made_line graph) 0 k k (omega arith)
+
+module _ (graph : Graph) (descends : Descends graph.parents) where
+  -- where a line is
+  at_line : (k : ℕ) (d : Line) → k < graph.count → get_or (made_lines graph graph.count) k d ≡ made_line graph k
+  at_line k d low = get_or-map-range_with_len (made_line graph) 0 graph.count k k d low (omega arith)
+
+  -- the lines that are made are canonical
+  made_canonical : IsCanonicalProof graph (made_lines graph graph.count)
+  made_canonical =
+      let size = length-map-range_with_len (made_line graph) 0 graph.count in
+      record {
+        proof = record {
+          rises = λ i j d less within.
+              rw (at_line i d (omega (arith, less, within, size)), at_line j d (omega (arith, within, size))) less;
+          each = λ k d low. rw (at_line k d (omega (arith, low, size))) (made_is graph k descends (omega (arith, low, size))).0;
+        };
+        count = size;
+        entries = λ k line at.
+            let low = slice_get_within (made_lines graph graph.count) k line at in
+            ap (λ (l : Line). l.entry) (sym (get_or_from_slice_get _ k line line at) ∙ at_line k line (omega (arith, low, size)));
+        greatest = λ k d low.
+            rw (at_line k d (omega (arith, low, size))) (made_is graph k descends (omega (arith, low, size))).1;
+      }
+
+  -- and their text is
+  pub made_text : IsCanonicalText graph (proof_text graph.count (made_lines graph graph.count))
+  made_text = (made_lines graph graph.count, made_canonical, refl)
+
+  -- if what is written with a line is too long, so is the text
+  pub too_long : (limit k : ℕ) (bytes : List ℕ) → k < graph.count →
+      bytes ≡ proof_text graph.count (made_lines graph k) ++ line_text (made_line graph k) → limit < length bytes →
+      (text : List ℕ) × IsCanonicalText graph text × (limit < length text)
+  too_long limit k bytes low is over =
+      let all = made_lines graph graph.count in
+      let size = length-map-range_with_len (made_line graph) 0 graph.count in
+      let grows = length-flat_map-take line_text all k (made_line graph k) (omega (arith, low, size)) in
+      let first : take k all ≡ made_lines graph k = take-map-range_with_len (made_line graph) 0 graph.count k (omega (arith, low)) in
+      let more = rw (first, at_line k (made_line graph k) low) at grows in (
+        proof_text graph.count all,
+        made_text,
+        omega (arith, over, more, ap (λ (xs : List ℕ). length xs) is,
+            length-append (proof_text graph.count (made_lines graph k)) (line_text (made_line graph k)),
+            length-append (head_text graph.count) (flat_map line_text (made_lines graph k)),
+            length-append (head_text graph.count) (flat_map line_text all)),
+      )
+
+-- ---- and no other
 
 -- below the first of steps that fall
 head_falls : (x : ProofStep) (xs : List ProofStep) → Falls (x ∷ xs) → (s : ProofStep) → Contains xs s →

@@ -57,7 +57,6 @@ pub use Rattle.rule_meaning.specs.Meaning.{unbound}
 pub use Rattle.rule_meaning.specs.Scopes.{env_of}
 pub use Rattle.rule_meaning.specs.Tests.{has_kind}
 pub use Rattle.rule_meaning.specs.Values.{first_value, three_in, values}
-pub use Rattle.rule_meaning.specs.Visited.{IsVisitedFor}
 pub use Rattle.std.proofs.Common.{Bool, Decides, List, None, Option, Some, [], ap, append-nil, append_assoc, arith}
 pub use Rattle.std.proofs.Common.{cond, drop, false, get_or, inl, inr, length, nat_eq, refl, replicate, rules, subst}
 pub use Rattle.std.proofs.Common.{suc, sym, take, true, zero, ℕ, ◌%◌, ◌++◌, ◌+◌, ◌-◌, ◌/◌, ◌<◌, ◌^◌, ◌||◌, ◌↔◌, ◌∙◌}
@@ -88,7 +87,7 @@ pub use Rattle.std.proofs.lemmas.List.Splits.{join_with_byte-slice_split, length
 pub use Rattle.std.proofs.lemmas.List.Splits.{slice_split_first, slice_split_none}
 pub use Rattle.std.proofs.lemmas.List.Sums.{fails_before_first, passes_at_first, split_at_first}
 pub use Rattle.std.proofs.lemmas.Option.{cond_some, get_or_from_slice_get, none-some, same_Some, slice_get-get_or}
-pub use Rattle.std.proofs.lemmas.Option.{slice_get_past, slice_get_read, slice_get_within}
+pub use Rattle.std.proofs.lemmas.Option.{slice_get_read, slice_get_within}
 pub use Rattle.std.proofs.lemmas.Slice.Eq.{bytes_eq-Decides}
 pub use Rattle.std.specs.Fmt.{decimal}
 pub use Rattle.std.specs.List.{Contains, after_first, before_first, filter, flat_map, join_with_byte, list_all}

@@ -3,7 +3,6 @@ pub mod Ancestries
 pub mod Trusted
 pub mod Listings
 pub mod PackedFacts
-pub mod Checks
 pub mod Parts
 pub mod LongerLines
 pub mod Tests
@@ -11,7 +10,6 @@ pub mod ReadSaid
 pub mod ReadBack
 pub mod ReadTexts
 pub mod Walked
-pub mod Writing
 pub mod Canonicals
 pub mod StepsRead
 pub mod LinesRead

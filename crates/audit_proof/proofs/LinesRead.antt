@@ -14,7 +14,7 @@ use Rattle.audit_proof.proofs.Imports.{number-none, number_after, number_in, ok_
 use Rattle.audit_proof.proofs.Imports.{proof_of, refl, spaced, step_of_word, steps_read, sym, take, text_line, true}
 use Rattle.audit_proof.proofs.Imports.{words_on, ℕ, ◌&&◌, ◌++◌, ◌+◌, ◌-◌, ◌<◌, ◌==◌, ◌>>=◌, ◌∙◌, ◌∷◌, ◌≡◌, ◌≢◌, ◌≤◌}
 use Rattle.audit_proof.proofs.Parts.{next_line, next_word, words_taken}
-use Rattle.audit_proof.proofs.Tests.{all_same}
+use Rattle.audit_proof.proofs.Tests.{all_same, then_same}
 use Rattle.audit_proof.proofs.LongerLines.{begun_none}
 use Rattle.audit_proof.proofs.ReadSaid.{past_said, steps_said}
 use Rattle.audit_proof.proofs.ReadTexts.{text_said}
@@ -87,10 +87,8 @@ pub closed_by : (graph : Graph) (entry : ℕ) (steps : List ProofStep) (listed :
     lacks_no_parent graph (line_with entry steps)
     ≡ (closed_at listed (graph.parents entry) && list_all (λ y. closed_at listed (graph.parents y)) (listed_in steps))
 closed_by graph entry steps listed table =
-    ap (λ (b : Bool). b && list_all (lists_parents graph (line_with entry steps)) (listed_in steps)) (one entry)
-    ∙ ap (λ (b : Bool). closed_at listed (graph.parents entry) && b)
-    (all_same (lists_parents graph (line_with entry steps)) (λ y. closed_at listed (graph.parents y)) (listed_in steps)
-    (λ y c. one y))
+    all_same (lists_parents graph (line_with entry steps)) (λ y. closed_at listed (graph.parents y))
+    (entry ∷ listed_in steps) (λ y c. one y)
   where
     -- of one survivor
     one : (x : ℕ) → lists_parents graph (line_with entry steps) x ≡ closed_at listed (graph.parents x)
@@ -128,12 +126,8 @@ words_refused graph rises ended entry bytes Memory low above is = tt
 rises_same : (graph : Graph) (rises above : ℕ → Bool) → ((x : ℕ) → rises x ≡ above x) → (next : TextLine) →
     past_read graph rises next ≡ past_read graph above next
 unfolding past_read line_of_entry
-rises_same graph rises above same next = by (number_after (codes "past") (words_on next.bytes))
-  where
-    by : (said : ProofRead (ℕ × List (List ℕ))) →
-        (said >>= line_of_entry graph rises next.is_ended) ≡ (said >>= line_of_entry graph above next.is_ended)
-    by (Ok (entry, words)) = rw (same entry) refl
-    by (Err why) = refl
+rises_same graph rises above same next =
+    then_same (number_after (codes "past") (words_on next.bytes)) _ _ (λ said. rw (same said.0) refl)
 
 module _ {graph : Graph} {bytes : List ℕ} {start : ℕ} {lines : List Line} {least at : ℕ}
     (reading : IsReadingLines graph bytes start lines least at) {found : LineAt} (is : found ≡ line_from bytes at)

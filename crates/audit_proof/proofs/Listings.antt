@@ -1,15 +1,16 @@
 -- Tables of a proof's lines, step by step.
 use Rattle.std.proofs.Common.{Bool, false}
 use Rattle.audit_proof.proofs.Imports.{AllPairs, Contains, Contains-map, Contains-map_cases, Falls, Graph, IsLineOf}
-use Rattle.audit_proof.proofs.Imports.{IsProofOf, Line, List, None, Option, ProofStep, Some, [], ap, arith, cases_eq}
-use Rattle.audit_proof.proofs.Imports.{cases_lt, cond, eq-eqb, false_from_ne_true, filter}
-use Rattle.audit_proof.proofs.Imports.{filter_of_map_range_with_len_more, find-append, get_or, get_or-replicate}
-use Rattle.audit_proof.proofs.Imports.{get_or-set_other, get_or-set_same, get_or_from_slice_get, inl, inr}
-use Rattle.audit_proof.proofs.Imports.{is_whole_line, length, length-replicate, length-set, list_any, listed_in, map-id}
-use Rattle.audit_proof.proofs.Imports.{member_at, ne_eqb, option_or, own_line, place_of, range_with_len, refl}
-use Rattle.audit_proof.proofs.Imports.{replicate, same_Some, slice_get, slice_get_past, slice_get_within, slice_set}
-use Rattle.audit_proof.proofs.Imports.{subst, suc, sym, take, taken_more, true, zero, ℕ, ◌++◌, ◌+◌, ◌<◌, ◌==◌, ◌∙◌, ◌∷◌}
-use Rattle.audit_proof.proofs.Imports.{◌≡◌, ◌≢◌, ◌≤◌}
+use Rattle.audit_proof.proofs.Imports.{IsListingOf, IsProofOf, Kind, Line, List, Listing, None, Option, ProofStep, Row}
+use Rattle.audit_proof.proofs.Imports.{Some, Trees, [], ap, arith, before_by, cases_eq, cases_lt, cond, eq-eqb}
+use Rattle.audit_proof.proofs.Imports.{false_from_ne_true, filter, filter_of_map_range_with_len_more, find-append}
+use Rattle.audit_proof.proofs.Imports.{first_value, get_or, get_or-set_other, get_or-set_same, get_or_from_slice_get}
+use Rattle.audit_proof.proofs.Imports.{has_kind, inl, inr, is_whole_line, length, length-set, list_any, listed_in}
+use Rattle.audit_proof.proofs.Imports.{listing_before, listing_whole, map-id, member_at, ne_eqb, option_or, own_line}
+use Rattle.audit_proof.proofs.Imports.{place_of, range_with_len, refl, same_Some, same_values, slice_get}
+use Rattle.audit_proof.proofs.Imports.{slice_get-get_or, slice_get_within, slice_set, subst, suc, sym, take, taken_more}
+use Rattle.audit_proof.proofs.Imports.{three_by, true, unbound, values, whole_by, zero, ℕ, ◌++◌, ◌+◌, ◌<◌, ◌==◌, ◌∙◌}
+use Rattle.audit_proof.proofs.Imports.{◌∷◌, ◌≡◌, ◌≢◌, ◌≤◌}
 use Rattle.audit_proof.proofs.Trusted.{line_found}
 use Rattle.audit_proof.proofs.Tests.{in_decides}
 
@@ -175,16 +176,6 @@ module _ (ragged : ℕ → Bool) (lines : List Line) (count : ℕ) where
       ];
     }
 
-  -- before the first line
-  pub table_none : IsTable (replicate count (length lines)) (replicate count false) 0
-  table_none = record {
-    numbers_all = length-replicate count (length lines);
-    wholes_all = length-replicate count false;
-    found = λ x l. ap (slice_get lines) (get_or-replicate count x (length lines) 0 l)
-        ∙ slice_get_past lines (length lines) (omega arith);
-    whole = λ x l. get_or-replicate count x false false l;
-  }
-
 module _ (graph : Graph) (lines : List Line) (proof : IsProofOf graph lines) (k : ℕ) (line : Line)
     (low : k < length lines) (is : line ≡ get_or lines k line) where
   -- what is in a place of a proof is a line
@@ -202,3 +193,19 @@ pub kinds_more : (p : ℕ → Bool) (i : ℕ) →
 kinds_more p i =
     let more = filter_of_map_range_with_len_more p (λ (j : ℕ). j) 0 i i (omega arith) in
     rw (map-id (range_with_len 0 (i + 1)), map-id (range_with_len 0 i)) at more
+
+-- within the rows, the row at a place is of the kind that the list says
+pub at_row : (rows : List Row) (kind : Kind) (i : ℕ) (d : Row) → i < length rows →
+    has_kind kind (slice_get rows i) ≡ has_kind kind (Some (get_or rows i d))
+at_row rows kind i d within = ap (has_kind kind) (slice_get-get_or rows i d within)
+
+-- by a table of a proof's lines a rule has the value that it has by the proof
+pub by_listing : (rows : List Row) (graph : Graph) (lines : List Line) (listing : Listing) →
+    length rows ≡ graph.count → IsListingOf graph lines listing → (rule : Trees) →
+    first_value (values rows (listing_before listing) (listing_whole listing) rule unbound)
+    ≡ three_by rows graph.ragged lines rule
+by_listing rows graph lines listing as_many is rule =
+    ap first_value (same_values rows (listing_before listing) (before_by graph.ragged lines) (listing_whole listing)
+    (whole_by graph.ragged lines)
+    (λ y x l. rw (is.found x (omega (arith, as_many, l)), is.whole x (omega (arith, as_many, l))) refl)
+    (λ x l. is.whole x (omega (arith, as_many, l))) rule unbound (λ v. tt))

@@ -1,25 +1,18 @@
 -- What graphs with the same arrows have in common.
-use Rattle.audit_proof.proofs.Imports.{All-weaker, Bool, Decides-like, Err, Graph, HaveSameArrows, IsBegun}
-use Rattle.audit_proof.proofs.Imports.{IsCanonicalText, IsGreatest, IsLineOf, IsProofOf, LacksNoParent, Line, List}
-use Rattle.audit_proof.proofs.Imports.{None, NotRising, Ok, Option, OutOfRange, ProofRead, ProofStep, Result}
-use Rattle.audit_proof.proofs.Imports.{SameArrowsGiveOneValue, SameArrowsHaveOneText, Some, TextLine}
-use Rattle.audit_proof.proofs.Imports.{TextsAreReadInOneWay, [], after_line, all_at, ap, at_number, before_by}
-use Rattle.audit_proof.proofs.Imports.{before_on, codes, count_read, end_read, first_value, form_read, inl, inr}
-use Rattle.audit_proof.proofs.Imports.{is_above, is_whole_line, lacks_no_parent, length, line_of_entry, line_with}
-use Rattle.audit_proof.proofs.Imports.{lines_in, lines_read, list_all, list_any, listed_in, nat_lt, need, not}
-use Rattle.audit_proof.proofs.Imports.{number_after, own_line, past_read, place_of, proof_of, proof_text, refl}
-use Rattle.audit_proof.proofs.Imports.{same_from_decides, same_values, step_fits, step_of_word, steps_read, subst, sym}
-use Rattle.audit_proof.proofs.Imports.{unbound, whole_by, with_step, words_on, ℕ, ◌&&◌, ◌++◌, ◌+◌, ◌<◌, ◌==◌, ◌>>=◌}
-use Rattle.audit_proof.proofs.Imports.{◌∙◌, ◌∷◌, ◌≡◌, ◌≤◌}
+use Rattle.audit_proof.proofs.Imports.{All-weaker, Bool, Decides-like, Graph, HaveSameArrows, IsBegun, IsCanonicalText}
+use Rattle.audit_proof.proofs.Imports.{IsGreatest, IsLineOf, IsProofOf, LacksNoParent, Line, List, None, NotRising}
+use Rattle.audit_proof.proofs.Imports.{Option, OutOfRange, ProofRead, ProofStep, SameArrowsGiveOneValue}
+use Rattle.audit_proof.proofs.Imports.{SameArrowsHaveOneText, Some, TextLine, TextsAreReadInOneWay, [], after_line}
+use Rattle.audit_proof.proofs.Imports.{all_at, ap, at_number, before_by, before_on, codes, count_read, end_read}
+use Rattle.audit_proof.proofs.Imports.{first_value, form_read, inl, inr, is_above, is_whole_line, lacks_no_parent}
+use Rattle.audit_proof.proofs.Imports.{length, line_of_entry, line_with, lines_in, lines_read, list_all, list_any}
+use Rattle.audit_proof.proofs.Imports.{listed_in, nat_lt, need, not, number_after, own_line, past_read, place_of}
+use Rattle.audit_proof.proofs.Imports.{proof_of, proof_text, refl, same_from_decides, same_values, step_fits}
+use Rattle.audit_proof.proofs.Imports.{step_of_word, steps_read, subst, sym, unbound, whole_by, with_step, words_on, ℕ}
+use Rattle.audit_proof.proofs.Imports.{◌&&◌, ◌++◌, ◌+◌, ◌<◌, ◌==◌, ◌>>=◌, ◌∙◌, ◌∷◌, ◌≡◌, ◌≤◌}
 use Rattle.audit_proof.proofs.Trusted.{line_found}
-use Rattle.audit_proof.proofs.Tests.{all_same, closed_decides, in_decides}
+use Rattle.audit_proof.proofs.Tests.{all_same, closed_decides, in_decides, then_same}
 use Rattle.audit_proof.proofs.ReadTexts.{read_as}
-
--- the same follows on a reading
-then_same : {A B E : Type 0} (read : Result A E) (f g : A → Result B E) → ((a : A) → f a ≡ g a) →
-    (read >>= f) ≡ (read >>= g)
-then_same (Ok value) f g same = same value
-then_same (Err cause) f g same = refl
 
 module _ (graph other : Graph) (same : HaveSameArrows graph other) where
   -- a line of the one is one of the other, as far as it goes

@@ -1,9 +1,10 @@
 -- Tests of a line, and what they mean.
 use Rattle.audit_proof.proofs.Imports.{Bool, Contains, Contains-head, Contains-later, Decides, Decides-and, Decides-eqb}
-use Rattle.audit_proof.proofs.Imports.{Decides-like, Decides-or, Graph, IsOnLine, LacksNoParent, Line, List, [], ap}
-use Rattle.audit_proof.proofs.Imports.{eq-eqb, eqb-true, inl, inr, is_on_line, lacks_no_parent, list_all, list_all_each}
-use Rattle.audit_proof.proofs.Imports.{list_all_from_each, list_any, list_any_of, list_any_some, listed_in}
-use Rattle.audit_proof.proofs.Imports.{lists_parents, refl, subst, true, ℕ, ◌&&◌, ◌==◌, ◌∙◌, ◌∷◌, ◌≡◌}
+use Rattle.audit_proof.proofs.Imports.{Decides-like, Decides-or, Err, Graph, IsOnLine, LacksNoParent, Line, List, Ok}
+use Rattle.audit_proof.proofs.Imports.{Result, [], ap, eq-eqb, eqb-true, inl, inr, is_on_line, lacks_no_parent}
+use Rattle.audit_proof.proofs.Imports.{list_all, list_all_each, list_all_from_each, list_any, list_any_of}
+use Rattle.audit_proof.proofs.Imports.{list_any_some, listed_in, lists_parents, refl, subst, true, ℕ, ◌&&◌, ◌==◌, ◌>>=◌}
+use Rattle.audit_proof.proofs.Imports.{◌∙◌, ◌∷◌, ◌≡◌}
 
 -- a test means that it holds
 pub itself : (test : Bool) → Decides test (test ≡ true)
@@ -49,3 +50,9 @@ all_same p q [] each = refl
 all_same p q (x ∷ xs) each =
     ap (λ (b : Bool). b && list_all p xs) (each x (Contains-head x xs))
     ∙ ap (λ (b : Bool). q x && b) (all_same p q xs (λ y c. each y (Contains-later x xs y c)))
+
+-- the same follows on a reading
+pub then_same : {A B E : Type 0} (read : Result A E) (f g : A → Result B E) → ((a : A) → f a ≡ g a) →
+    (read >>= f) ≡ (read >>= g)
+then_same (Ok value) f g same = same value
+then_same (Err cause) f g same = refl
