@@ -52,11 +52,11 @@ pub use Rattle.rule_meaning.proofs.Less.{less_is_known}
 pub use Rattle.rule_meaning.proofs.SameOrders.{same_values}
 pub use Rattle.rule_meaning.proofs.Sounds.{rules_are_settled}
 pub use Rattle.rule_meaning.proofs.Visits.{all_visited}
-pub use Rattle.rule_meaning.specs.Knowledge.{IsLess, IsLessKnown}
+pub use Rattle.rule_meaning.specs.Knowledge.{IsLess}
 pub use Rattle.rule_meaning.specs.Meaning.{unbound}
 pub use Rattle.rule_meaning.specs.Scopes.{env_of}
 pub use Rattle.rule_meaning.specs.Tests.{has_kind}
-pub use Rattle.rule_meaning.specs.Values.{first_value, three_in, values}
+pub use Rattle.rule_meaning.specs.Values.{first_value, values}
 pub use Rattle.std.proofs.Common.{Bool, Decides, List, None, Option, Some, [], ap, append-nil, append_assoc, arith}
 pub use Rattle.std.proofs.Common.{cond, drop, false, get_or, inl, inr, length, nat_eq, refl, replicate, rules, subst}
 pub use Rattle.std.proofs.Common.{suc, sym, take, true, zero, ℕ, ◌%◌, ◌++◌, ◌+◌, ◌-◌, ◌/◌, ◌<◌, ◌^◌, ◌||◌, ◌↔◌, ◌∙◌}

@@ -11,7 +11,7 @@ use Rattle.audit_proof.proofs.Imports.{place_of, range_with_len, refl, same_Some
 use Rattle.audit_proof.proofs.Imports.{slice_get-get_or, slice_get_within, slice_set, subst, suc, sym, take, taken_more}
 use Rattle.audit_proof.proofs.Imports.{three_by, true, unbound, values, whole_by, zero, ℕ, ◌++◌, ◌+◌, ◌<◌, ◌==◌, ◌∙◌}
 use Rattle.audit_proof.proofs.Imports.{◌∷◌, ◌≡◌, ◌≢◌, ◌≤◌}
-use Rattle.audit_proof.proofs.Trusted.{line_found}
+use Rattle.audit_proof.proofs.Trusted.{line_found, line_or_none}
 use Rattle.audit_proof.proofs.Tests.{in_decides}
 
 -- in a list whose pairs are related, what is at two places is related
@@ -135,16 +135,15 @@ module _ (ragged : ℕ → Bool) (lines : List Line) (count : ℕ) where
 
     -- none of the lines before is of the line's entry
     none_before : own_line (take k lines) line.entry ≡ None
-    none_before = by (own_line (take k lines) line.entry) refl
-      where
-        by : (o : Option Line) → own_line (take k lines) line.entry ≡ o → o ≡ None
-        by None is = refl
-        by (Some other) is =
-            let (c, same) = line_found (take k lines) line.entry other is in
-            let (j, there) = place_of (take k lines) other c in
-            let (low, also) = taken_at lines k j other there in
-            absurd (omega (arith, pair_at (λ (a b : Line). a.entry < b.entry) lines j k other line rises low also at,
-            same))
+    none_before = elim (line_or_none (own_line (take k lines) line.entry)) [
+      | inl none ↦ none
+      | inr (other, is) ↦
+          let (c, same) = line_found (take k lines) line.entry other is in
+          let (j, there) = place_of (take k lines) other c in
+          let (low, also) = taken_at lines k j other there in
+          let less = pair_at (λ (a b : Line). a.entry < b.entry) lines j k other line rises low also at in
+          absurd (omega (arith, less, same))
+    ]
 
     -- its own survivor has it now
     found_now : own_line (take (k + 1) lines) line.entry ≡ Some line

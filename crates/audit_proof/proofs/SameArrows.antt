@@ -1,16 +1,16 @@
 -- What graphs with the same arrows have in common.
-use Rattle.audit_proof.proofs.Imports.{All-weaker, Bool, Decides-like, Graph, HaveSameArrows, IsBegun, IsCanonicalText}
-use Rattle.audit_proof.proofs.Imports.{IsGreatest, IsLineOf, IsProofOf, LacksNoParent, Line, List, None, NotRising}
-use Rattle.audit_proof.proofs.Imports.{Option, OutOfRange, ProofRead, ProofStep, SameArrowsGiveOneValue}
-use Rattle.audit_proof.proofs.Imports.{SameArrowsHaveOneText, Some, TextLine, TextsAreReadInOneWay, [], after_line}
-use Rattle.audit_proof.proofs.Imports.{all_at, ap, at_number, before_by, before_on, codes, count_read, end_read}
-use Rattle.audit_proof.proofs.Imports.{first_value, form_read, inl, inr, is_above, is_whole_line, lacks_no_parent}
-use Rattle.audit_proof.proofs.Imports.{length, line_of_entry, line_with, lines_in, lines_read, list_all, list_any}
-use Rattle.audit_proof.proofs.Imports.{listed_in, nat_lt, need, not, number_after, own_line, past_read, place_of}
-use Rattle.audit_proof.proofs.Imports.{proof_of, proof_text, refl, same_from_decides, same_values, step_fits}
-use Rattle.audit_proof.proofs.Imports.{step_of_word, steps_read, subst, sym, unbound, whole_by, with_step, words_on, ℕ}
-use Rattle.audit_proof.proofs.Imports.{◌&&◌, ◌++◌, ◌+◌, ◌<◌, ◌==◌, ◌>>=◌, ◌∙◌, ◌∷◌, ◌≡◌, ◌≤◌}
-use Rattle.audit_proof.proofs.Trusted.{line_found}
+use Rattle.audit_proof.proofs.Imports.{All-contains, All-weaker, Bool, Decides-like, Graph, HaveSameArrows, IsBegun}
+use Rattle.audit_proof.proofs.Imports.{IsCanonicalText, IsGreatest, IsLineOf, IsProofOf, LacksNoParent, Line, List}
+use Rattle.audit_proof.proofs.Imports.{NotRising, OutOfRange, ProofRead, ProofStep, SameArrowsGiveOneValue}
+use Rattle.audit_proof.proofs.Imports.{SameArrowsHaveOneText, Some, TextLine, TextsAreReadInOneWay, [], after_line, ap}
+use Rattle.audit_proof.proofs.Imports.{at_number, before_by, before_on, codes, count_read, end_read, first_value}
+use Rattle.audit_proof.proofs.Imports.{form_read, inl, inr, is_above, is_whole_line, lacks_no_parent, length}
+use Rattle.audit_proof.proofs.Imports.{line_of_entry, line_with, lines_in, lines_read, list_any, listed_in, nat_lt}
+use Rattle.audit_proof.proofs.Imports.{need, not, number_after, own_line, past_read, proof_of, proof_text, refl}
+use Rattle.audit_proof.proofs.Imports.{same_from_decides, same_values, step_fits, step_of_word, steps_read, subst, sym}
+use Rattle.audit_proof.proofs.Imports.{unbound, whole_by, with_step, words_on, ℕ, ◌&&◌, ◌++◌, ◌+◌, ◌<◌, ◌==◌, ◌>>=◌}
+use Rattle.audit_proof.proofs.Imports.{◌∙◌, ◌∷◌, ◌≡◌, ◌≤◌}
+use Rattle.audit_proof.proofs.Trusted.{line_found, line_or_none}
 use Rattle.audit_proof.proofs.Tests.{all_same, closed_decides, in_decides, then_same}
 use Rattle.audit_proof.proofs.ReadTexts.{read_as}
 
@@ -129,24 +129,18 @@ module _ (graph other : Graph) (same : HaveSameArrows graph other) (lines : List
   whole_line : (line : Line) → IsLineOf graph line →
       is_whole_line graph.ragged (Some line) ≡ is_whole_line other.ragged (Some line)
   whole_line line own =
-      ap (λ (b : Bool). not b && list_all (λ y. not (graph.ragged y)) (listed_in line.steps))
-      (same.ragged line.entry (own.begun.inside line.entry (inl refl)))
-      ∙ ap (λ (b : Bool). not (other.ragged line.entry) && b)
+      rw (same.ragged line.entry (own.begun.inside line.entry (inl refl)))
+      (ap (λ (b : Bool). not (other.ragged line.entry) && b)
       (all_same (λ y. not (graph.ragged y)) (λ y. not (other.ragged y)) (listed_in line.steps)
-      (λ y c. ap not (same.ragged y (own.begun.inside y (inr c)))))
+      (λ y c. ap not (same.ragged y (own.begun.inside y (inr c))))))
 
   -- so an entry is, or by neither
   whole_same : (x : ℕ) → whole_by graph.ragged lines x ≡ whole_by other.ragged lines x
-  whole_same x = by (own_line lines x) refl
-    where
-      -- by the line that it has
-      by : (found : Option Line) → own_line lines x ≡ found →
-          is_whole_line graph.ragged (own_line lines x) ≡ is_whole_line other.ragged (own_line lines x)
-      by None e = ap (is_whole_line graph.ragged) e ∙ sym (ap (is_whole_line other.ragged) e)
-      by (Some line) e =
-          let (k, at) = place_of lines line (line_found lines x line e).0 in
-          ap (is_whole_line graph.ragged) e ∙ whole_line line (all_at (IsLineOf graph) lines k line is.each at)
-          ∙ sym (ap (is_whole_line other.ragged) e)
+  whole_same x = elim (line_or_none (own_line lines x)) [
+    | inl none ↦ rw none refl
+    | inr (line, e) ↦
+        rw e (whole_line line (All-contains (IsLineOf graph) lines line is.each (line_found lines x line e).0))
+  ]
 
   -- and the order is the same
   before_same : (y x : ℕ) → before_by graph.ragged lines y x ≡ before_by other.ragged lines y x
