@@ -1,6 +1,6 @@
 -- The lines of a proof list exactly the ancestors of their entries, and so they say of them what
 -- the graph does.
-use Rattle.std.proofs.Common.{Bool, false}
+use Rattle.std.proofs.Common.{false}
 use Rattle.audit_proof.proofs.Imports.{Contains, Contains-map_cases, Decides, Decides-and, Decides-like, Descends}
 use Rattle.audit_proof.proofs.Imports.{Graph, IsAncestor, IsLineOf, IsOnLine, IsWalk, Line, LinesListAncestors, List}
 use Rattle.audit_proof.proofs.Imports.{ProofStep, Some, [], ancestor_from_reaches, arith, before, before_on}

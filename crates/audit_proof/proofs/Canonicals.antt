@@ -70,10 +70,15 @@ module _ (graph : Graph) (descends : Descends graph.parents) where
       let more = rw (first, at_line k (made_line graph k) low) at grows in (
         proof_text graph.count all,
         made_text,
-        omega (arith, over, more, ap (λ (xs : List ℕ). length xs) is,
-            length-append (proof_text graph.count (made_lines graph k)) (line_text (made_line graph k)),
-            length-append (head_text graph.count) (flat_map line_text (made_lines graph k)),
-            length-append (head_text graph.count) (flat_map line_text all)),
+        omega (
+          arith,
+          over,
+          more,
+          ap (λ (xs : List ℕ). length xs) is,
+          length-append (proof_text graph.count (made_lines graph k)) (line_text (made_line graph k)),
+          length-append (head_text graph.count) (flat_map line_text (made_lines graph k)),
+          length-append (head_text graph.count) (flat_map line_text all),
+        ),
       )
 
 -- ---- and no other

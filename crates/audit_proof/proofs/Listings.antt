@@ -83,8 +83,12 @@ module _ (steps : List ProofStep) (y : ℕ) where
             elim (cases_eq k middle) [
               | inl same ↦ omega (arith, above, at_middle k other there same)
               | inr apart ↦
-                  omega (arith, above, pair_at (λ (a b : ProofStep). b.ancestor < a.ancestor) steps k middle other step
-                  falls (omega (arith, l, apart)) there at)
+                  omega (
+                    arith,
+                    above,
+                    pair_at (λ (a b : ProofStep). b.ancestor < a.ancestor) steps k middle other step
+                        falls (omega (arith, l, apart)) there at,
+                  )
             ]
 
     -- below y the search goes on before the middle
@@ -100,8 +104,12 @@ module _ (steps : List ProofStep) (y : ℕ) where
             elim (cases_eq k middle) [
               | inl same ↦ omega (arith, under, at_middle k other there same)
               | inr apart ↦
-                  omega (arith, under, pair_at (λ (a b : ProofStep). b.ancestor < a.ancestor) steps middle k step other
-                  falls (omega (arith, l, apart)) at there)
+                  omega (
+                    arith,
+                    under,
+                    pair_at (λ (a b : ProofStep). b.ancestor < a.ancestor) steps middle k step other
+                        falls (omega (arith, l, apart)) at there,
+                  )
             ]
 
 -- ---- the table
@@ -167,11 +175,16 @@ module _ (ragged : ℕ → Bool) (lines : List Line) (count : ℕ) where
       ];
       whole = λ x l. elim (cases_eq x line.entry) [
         | inl same ↦
-            rw (same, get_or-set_same wholes line.entry (is_whole_line ragged (Some line)) false
-            (omega (arith, table.wholes_all, inside))) (ap (is_whole_line ragged) (sym found_now))
+            rw (
+              same,
+              get_or-set_same wholes line.entry (is_whole_line ragged (Some line)) false
+                  (omega (arith, table.wholes_all, inside)),
+            ) (ap (is_whole_line ragged) (sym found_now))
         | inr apart ↦
-            rw (get_or-set_other wholes line.entry x (is_whole_line ragged (Some line)) false apart,
-            other_line x apart) (table.whole x l)
+            rw (
+              get_or-set_other wholes line.entry x (is_whole_line ragged (Some line)) false apart,
+              other_line x apart,
+            ) (table.whole x l)
       ];
     }
 

@@ -1,5 +1,5 @@
 use Rattle.audit_proof.proofs.lines.read_entry_line.Goals as goal
-use Rattle.audit_proof.proofs.Imports.{Err, Line, List, Ok, ProofRead, Told, [], ap, arith, if◌then◌else◌, le-leb}
+use Rattle.audit_proof.proofs.Imports.{Err, Line, List, Ok, ProofRead, Told, [], ap, arith, le-leb}
 use Rattle.audit_proof.proofs.Imports.{line_of_entry, line_with, nat_le, spaced, steps_read, subst, sym, ℕ, ◌∙◌}
 use Rattle.audit_proof.proofs.LinesRead.{entry_by, read_begun, words_refused}
 

@@ -1,4 +1,4 @@
-use Rattle.audit_proof.proofs.Imports.{Contains, arith, before, cases_lt, false_from_ne_true, false≢true, if◌then◌else◌}
+use Rattle.audit_proof.proofs.Imports.{Contains, arith, before, cases_lt, false_from_ne_true, false≢true}
 use Rattle.audit_proof.proofs.Imports.{inl, inr, list_all_each, list_all_from_each, listed_in, not-true, not_from_false}
 use Rattle.audit_proof.proofs.Imports.{subst, sym, unpacked, ◌∙◌, ◌≡◌}
 use Rattle.audit_proof.proofs.PackedFacts.{listed_below, listed_inside}

@@ -1,5 +1,5 @@
 use Rattle.audit_proof.proofs.Imports.{get_or, replicate, rules, slice_get-get_or, ◌≡◌}
-use Rattle.audit_proof.proofs.PackedFacts.{IsTableOf, a_step, table_blank, table_step}
+use Rattle.audit_proof.proofs.PackedFacts.{a_step, table_blank, table_step}
 use Rattle.audit_proof.proofs.packed.table_of.Goals as goal
 
 pub loop-step-init : goal.loop-step-init

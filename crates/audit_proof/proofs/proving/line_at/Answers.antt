@@ -1,4 +1,4 @@
-use Rattle.audit_proof.proofs.Imports.{List, None, Option, [], ap, arith, before, length, length-replicate, line_with}
+use Rattle.audit_proof.proofs.Imports.{List, None, Option, [], ap, arith, length, length-replicate, line_with}
 use Rattle.audit_proof.proofs.Imports.{noted_all, refl, replicate, rules, suc, sym, via_at, ℕ, ◌++◌, ◌+◌, ◌-◌, ◌∙◌, ◌∷◌}
 use Rattle.audit_proof.proofs.Imports.{◌≡◌}
 use Rattle.audit_proof.proofs.Walked.{length-noted_all}

@@ -1,4 +1,4 @@
-use Rattle.audit_proof.proofs.Imports.{[], ap, append-nil, arith, flat_map_more, head_text, if◌then◌else◌, line_text}
+use Rattle.audit_proof.proofs.Imports.{[], ap, append-nil, arith, flat_map_more, head_text, line_text}
 use Rattle.audit_proof.proofs.Imports.{made_line, made_lines, proof_text, refl, rules, sym, ◌∙◌, ◌≡◌}
 use Rattle.audit_proof.proofs.Canonicals.{head_short, lines_push, made_text, too_long}
 use Rattle.audit_proof.proofs.proving.prove.Goals as goal
