@@ -44,12 +44,14 @@ module _ (graph : Graph) (descends : Descends graph.parents) where
         proof = record {
           rises = λ i j d less within.
               rw (at_line i d (omega (arith, less, within, size)), at_line j d (omega (arith, within, size))) less;
-          each = λ k d low. rw (at_line k d (omega (arith, low, size))) (made_is graph k descends (omega (arith, low, size))).0;
+          each = λ k d low.
+              rw (at_line k d (omega (arith, low, size))) (made_is graph k descends (omega (arith, low, size))).0;
         };
         count = size;
         entries = λ k line at.
             let low = slice_get_within (made_lines graph graph.count) k line at in
-            ap (λ (l : Line). l.entry) (sym (get_or_from_slice_get _ k line line at) ∙ at_line k line (omega (arith, low, size)));
+            ap (λ (l : Line). l.entry)
+            (sym (get_or_from_slice_get _ k line line at) ∙ at_line k line (omega (arith, low, size)));
         greatest = λ k d low.
             rw (at_line k d (omega (arith, low, size))) (made_is graph k descends (omega (arith, low, size))).1;
       }
@@ -66,7 +68,8 @@ module _ (graph : Graph) (descends : Descends graph.parents) where
       let all = made_lines graph graph.count in
       let size = length-map-range_with_len (made_line graph) 0 graph.count in
       let grows = length-flat_map-take line_text all k (made_line graph k) (omega (arith, low, size)) in
-      let first : take k all ≡ made_lines graph k = take-map-range_with_len (made_line graph) 0 graph.count k (omega (arith, low)) in
+      let first : take k all ≡ made_lines graph k =
+      take-map-range_with_len (made_line graph) 0 graph.count k (omega (arith, low)) in
       let more = rw (first, at_line k (made_line graph k) low) at grows in (
         proof_text graph.count all,
         made_text,

@@ -74,7 +74,11 @@ next_line bytes start found is inside =
           (drop-drop (n + 1) start bytes ∙ ap (λ (k : ℕ). drop k bytes) next))
       | inr over ↦
           let front = drop_more bytes start 0 inside in
-          rw (le-ltb (start + n) (length bytes) (omega (arith, over, length-drop start bytes)), size, take_all n xs over) (
+          rw (
+            le-ltb (start + n) (length bytes) (omega (arith, over, length-drop start bytes)),
+            size,
+            take_all n xs over,
+          ) (
           ap lines_between (parts_only 10 xs over)
           ∙ rw (drop_all (start + n) bytes (omega (arith, over, length-drop start bytes)), front) refl)
     ])

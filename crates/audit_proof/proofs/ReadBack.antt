@@ -28,7 +28,8 @@ pub decimal_has_no : (s : ℕ) → ((d : ℕ) → d < 10 → 48 + d ≢ s) → (
 decimal_has_no s other n small =
     decimal_by_steps (λ n ds. HasNo s ds)
     (λ n l. All-cons (IsNot s) (48 + n) [] (ne_eqb (48 + n) s (other n l)) (All-nil (IsNot s)))
-    (λ n ds l all. All-push (IsNot s) ds (48 + n % 10) all (ne_eqb (48 + n % 10) s (other (n % 10) (omega arith)))) n small
+    (λ n ds l all. All-push (IsNot s) ds (48 + n % 10) all (ne_eqb (48 + n % 10) s (other (n % 10) (omega arith))))
+    n small
 
 -- numbers of 32 bits
 abbrev pub IsSmall : ProofStep → Type 0
@@ -177,12 +178,14 @@ module _ (graph : Graph) where
         let small = small_steps line is.begun in
         rw (after_back (codes "past") (words_on (line_words line)) line.entry (map step_word line.steps)
         (omega (arith, low, few))
-        (line_has (codes "past") line.entry line.steps (has_no_by 32 (codes "past") refl) (omega (arith, low, few)) small))
+        (line_has (codes "past") line.entry line.steps (has_no_by 32 (codes "past") refl) (omega (arith, low, few))
+        small))
         ((entry_is graph rises true line.entry (map step_word line.steps) line).1 (
           low,
           (
             above,
-            rw (steps_back line.entry [] line.steps small is.begun) ((end_is graph true line line).1 (refl, (is.closed, refl))),
+            rw (steps_back line.entry [] line.steps small is.begun)
+                ((end_is graph true line line).1 (refl, (is.closed, refl))),
           ),
         ))
 

@@ -113,7 +113,8 @@ module _ (graph : Graph) where
       (end_read graph ended line ≡ Ok all) ↔ ((ended ≡ true) × (LacksNoParent graph line × (line ≡ all)))
   unfolding end_read
   end_is ended line all =
-      needs _ _ _ all (itself ended) (needs _ _ _ all (closed_decides graph line) ((λ e. cc), λ e. ap (λ (l : Line). Ok l) e))
+      needs _ _ _ all (itself ended)
+      (needs _ _ _ all (closed_decides graph line) ((λ e. cc), λ e. ap (λ (l : Line). Ok l) e))
 
   -- words that are read are those of the steps
   pub steps_said : (line : Line) (words : List (List ℕ)) (all : Line) → steps_read graph line words ≡ Ok all →

@@ -11,7 +11,8 @@ use Rattle.audit_proof.proofs.Parts.{HasNo, IsNot, full, line_bytes, lines_at, l
 use Rattle.audit_proof.proofs.LongerLines.{proof_none}
 use Rattle.audit_proof.proofs.Tests.{itself}
 use Rattle.audit_proof.proofs.ReadSaid.{after_said, followed, needed, needs, pasts_said, told}
-use Rattle.audit_proof.proofs.ReadBack.{IsSmall, after_back, decimal_has_no, has_no_by, line_has, line_has_no, pasts_back, small_steps}
+use Rattle.audit_proof.proofs.ReadBack.{IsSmall, after_back, decimal_has_no, has_no_by}
+use Rattle.audit_proof.proofs.ReadBack.{line_has, line_has_no, pasts_back, small_steps}
 
 -- its bytes
 abbrev ended : List ℕ → List ℕ
@@ -29,7 +30,8 @@ texts count lines = codes "proof 1" ∷ entries count ∷ map line_words lines
 text_is : (count : ℕ) (lines : List Line) → proof_text count lines ≡ flat_map ended (texts count lines)
 text_is count lines =
     rw (flat_map-map ended line_words lines) (append_assoc form_line (survivors_line count) (flat_map line_text lines)
-    ∙ ap (λ (xs : List ℕ). form_line ++ (xs ++ flat_map line_text lines)) (sym (append_assoc (codes "entries ") (decimal count) (10 ∷ []))))
+    ∙ ap (λ (xs : List ℕ). form_line ++ (xs ++ flat_map line_text lines))
+    (sym (append_assoc (codes "entries ") (decimal count) (10 ∷ []))))
 
 -- a text of lines without newlines has these lines
 lines_have : (ws : List (List ℕ)) → All (HasNo 10) ws → lines_in (flat_map ended ws) ≡ map full ws
@@ -43,7 +45,8 @@ lines_have (w ∷ ws) none =
 text_has_no : (graph : Graph) → graph.count ≤ 16384 → (lines : List Line) → IsProofOf graph lines →
     All (HasNo 10) (texts graph.count lines)
 text_has_no graph few lines proof =
-    All-cons (HasNo 10) (codes "proof 1") (entries graph.count ∷ map line_words lines) (has_no_by 10 (codes "proof 1") refl)
+    All-cons (HasNo 10) (codes "proof 1") (entries graph.count ∷ map line_words lines)
+    (has_no_by 10 (codes "proof 1") refl)
     (All-cons (HasNo 10) (entries graph.count) (map line_words lines)
     (All-append (IsNot 10) (codes "entries ") (decimal graph.count) (has_no_by 10 (codes "entries ") refl)
     (decimal_has_no 10 (λ d l e. absurd (omega (arith, e))) graph.count (omega (arith, few))))
@@ -79,7 +82,8 @@ count_said count line e =
     let words = words_back line.bytes (codes "entries") (decimal said.0 ∷ said.1)
     (after_said (codes "entries") (words_on line.bytes) said is_said) in
     let bytes : line.bytes ≡ entries count =
-    words ∙ ap (λ (ws : List (List ℕ)). codes "entries " ++ decimal said.0 ++ flat_map (λ (word : List ℕ). 32 ∷ word) ws)
+    words
+    ∙ ap (λ (ws : List (List ℕ)). codes "entries " ++ decimal said.0 ++ flat_map (λ (word : List ℕ). 32 ∷ word) ws)
     (nil_from_length said.1 none) ∙ ap (λ (xs : List ℕ). codes "entries " ++ xs) (append-nil _ ∙ ap decimal same) in
     ap (λ (xs : List ℕ). text_line xs line.is_ended) bytes ∙ ap (text_line (entries count)) is_ended
 

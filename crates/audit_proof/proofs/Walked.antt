@@ -138,91 +138,94 @@ module _ (graph : Graph) (entry : ℕ) where
           get_or-replicate entry p None None (omega (arith, low, length-replicate {A = Option ℕ} entry None)) in
           none-some v (sym none ∙ old)
 
-  module _ (a : ℕ) (vias : List (Option ℕ)) (steps : List ProofStep) (walking : IsWalking graph entry (suc a) vias steps)
-    where
-      -- past a place that isn't noted
-      walk_past : via_at vias a ≡ None → IsWalking graph entry a vias steps
-      walk_past none = record {
-        each = walking.each;
-        begun = walking.begun;
-        noted = walking.noted;
-        next = walking.next;
-        kept = walking.kept;
-        greatest = walking.greatest;
-        above = All-weaker (λ (s : ProofStep). suc a ≤ s.ancestor) (λ s. a ≤ s.ancestor) (λ s high. omega (arith, high))
-            steps walking.above;
-        done = λ p v high is. elim (cases_eq p a) [
-          | inl same ↦ absurd (none-some v (sym none ∙ ap (via_at vias) (sym same) ∙ is))
-          | inr apart ↦ walking.done p v (omega (arith, high, apart)) is
-        ];
-      }
+  module _ (a : ℕ) (vias : List (Option ℕ)) (steps : List ProofStep)
+      (walking : IsWalking graph entry (suc a) vias steps) where
+    -- past a place that isn't noted
+    walk_past : via_at vias a ≡ None → IsWalking graph entry a vias steps
+    walk_past none = record {
+      each = walking.each;
+      begun = walking.begun;
+      noted = walking.noted;
+      next = walking.next;
+      kept = walking.kept;
+      greatest = walking.greatest;
+      above = All-weaker (λ (s : ProofStep). suc a ≤ s.ancestor) (λ s. a ≤ s.ancestor) (λ s high. omega (arith, high))
+          steps walking.above;
+      done = λ p v high is. elim (cases_eq p a) [
+        | inl same ↦ absurd (none-some v (sym none ∙ ap (via_at vias) (sym same) ∙ is))
+        | inr apart ↦ walking.done p v (omega (arith, high, apart)) is
+      ];
+    }
 
-      -- with one that is
-      walk_with : (v : ℕ) → via_at vias a ≡ Some v → ((p : ℕ) → Contains (graph.parents a) p → p < a) →
-          IsWalking graph entry a (noted_all vias (graph.parents a) a) (steps ++ (record { ancestor = a; via = v }) ∷ [])
-      walk_with v is below =
-          let step : ProofStep = record { ancestor = a; via = v } in
-          let low : a < entry = omega (arith, walking.each, noted_place vias a v is) in
-          let noted = all_noted (graph.parents a) vias a (λ p c. omega (arith, below p c, low, walking.each)) in
-          let own = walking.noted a v is in
-          let inside = walking.begun.inside entry (inl refl) in
-          record {
-            each = noted.each ∙ walking.each;
-            begun = begun_more graph (line_with entry steps) step (
-              (
-                omega (arith, low, inside),
-                walking.begun.inside v own.0,
-              ),
-              (above, own),
-            ) walking.begun;
-            above = All-push (λ (s : ProofStep). a ≤ s.ancestor) steps step
-                (All-weaker (λ (s : ProofStep). suc a ≤ s.ancestor) (λ s. a ≤ s.ancestor) (λ s high. omega (arith, high))
-                steps walking.above) (omega arith);
-            noted = λ p u there. elim (noted.fresh p u there) [
-              | inl old ↦ let was = walking.noted p u old in (more_on entry steps step u was.0, was.1)
-              | inr fresh ↦ rw fresh.0 (inr (listed_new entry steps step), fresh.1)
-            ];
-            done = λ p u high there. elim (cases_eq p a) [
-              | inl same ↦ rw same (listed_new entry steps step)
-              | inr apart ↦ elim (noted.fresh p u there) [
-                | inl old ↦ listed_more entry steps step p (walking.done p u (omega (arith, high, apart)) old)
-                | inr fresh ↦ absurd (omega (arith, high, below p fresh.1))
-              ]
-            ];
-            next = λ y p on c. elim (on_more entry steps step y on) [
-              | inl old ↦ let (inside, (u, was)) = walking.next y p old c in (inside, (u, noted.kept p u was))
-              | inr same ↦
-                  let own_parent = subst (λ (n : ℕ). Contains (graph.parents n) p) (sym same) c in
-                  (omega (arith, below p own_parent, low), noted.all p own_parent)
-            ];
-            kept = All-push (λ (s : ProofStep). via_at (noted_all vias (graph.parents a) a) s.ancestor ≡ Some s.via) steps
-                step (All-weaker (λ (s : ProofStep). via_at vias s.ancestor ≡ Some s.via) _
-                (λ s was. noted.kept s.ancestor s.via was) steps walking.kept) (noted.kept a v is);
-            greatest = λ p u there y on c. elim (noted.fresh p u there) [
-              | inl old ↦ elim (on_more entry steps step y on) [
-                | inl before ↦ walking.greatest p u old y before c
-                | inr same ↦ omega (arith, all_above u (walking.noted p u old).0, same)
-              ]
-              | inr fresh ↦ elim (on_more entry steps step y on) [
-                | inl before ↦
-                    let (inside, (w, was)) = walking.next y p before c in
-                    let same = same_Some w u (sym (noted.kept p w was) ∙ there) in
-                    omega (arith, walking.greatest p w was y before c, same)
-                | inr same ↦ omega (arith, same, fresh.0)
-              ]
-            ];
-          }
-        where
-          -- what is listed already is above the new ancestor
-          above : (s : ProofStep) → Contains steps s → a < s.ancestor
-          above s c = All-contains (λ (s : ProofStep). suc a ≤ s.ancestor) steps s walking.above c
+    -- with one that is
+    walk_with : (v : ℕ) → via_at vias a ≡ Some v → ((p : ℕ) → Contains (graph.parents a) p → p < a) →
+        IsWalking graph entry a (noted_all vias (graph.parents a) a)
+        (steps ++ (record { ancestor = a; via = v }) ∷ [])
+    walk_with v is below =
+        let step : ProofStep = record { ancestor = a; via = v } in
+        let low : a < entry = omega (arith, walking.each, noted_place vias a v is) in
+        let noted = all_noted (graph.parents a) vias a (λ p c. omega (arith, below p c, low, walking.each)) in
+        let own = walking.noted a v is in
+        let inside = walking.begun.inside entry (inl refl) in
+        record {
+          each = noted.each ∙ walking.each;
+          begun = begun_more graph (line_with entry steps) step (
+            (
+              omega (arith, low, inside),
+              walking.begun.inside v own.0,
+            ),
+            (above, own),
+          ) walking.begun;
+          above = All-push (λ (s : ProofStep). a ≤ s.ancestor) steps step
+              (All-weaker (λ (s : ProofStep). suc a ≤ s.ancestor) (λ s. a ≤ s.ancestor)
+              (λ s high. omega (arith, high))
+              steps walking.above) (omega arith);
+          noted = λ p u there. elim (noted.fresh p u there) [
+            | inl old ↦ let was = walking.noted p u old in (more_on entry steps step u was.0, was.1)
+            | inr fresh ↦ rw fresh.0 (inr (listed_new entry steps step), fresh.1)
+          ];
+          done = λ p u high there. elim (cases_eq p a) [
+            | inl same ↦ rw same (listed_new entry steps step)
+            | inr apart ↦ elim (noted.fresh p u there) [
+              | inl old ↦ listed_more entry steps step p (walking.done p u (omega (arith, high, apart)) old)
+              | inr fresh ↦ absurd (omega (arith, high, below p fresh.1))
+            ]
+          ];
+          next = λ y p on c. elim (on_more entry steps step y on) [
+            | inl old ↦ let (inside, (u, was)) = walking.next y p old c in (inside, (u, noted.kept p u was))
+            | inr same ↦
+                let own_parent = subst (λ (n : ℕ). Contains (graph.parents n) p) (sym same) c in
+                (omega (arith, below p own_parent, low), noted.all p own_parent)
+          ];
+          kept = All-push
+              (λ (s : ProofStep). via_at (noted_all vias (graph.parents a) a) s.ancestor ≡ Some s.via) steps
+              step (All-weaker (λ (s : ProofStep). via_at vias s.ancestor ≡ Some s.via) _
+              (λ s was. noted.kept s.ancestor s.via was) steps walking.kept) (noted.kept a v is);
+          greatest = λ p u there y on c. elim (noted.fresh p u there) [
+            | inl old ↦ elim (on_more entry steps step y on) [
+              | inl before ↦ walking.greatest p u old y before c
+              | inr same ↦ omega (arith, all_above u (walking.noted p u old).0, same)
+            ]
+            | inr fresh ↦ elim (on_more entry steps step y on) [
+              | inl before ↦
+                  let (inside, (w, was)) = walking.next y p before c in
+                  let same = same_Some w u (sym (noted.kept p w was) ∙ there) in
+                  omega (arith, walking.greatest p w was y before c, same)
+              | inr same ↦ omega (arith, same, fresh.0)
+            ]
+          ];
+        }
+      where
+        -- what is listed already is above the new ancestor
+        above : (s : ProofStep) → Contains steps s → a < s.ancestor
+        above s c = All-contains (λ (s : ProofStep). suc a ≤ s.ancestor) steps s walking.above c
 
-          -- and so is what is on the line
-          all_above : (u : ℕ) → IsOnLine (line_with entry steps) u → a < u
-          all_above u (inl same) = omega (arith, walking.each, noted_place vias a v is, same)
-          all_above u (inr c) =
-              let (s, among, same) = Contains-map_cases (λ (s : ProofStep). s.ancestor) steps u c in
-              omega (arith, above s among, same)
+        -- and so is what is on the line
+        all_above : (u : ℕ) → IsOnLine (line_with entry steps) u → a < u
+        all_above u (inl same) = omega (arith, walking.each, noted_place vias a v is, same)
+        all_above u (inr c) =
+            let (s, among, same) = Contains-map_cases (λ (s : ProofStep). s.ancestor) steps u c in
+            omega (arith, above s among, same)
 
   -- from place to place down to the last
   walk_down : Descends graph.parents → (x : ℕ) (vias : List (Option ℕ)) (steps : List ProofStep) →
@@ -250,6 +253,7 @@ module _ (graph : Graph) (entry : ℕ) where
         },
         λ k step there v on c.
             walking.greatest step.ancestor step.via (all_at
-            (λ (s : ProofStep). via_at vias s.ancestor ≡ Some s.via) (made_line graph entry).steps k step walking.kept there)
+            (λ (s : ProofStep). via_at vias s.ancestor ≡ Some s.via) (made_line graph entry).steps k step walking.kept
+            there)
             v on c,
       )

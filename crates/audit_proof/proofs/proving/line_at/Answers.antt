@@ -14,8 +14,8 @@ loop-done-init g c =
     let whole : entry - 0 ≡ entry = omega arith in
     let vias : c.note.new.vias.items ≡ noted_all (replicate entry None) (graph.parents entry) entry =
     c.note.ensures ∙ rw (items, c.parents.ensures.are) refl in (
-      ap (λ (vs : List (Option ℕ)). length vs) vias ∙ length-noted_all (replicate entry None) (graph.parents entry) entry
-          ∙ length-replicate entry None,
+      ap (λ (vs : List (Option ℕ)). length vs) vias
+          ∙ length-noted_all (replicate entry None) (graph.parents entry) entry ∙ length-replicate entry None,
       rw (vias, none, whole) refl,
     )
 
