@@ -80,7 +80,7 @@ module _ (entry : ℕ) (steps : List ProofStep) (step : ProofStep) where
       let (j, there) = place_of steps s among in
       inr (j, s, slice_get_within steps j s there, push_before steps step j s there, same)
 
--- a step goes on a line
+-- a step may be the next on a line
 abbrev pub Fits : Graph → Line → ProofStep → Type 0
 Fits graph line step =
     ((step.ancestor < graph.count) × (step.via < graph.count))
@@ -97,7 +97,7 @@ module _ (graph : Graph) where
     arrows = λ k s at. cc;
   }
 
-  -- with a step that goes on it, it is one still
+  -- with the next step it is one still
   pub begun_more : (line : Line) (step : ProofStep) → Fits graph line step → IsBegun graph line →
       IsBegun graph (with_step line step)
   begun_more line step (low, (below, (on, arrow))) begun = record {

@@ -14,7 +14,7 @@ use Rattle.audit_proof.proofs.ReadSaid.{after_said, followed, needed, needs, pas
 use Rattle.audit_proof.proofs.ReadBack.{IsSmall, after_back, decimal_has_no, has_no_by}
 use Rattle.audit_proof.proofs.ReadBack.{line_has, line_has_no, pasts_back, small_steps}
 
--- its bytes
+-- the bytes of an ended line
 abbrev ended : List ℕ → List ℕ
 ended bytes = bytes ++ 10 ∷ []
 
@@ -26,7 +26,7 @@ entries count = codes "entries " ++ decimal count
 abbrev texts : ℕ → List Line → List (List ℕ)
 texts count lines = codes "proof 1" ∷ entries count ∷ map line_words lines
 
--- what it is
+-- a proof's text is these lines, ended
 text_is : (count : ℕ) (lines : List Line) → proof_text count lines ≡ flat_map ended (texts count lines)
 text_is count lines =
     rw (flat_map-map ended line_words lines) (append_assoc form_line (survivors_line count) (flat_map line_text lines)
@@ -41,7 +41,7 @@ lines_have (w ∷ ws) none =
     ∙ lines_at w (flat_map ended ws) (All-head (HasNo 10) w ws none)
     ∙ ap (λ (ts : List TextLine). full w ∷ ts) (lines_have ws (All-tail (HasNo 10) w ws none))
 
--- no line of a proof has one
+-- no line of a proof's text has one
 text_has_no : (graph : Graph) → graph.count ≤ 16384 → (lines : List Line) → IsProofOf graph lines →
     All (HasNo 10) (texts graph.count lines)
 text_has_no graph few lines proof =

@@ -67,16 +67,16 @@ module _ (graph other : Graph) (same : HaveSameArrows graph other) where
   abbrev counted : ℕ → Graph
   counted n = record { count = n; parents = graph.parents; ragged = graph.ragged }
 
-  abbrev even : Graph
-  even = counted other.count
+  abbrev recounted : Graph
+  recounted = counted other.count
 
   -- so the same steps fit
-  fits_same : (line : Line) (step : ProofStep) → step_fits even line step ≡ step_fits other line step
+  fits_same : (line : Line) (step : ProofStep) → step_fits recounted line step ≡ step_fits other line step
   unfolding step_fits
   fits_same line step = rw (arrow_same step.via step.ancestor) refl
 
   -- and the same words are read
-  steps_same : (line : Line) (words : List (List ℕ)) → steps_read even line words ≡ steps_read other line words
+  steps_same : (line : Line) (words : List (List ℕ)) → steps_read recounted line words ≡ steps_read other line words
   steps_same line [] = refl
   steps_same line (word ∷ words) =
       then_same (step_of_word word) _ _ (λ step. rw (fits_same line step)
@@ -89,16 +89,16 @@ module _ (graph other : Graph) (same : HaveSameArrows graph other) where
       (λ closed x p on c. closed x p on ((same.parents x p).0 c)) (closed_other line) (closed_decides other line))
 
   -- so the same lines are read
-  past_same : (rises : ℕ → Bool) (next : TextLine) → past_read even rises next ≡ past_read other rises next
+  past_same : (rises : ℕ → Bool) (next : TextLine) → past_read recounted rises next ≡ past_read other rises next
   unfolding past_read line_of_entry end_read
   past_same rises next =
       then_same (number_after (codes "past") (words_on next.bytes)) _ _ (λ said.
       then_same (need (nat_lt said.0 other.count) OutOfRange) _ _ (λ inside.
       then_same (need (rises said.0) NotRising) _ _ (λ above.
-      ap (λ (r : ProofRead Line). r >>= end_read even next.is_ended) (steps_same (line_with said.0 []) said.1)
+      ap (λ (r : ProofRead Line). r >>= end_read recounted next.is_ended) (steps_same (line_with said.0 []) said.1)
       ∙ then_same (steps_read other (line_with said.0 []) said.1) _ _ (λ line. rw (closed_same line) refl))))
 
-  pasts_same : (lines : List Line) (next : List TextLine) → lines_read even lines next ≡ lines_read other lines next
+  pasts_same : (lines : List Line) (next : List TextLine) → lines_read recounted lines next ≡ lines_read other lines next
   pasts_same lines [] = refl
   pasts_same lines (first ∷ next) =
       rw (past_same (is_above lines) first)

@@ -17,7 +17,7 @@ in_decides xs x = (
   λ c. list_any_of (λ z. z == x) xs x c (eq-eqb x x refl),
 )
 
--- a test of all is of each
+-- a test that each passes
 pub all_decides : {X : Type 0} (p : X → Bool) (P : X → Type 0) (xs : List X) → ((x : X) → Decides (p x) (P x)) →
     Decides (list_all p xs) ((x : X) → Contains xs x → P x)
 all_decides p P xs each =
@@ -51,7 +51,7 @@ all_same p q (x ∷ xs) each =
     ap (λ (b : Bool). b && list_all p xs) (each x (Contains-head x xs))
     ∙ ap (λ (b : Bool). q x && b) (all_same p q xs (λ y c. each y (Contains-later x xs y c)))
 
--- the same follows on a reading
+-- readings that go on in the same way are the same
 pub then_same : {A B E : Type 0} (read : Result A E) (f g : A → Result B E) → ((a : A) → f a ≡ g a) →
     (read >>= f) ≡ (read >>= g)
 then_same (Ok value) f g same = same value

@@ -1,5 +1,5 @@
 //! Reading the lines of a proof's text.
-ghost use Rattle.std.specs.Prelude.{◌≡◌, ◌<◌, ◌≤◌, nat_le, length, drop, codes, All};
+ghost use Rattle.std.specs.Prelude.{◌≡◌, ◌<◌, ◌≤◌, nat_le, length, drop, All};
 ghost use Rattle.std.specs.List.{list_all};
 ghost use Rattle.audit_proof.specs.Lines.{IsBegun, listed_in};
 ghost use Rattle.audit_proof.specs.Reading.{end_read, lacks_no_parent, line_of_entry, past_read};

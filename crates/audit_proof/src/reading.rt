@@ -12,7 +12,6 @@ ghost use Rattle.std.specs.Prelude.{
   ok_or,
   IfSome,
   Ok,
-  Err,
 };
 ghost use Rattle.std.specs.List.{list_any, position_or_len};
 ghost use Rattle.std.specs.Str.{bytes_eq};

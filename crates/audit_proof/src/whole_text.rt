@@ -1,5 +1,5 @@
 //! Reading the text of a proof.
-ghost use Rattle.std.specs.Prelude.{◌≡◌, ◌≢◌, ◌-◌, ◌≤◌, [], length, take, drop, Err};
+ghost use Rattle.std.specs.Prelude.{◌≡◌, ◌≢◌, ◌≤◌, [], length, drop, Err};
 ghost use Rattle.audit_proof.specs.Reading.{count_read, form_read, lines_in, lines_read, proof_of};
 ghost use Rattle.audit_proof.specs.Reads.{IsReadAnswer};
 ghost use Rattle.audit_proof.specs.inside.Begun.{text_line};

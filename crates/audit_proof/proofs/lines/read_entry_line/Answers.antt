@@ -13,7 +13,8 @@ pub returns-in-Err : goal.returns-in-Err
 returns-in-Err g c =
     let graph = g.A.Arrows.graph c.args.graph.now in
     subst (λ (xs : List ℕ).
-    Told (line_of_entry graph (nat_le c.args.least) c.args.is_ended (c.args.entry.number, spaced xs)) (Err c.in-Err.unread)) c.rest_from.ensures
+    Told (line_of_entry graph (nat_le c.args.least) c.args.is_ended (c.args.entry.number, spaced xs))
+    (Err c.in-Err.unread)) c.rest_from.ensures
     (words_refused _ _ _ _ c.rest_from.result.now c.in-Err.unread
     (omega (arith, c.if-number-count.false, c.count.ensures)) (le-leb _ _ (omega (arith, c.if-number-least.false)))
     c.in-Err.ensures)
