@@ -1,21 +1,14 @@
 -- The lines of a proof list exactly the ancestors of their entries, and so they say of them what
 -- the graph does.
-use Rattle.std.proofs.Common.{Bool, false}
-use Rattle.audit_proof.proofs.Imports.{◌≡◌, ℕ, zero, suc, ◌+◌, ◌<◌, true, List, [], ◌∷◌, ◌++◌, refl, sym, subst, ap}
-use Rattle.audit_proof.proofs.Imports.{◌∙◌, inl, inr, arith, cond, Some, slice_get, not, ◌==◌, Contains, list_all}
-use Rattle.audit_proof.proofs.Imports.{eqb-true, eq-eqb, and_parts, and_from, not-true, not_from_false, False}
-use Rattle.audit_proof.proofs.Imports.{Unknown, True, IsWalk, IsAncestor, Descends, reaches, is_whole, before}
-use Rattle.audit_proof.proofs.Imports.{Contains-map_cases, list_any_some, list_any_of, place_of, list_all_each}
-use Rattle.audit_proof.proofs.Imports.{list_all_from_each, ancestor_from_reaches, reaches_from_walk, clean_itself}
-use Rattle.audit_proof.proofs.Imports.{clean_ancestor, is_whole_from_clean, walk_on, Graph, ProofStep, Line}
-use Rattle.audit_proof.proofs.Imports.{listed_in, IsOnLine, IsLineOf, lists, is_whole_line, before_on}
-use Rattle.audit_proof.proofs.Imports.{LinesListAncestors}
-
--- tests of which each implies the other are one
-pub same_test : (a b : Bool) → (a ≡ true → b ≡ true) → (b ≡ true → a ≡ true) → a ≡ b
-same_test true b f g = sym (f refl)
-same_test false true f g = g refl
-same_test false false f g = refl
+use Rattle.std.proofs.Common.{false}
+use Rattle.audit_proof.proofs.Imports.{Contains, Contains-map_cases, Decides, Decides-and, Decides-like, Descends}
+use Rattle.audit_proof.proofs.Imports.{Graph, IsAncestor, IsLineOf, IsOnLine, IsWalk, Line, LinesListAncestors, List}
+use Rattle.audit_proof.proofs.Imports.{ProofStep, Some, [], ancestor_from_reaches, arith, before, before_on}
+use Rattle.audit_proof.proofs.Imports.{clean_ancestor, clean_itself, inl, inr, is_whole, is_whole_from_clean}
+use Rattle.audit_proof.proofs.Imports.{is_whole_line, listed_in, lists, not, not-true, not_from_false, place_of}
+use Rattle.audit_proof.proofs.Imports.{reaches, reaches_from_walk, refl, same_from_decides, slice_get, subst, suc}
+use Rattle.audit_proof.proofs.Imports.{walk_on, zero, ℕ, ◌++◌, ◌+◌, ◌<◌, ◌∷◌, ◌≡◌}
+use Rattle.audit_proof.proofs.Tests.{all_decides, in_decides, itself}
 
 module _ (graph : Graph) (line : Line) (is : IsLineOf graph line) where
   -- the ancestor at each step is one of the line's entry
@@ -53,40 +46,35 @@ module _ (graph : Graph) (line : Line) (is : IsLineOf graph line) where
     -- y is listed if and only if it is reached
     lists_same : (y : ℕ) → lists (Some line) y ≡ reaches graph.parents line.entry y line.entry
     lists_same y =
-        same_test (lists (Some line) y) (reaches graph.parents line.entry y line.entry)
-        (λ l. let (z, c, t) = list_any_some (λ z. z == y) (listed_in line.steps) l in
-        let (zs, walk) = listed_ancestor y (subst (Contains (listed_in line.steps)) (eqb-true z y t) c) in
-        reaches_from_walk graph.parents descends line.entry y line.entry zs (omega arith) walk)
-        (λ r. list_any_of (λ z. z == y) (listed_in line.steps) y
-        (ancestor_listed y (ancestor_from_reaches graph.parents line.entry y line.entry r)) (eq-eqb y y refl))
+        same_from_decides _ _ (Decides-like _ (listed_ancestor y) (ancestor_listed y)
+        (in_decides (listed_in line.steps) y)) (
+          ancestor_from_reaches graph.parents line.entry y line.entry,
+          λ (zs, walk). reaches_from_walk graph.parents descends line.entry y line.entry zs (omega arith) walk,
+        )
 
     -- the line is whole if and only if its entry is
     pub whole_same : is_whole_line graph.ragged (Some line) ≡ is_whole graph.parents graph.ragged line.entry line.entry
     whole_same =
-        let rest = list_all (λ y. not (graph.ragged y)) (listed_in line.steps) in
-        same_test (is_whole_line graph.ragged (Some line))
-        (is_whole graph.parents graph.ragged line.entry line.entry)
-        (λ w. let parts = and_parts (not (graph.ragged line.entry)) rest w in
-        is_whole_from_clean graph.parents descends graph.ragged line.entry line.entry (
-          not-true (graph.ragged line.entry) parts.0,
-          λ y a. not-true (graph.ragged y)
-              (list_all_each (λ z. not (graph.ragged z)) (listed_in line.steps) parts.1 y (ancestor_listed y a)),
-        ))
-        (λ w. and_from (not (graph.ragged line.entry)) rest
-        (not_from_false (graph.ragged line.entry)
-        (clean_itself graph.parents descends graph.ragged line.entry line.entry w))
-        (list_all_from_each (λ z. not (graph.ragged z)) (listed_in line.steps)
-        (λ y c. let (zs, walk) = listed_ancestor y c in
-        not_from_false (graph.ragged y)
-        (clean_ancestor graph.parents descends graph.ragged line.entry line.entry (omega arith) w y zs walk))))
+        same_from_decides _ _ (Decides-like _ (λ w. (w.0, λ y a. w.1 y (ancestor_listed y a)))
+        (λ w. (w.0, λ y c. w.1 y (listed_ancestor y c)))
+        (Decides-and _ _ (even line.entry) (all_decides _ (λ y. graph.ragged y ≡ false) (listed_in line.steps) even)))
+        (Decides-like _ (λ w. (
+          clean_itself graph.parents descends graph.ragged line.entry line.entry w,
+          λ y (zs, walk). clean_ancestor graph.parents descends graph.ragged line.entry line.entry (omega arith) w y zs
+              walk,
+        )) (is_whole_from_clean graph.parents descends graph.ragged line.entry line.entry)
+        (itself (is_whole graph.parents graph.ragged line.entry line.entry)))
+      where
+        -- of one survivor
+        even : (y : ℕ) → Decides (not (graph.ragged y)) (graph.ragged y ≡ false)
+        even y = (not-true (graph.ragged y), not_from_false (graph.ragged y))
 
     -- the line says of the order before its entry what the graph says
     pub order_same : (y : ℕ) →
         before_on (Some line) (is_whole_line graph.ragged (Some line)) y
         ≡ before graph.parents graph.ragged y line.entry
     order_same y =
-        ap (λ (b : Bool). cond b True (cond (is_whole_line graph.ragged (Some line)) False Unknown)) (lists_same y)
-        ∙ ap (λ (b : Bool). cond (reaches graph.parents line.entry y line.entry) True (cond b False Unknown)) whole_same
+        rw (lists_same y, whole_same) refl
 
 -- the law
 pub lines_list_ancestors : LinesListAncestors

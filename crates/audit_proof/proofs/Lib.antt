@@ -3,8 +3,6 @@ pub mod Ancestries
 pub mod Trusted
 pub mod Listings
 pub mod PackedFacts
-pub mod Checks
-pub mod Texts
 pub mod Parts
 pub mod LongerLines
 pub mod Tests
@@ -12,9 +10,7 @@ pub mod ReadSaid
 pub mod ReadBack
 pub mod ReadTexts
 pub mod Walked
-pub mod Writing
 pub mod Canonicals
-pub mod WordsRead
 pub mod StepsRead
 pub mod LinesRead
 pub mod SameArrows

@@ -1,15 +1,18 @@
 -- Tables of a proof's lines, step by step.
 use Rattle.std.proofs.Common.{Bool, false}
-use Rattle.audit_proof.proofs.Imports.{◌≡◌, ◌≢◌, ℕ, zero, suc, ◌+◌, ◌-◌, ◌<◌, ◌≤◌, true, cond, List, [], ◌∷◌, ◌++◌}
-use Rattle.audit_proof.proofs.Imports.{length, get_or, take, drop, refl, sym, ap, ◌∙◌, subst, inl, inr, Option, Some}
-use Rattle.audit_proof.proofs.Imports.{None, arith, append_assoc, replicate, ◌||◌, slice_get, slice_set, not, ◌==◌}
-use Rattle.audit_proof.proofs.Imports.{◌&&◌, AllPairs, option_or, filter, range_with_len, list_any, list_all}
-use Rattle.audit_proof.proofs.Imports.{drop_more, get_or-set_same, get_or-set_other, length-set, length-replicate}
-use Rattle.audit_proof.proofs.Imports.{get_or-replicate, find-append, slice_get_past, slice_get_within}
-use Rattle.audit_proof.proofs.Imports.{get_or_from_slice_get, same_Some, eqb-true, eq-eqb, ne_eqb, cases_eq, cases_lt}
-use Rattle.audit_proof.proofs.Imports.{Contains-map_cases, list_any_some, place_of, taken_more, ProofStep, Line}
-use Rattle.audit_proof.proofs.Imports.{listed_in, own_line, is_whole_line, Falls}
-use Rattle.audit_proof.proofs.Trusted.{line_found}
+use Rattle.audit_proof.proofs.Imports.{AllPairs, Contains, Contains-map, Contains-map_cases, Falls, Graph, IsLineOf}
+use Rattle.audit_proof.proofs.Imports.{IsListingOf, IsProofOf, Kind, Line, List, Listing, None, Option, ProofStep, Row}
+use Rattle.audit_proof.proofs.Imports.{Some, Trees, [], ap, arith, before_by, cases_eq, cases_lt, cond, eq-eqb}
+use Rattle.audit_proof.proofs.Imports.{false_from_ne_true, filter, filter_of_map_range_with_len_more, find-append}
+use Rattle.audit_proof.proofs.Imports.{first_value, get_or, get_or-set_other, get_or-set_same, get_or_from_slice_get}
+use Rattle.audit_proof.proofs.Imports.{has_kind, inl, inr, is_whole_line, length, length-set, list_any, listed_in}
+use Rattle.audit_proof.proofs.Imports.{listing_before, listing_whole, map-id, member_at, ne_eqb, option_or, own_line}
+use Rattle.audit_proof.proofs.Imports.{place_of, range_with_len, refl, same_Some, same_values, slice_get}
+use Rattle.audit_proof.proofs.Imports.{slice_get-get_or, slice_get_within, slice_set, subst, suc, sym, take, taken_more}
+use Rattle.audit_proof.proofs.Imports.{three_by, true, unbound, values, whole_by, zero, ℕ, ◌++◌, ◌+◌, ◌<◌, ◌==◌, ◌∙◌}
+use Rattle.audit_proof.proofs.Imports.{◌∷◌, ◌≡◌, ◌≢◌, ◌≤◌}
+use Rattle.audit_proof.proofs.Trusted.{line_found, line_or_none}
+use Rattle.audit_proof.proofs.Tests.{in_decides}
 
 -- in a list whose pairs are related, what is at two places is related
 pub pair_at : {X : Type 0} (R : X → X → Type 0) (xs : List X) (i j : ℕ) (x y : X) → AllPairs R xs → i < j →
@@ -29,31 +32,6 @@ taken_at (y ∷ xs) zero j x at = cc
 taken_at (y ∷ xs) (suc k) zero x at = (omega arith, at)
 taken_at (y ∷ xs) (suc k) (suc j) x at = let (low, there) = taken_at xs k j x at in (omega (arith, low), there)
 
--- a test or true is true
-pub or_true : (b : Bool) → (b || true) ≡ true
-or_true true = refl
-or_true false = refl
-
--- ---- whether steps are even
-
-module _ (ragged : ℕ → Bool) (steps : List ProofStep) (i : ℕ) (step : ProofStep) (within : i < length steps)
-    (is : step ≡ get_or steps i step) where
-  -- whether no step from a place on is ragged
-  abbrev pub even_from : ℕ → Bool
-  even_from k = list_all (λ y. not (ragged y)) (listed_in (drop k steps))
-
-  -- step by step
-  even_step : even_from i ≡ (not (ragged step.ancestor) && even_from (i + 1))
-  even_step =
-      ap (λ (ss : List ProofStep). list_all (λ y. not (ragged y)) (listed_in ss))
-      (drop_more steps i step within ∙ ap (λ (s : ProofStep). s ∷ drop (i + 1) steps) (sym is))
-
-  pub even_more : ragged step.ancestor ≡ false → even_from i ≡ even_from (i + 1)
-  even_more even = even_step ∙ ap (λ (b : Bool). not b && even_from (i + 1)) even
-
-  pub even_stop : ragged step.ancestor ≡ true → even_from i ≡ false
-  even_stop ragged_here = even_step ∙ ap (λ (b : Bool). not b && even_from (i + 1)) ragged_here
-
 -- ---- searching steps that fall
 
 module _ (steps : List ProofStep) (y : ℕ) where
@@ -67,36 +45,31 @@ module _ (steps : List ProofStep) (y : ℕ) where
   -- a step with y is found
   pub listed_at : (k : ℕ) (step : ProofStep) → slice_get steps k ≡ Some step → step.ancestor ≡ y →
       list_any (λ z. z == y) (listed_in steps) ≡ true
-  listed_at k step at same = any_at steps k at
-    where
-      any_at : (ss : List ProofStep) (j : ℕ) → slice_get ss j ≡ Some step → list_any (λ z. z == y) (listed_in ss) ≡ true
-      any_at [] j found = cc
-      any_at (s ∷ ss) zero found =
-          let here : s ≡ step = cc in
-          ap (λ (b : Bool). b || list_any (λ z. z == y) (listed_in ss))
-          (eq-eqb s.ancestor y (ap (λ (t : ProofStep). t.ancestor) here ∙ same))
-      any_at (s ∷ ss) (suc j) found =
-          ap (λ (b : Bool). (s.ancestor == y) || b) (any_at ss j found) ∙ or_true (s.ancestor == y)
+  listed_at k step at same =
+      (in_decides (listed_in steps) y).1
+      (subst (Contains (listed_in steps)) same (Contains-map (λ (s : ProofStep). s.ancestor) steps step
+      (member_at steps k step at)))
 
   -- where nothing is left between, y isn't listed
   pub none_between : (k : ℕ) → StandsBetween k k → list_any (λ z. z == y) (listed_in steps) ≡ false
-  none_between k (_, _, apart) = by (list_any (λ z. z == y) (listed_in steps)) refl
-    where
-      by : (b : Bool) → list_any (λ z. z == y) (listed_in steps) ≡ b → b ≡ false
-      by false is = refl
-      by true is =
-          let (z, c, t) = list_any_some (λ z. z == y) (listed_in steps) is in
-          let (step, among, same) = Contains-map_cases (λ (s : ProofStep). s.ancestor) steps z c in
-          let (j, at) = place_of steps step among in
-          let here : step.ancestor ≡ y = same ∙ eqb-true z y t in
-          let sides = apart j step at in
-          elim (cases_lt j k) [
-            | inl low ↦ absurd (omega (arith, sides.0 low, here))
-            | inr high ↦ absurd (omega (arith, sides.1 high, here))
-          ]
+  none_between k (_, _, apart) = false_from_ne_true _ (λ is.
+      let (step, among, same) = Contains-map_cases (λ (s : ProofStep). s.ancestor) steps y
+      ((in_decides (listed_in steps) y).0 is) in
+      let (j, at) = place_of steps step among in
+      let sides = apart j step at in
+      elim (cases_lt j k) [
+        | inl low ↦ omega (arith, sides.0 low, same)
+        | inr high ↦ omega (arith, sides.1 high, same)
+      ])
 
   module _ (falls : Falls steps) (low high middle : ℕ) (step : ProofStep) (at : slice_get steps middle ≡ Some step)
       (inside : low ≤ middle) (below : middle < high) (between : StandsBetween low high) where
+    -- what is in the middle
+    at_middle : (k : ℕ) (other : ProofStep) → slice_get steps k ≡ Some other → k ≡ middle →
+        other.ancestor ≡ step.ancestor
+    at_middle k other there same =
+        ap (λ (s : ProofStep). s.ancestor) (same_Some other step (sym there ∙ ap (slice_get steps) same ∙ at))
+
     -- above y the search goes on after the middle
     pub go_up : y < step.ancestor → StandsBetween (middle + 1) high
     go_up above = (
@@ -108,13 +81,14 @@ module _ (steps : List ProofStep) (y : ℕ) where
         up : (k : ℕ) (other : ProofStep) → slice_get steps k ≡ Some other → k < middle + 1 → y < other.ancestor
         up k other there l =
             elim (cases_eq k middle) [
-              | inl same ↦
-                  let one : other ≡ step = same_Some other step (sym there ∙ ap (slice_get steps) same ∙ at) in
-                  omega (arith, above, ap (λ (s : ProofStep). s.ancestor) one)
+              | inl same ↦ omega (arith, above, at_middle k other there same)
               | inr apart ↦
-                  let less = pair_at (λ (a b : ProofStep). b.ancestor < a.ancestor) steps k middle other step falls
-                  (omega (arith, l, apart)) there at in
-                  omega (arith, above, less)
+                  omega (
+                    arith,
+                    above,
+                    pair_at (λ (a b : ProofStep). b.ancestor < a.ancestor) steps k middle other step
+                        falls (omega (arith, l, apart)) there at,
+                  )
             ]
 
     -- below y the search goes on before the middle
@@ -128,13 +102,14 @@ module _ (steps : List ProofStep) (y : ℕ) where
         down : (k : ℕ) (other : ProofStep) → slice_get steps k ≡ Some other → middle ≤ k → other.ancestor < y
         down k other there l =
             elim (cases_eq k middle) [
-              | inl same ↦
-                  let one : other ≡ step = same_Some other step (sym there ∙ ap (slice_get steps) same ∙ at) in
-                  omega (arith, under, ap (λ (s : ProofStep). s.ancestor) one)
+              | inl same ↦ omega (arith, under, at_middle k other there same)
               | inr apart ↦
-                  let less = pair_at (λ (a b : ProofStep). b.ancestor < a.ancestor) steps middle k step other falls
-                  (omega (arith, l, apart)) at there in
-                  omega (arith, under, less)
+                  omega (
+                    arith,
+                    under,
+                    pair_at (λ (a b : ProofStep). b.ancestor < a.ancestor) steps middle k step other
+                        falls (omega (arith, l, apart)) at there,
+                  )
             ]
 
 -- ---- the table
@@ -164,30 +139,26 @@ module _ (ragged : ℕ → Bool) (lines : List Line) (count : ℕ) where
     other_line x apart =
         ap (λ (ls : List Line). own_line ls x) more_lines
         ∙ find-append (λ (l : Line). l.entry == x) (take k lines) (line ∷ [])
-        ∙ ap (λ (b : Bool). option_or (own_line (take k lines) x) (cond b (Some line) None))
-        (ne_eqb line.entry x (λ e. apart (sym e)))
-        ∙ or_none (own_line (take k lines) x)
+        ∙ rw (ne_eqb line.entry x (λ e. apart (sym e))) (or_none (own_line (take k lines) x))
 
     -- none of the lines before is of the line's entry
     none_before : own_line (take k lines) line.entry ≡ None
-    none_before = by (own_line (take k lines) line.entry) refl
-      where
-        by : (o : Option Line) → own_line (take k lines) line.entry ≡ o → o ≡ None
-        by None is = refl
-        by (Some other) is =
-            let (c, same) = line_found (take k lines) line.entry other is in
-            let (j, there) = place_of (take k lines) other c in
-            let (low, also) = taken_at lines k j other there in
-            let less = pair_at (λ (a b : Line). a.entry < b.entry) lines j k other line rises low also at in
-            absurd (omega (arith, less, same))
+    none_before = elim (line_or_none (own_line (take k lines) line.entry)) [
+      | inl none ↦ none
+      | inr (other, is) ↦
+          let (c, same) = line_found (take k lines) line.entry other is in
+          let (j, there) = place_of (take k lines) other c in
+          let (low, also) = taken_at lines k j other there in
+          let less = pair_at (λ (a b : Line). a.entry < b.entry) lines j k other line rises low also at in
+          absurd (omega (arith, less, same))
+    ]
 
     -- its own survivor has it now
     found_now : own_line (take (k + 1) lines) line.entry ≡ Some line
     found_now =
         ap (λ (ls : List Line). own_line ls line.entry) more_lines
         ∙ find-append (λ (l : Line). l.entry == line.entry) (take k lines) (line ∷ [])
-        ∙ ap (λ (o : Option Line). option_or o (cond (line.entry == line.entry) (Some line) None)) none_before
-        ∙ ap (λ (b : Bool). cond b (Some line) None) (eq-eqb line.entry line.entry refl)
+        ∙ rw (none_before, eq-eqb line.entry line.entry refl) refl
 
     pub table_more : (numbers : List ℕ) (wholes : List Bool) → line.entry < count → IsTable numbers wholes k →
         IsTable (slice_set numbers line.entry k) (slice_set wholes line.entry (is_whole_line ragged (Some line)))
@@ -197,61 +168,56 @@ module _ (ragged : ℕ → Bool) (lines : List Line) (count : ℕ) where
       wholes_all = length-set wholes line.entry (is_whole_line ragged (Some line)) ∙ table.wholes_all;
       found = λ x l. elim (cases_eq x line.entry) [
         | inl same ↦
-            ap (λ (z : ℕ). slice_get lines (get_or (slice_set numbers line.entry k) z 0)) same
-            ∙ ap (slice_get lines) (get_or-set_same numbers line.entry k 0 (subst (λ (n : ℕ). line.entry < n)
-            (sym table.numbers_all) inside))
-            ∙ at ∙ sym found_now ∙ ap (own_line (take (k + 1) lines)) (sym same)
+            rw (same, get_or-set_same numbers line.entry k 0 (omega (arith, table.numbers_all, inside)))
+            (at ∙ sym found_now)
         | inr apart ↦
-            ap (slice_get lines) (get_or-set_other numbers line.entry x k 0 apart)
-            ∙ table.found x l ∙ sym (other_line x apart)
+            rw (get_or-set_other numbers line.entry x k 0 apart, other_line x apart) (table.found x l)
       ];
       whole = λ x l. elim (cases_eq x line.entry) [
         | inl same ↦
-            ap (λ (z : ℕ). get_or (slice_set wholes line.entry (is_whole_line ragged (Some line))) z false) same
-            ∙ get_or-set_same wholes line.entry (is_whole_line ragged (Some line)) false
-            (subst (λ (n : ℕ). line.entry < n) (sym table.wholes_all) inside)
-            ∙ ap (is_whole_line ragged) (sym found_now ∙ ap (own_line (take (k + 1) lines)) (sym same))
+            rw (
+              same,
+              get_or-set_same wholes line.entry (is_whole_line ragged (Some line)) false
+                  (omega (arith, table.wholes_all, inside)),
+            ) (ap (is_whole_line ragged) (sym found_now))
         | inr apart ↦
-            get_or-set_other wholes line.entry x (is_whole_line ragged (Some line)) false apart
-            ∙ table.whole x l ∙ ap (is_whole_line ragged) (sym (other_line x apart))
+            rw (
+              get_or-set_other wholes line.entry x (is_whole_line ragged (Some line)) false apart,
+              other_line x apart,
+            ) (table.whole x l)
       ];
     }
 
-  -- before the first line
-  pub table_none : IsTable (replicate count (length lines)) (replicate count false) 0
-  table_none = record {
-    numbers_all = length-replicate count (length lines);
-    wholes_all = length-replicate count false;
-    found = λ x l. ap (slice_get lines) (get_or-replicate count x (length lines) 0 l)
-        ∙ slice_get_past lines (length lines) (omega arith);
-    whole = λ x l. get_or-replicate count x false false l;
-  }
+module _ (graph : Graph) (lines : List Line) (proof : IsProofOf graph lines) (k : ℕ) (line : Line)
+    (low : k < length lines) (is : line ≡ get_or lines k line) where
+  -- what is in a place of a proof is a line
+  pub own_inside : IsLineOf graph line
+  own_inside = subst (IsLineOf graph) (sym is) (proof.each k line low)
+
+  pub entry_inside : line.entry < graph.count
+  entry_inside = own_inside.begun.inside line.entry (inl refl)
 
 -- ---- the places of a kind
 
--- one place more or less
-pub filter_step : (p : ℕ → Bool) (i n : ℕ) (b : Bool) → p i ≡ b → 0 < n → (done : List ℕ) →
-    done ++ filter p (range_with_len i n)
-    ≡ cond b (done ++ i ∷ []) done ++ filter p (range_with_len (i + 1) (n - 1))
-filter_step p i zero b is some done = absurd (omega arith)
-filter_step p i (suc n) b is some done =
-    let same : suc n - 1 ≡ n = omega arith in
-    ap (λ (c : Bool). done ++ cond c (i ∷ filter p (range_with_len (i + 1) n)) (filter p (range_with_len (i + 1) n))) is
-    ∙ by b
-    ∙ ap (λ (k : ℕ). cond b (done ++ i ∷ []) done ++ filter p (range_with_len (i + 1) k)) (sym same)
-  where
-    by : (b : Bool) →
-        done ++ cond b (i ∷ filter p (range_with_len (i + 1) n)) (filter p (range_with_len (i + 1) n))
-        ≡ cond b (done ++ i ∷ []) done ++ filter p (range_with_len (i + 1) n)
-    by true = sym (append_assoc done (i ∷ []) (filter p (range_with_len (i + 1) n)))
-    by false = refl
+-- one place more
+pub kinds_more : (p : ℕ → Bool) (i : ℕ) →
+    filter p (range_with_len 0 (i + 1)) ≡ filter p (range_with_len 0 i) ++ cond (p i) (i ∷ []) []
+kinds_more p i =
+    let more = filter_of_map_range_with_len_more p (λ (j : ℕ). j) 0 i i (omega arith) in
+    rw (map-id (range_with_len 0 (i + 1)), map-id (range_with_len 0 i)) at more
 
--- the places so far and those that are left
-pub kinds_step : (p : ℕ → Bool) (i n : ℕ) (b : Bool) (items new total : List ℕ) → p i ≡ b → i < n →
-    new ≡ cond b (items ++ i ∷ []) items → total ≡ items ++ filter p (range_with_len i (n - i)) →
-    total ≡ new ++ filter p (range_with_len (i + 1) (n - (i + 1)))
-kinds_step p i n b items new total is inside new_is so_far =
-    let less : n - i - 1 ≡ n - (i + 1) = omega arith in
-    so_far ∙ filter_step p i (n - i) b is (omega (arith, inside)) items
-    ∙ ap (λ (xs : List ℕ). xs ++ filter p (range_with_len (i + 1) (n - i - 1))) (sym new_is)
-    ∙ ap (λ (k : ℕ). new ++ filter p (range_with_len (i + 1) k)) less
+-- within the rows, the row at a place is of the kind that the list says
+pub at_row : (rows : List Row) (kind : Kind) (i : ℕ) (d : Row) → i < length rows →
+    has_kind kind (slice_get rows i) ≡ has_kind kind (Some (get_or rows i d))
+at_row rows kind i d within = ap (has_kind kind) (slice_get-get_or rows i d within)
+
+-- by a table of a proof's lines a rule has the value that it has by the proof
+pub by_listing : (rows : List Row) (graph : Graph) (lines : List Line) (listing : Listing) →
+    length rows ≡ graph.count → IsListingOf graph lines listing → (rule : Trees) →
+    first_value (values rows (listing_before listing) (listing_whole listing) rule unbound)
+    ≡ three_by rows graph.ragged lines rule
+by_listing rows graph lines listing as_many is rule =
+    ap first_value (same_values rows (listing_before listing) (before_by graph.ragged lines) (listing_whole listing)
+    (whole_by graph.ragged lines)
+    (λ y x l. rw (is.found x (omega (arith, as_many, l)), is.whole x (omega (arith, as_many, l))) refl)
+    (λ x l. is.whole x (omega (arith, as_many, l))) rule unbound (λ v. tt))

@@ -1,118 +1,111 @@
 -- Bytes in parts, each up to a separator.
-use Rattle.audit_proof.proofs.Imports.{All, Bool, Contains-head, Contains-later, Contains-none, Follows, HasNo, List}
-use Rattle.audit_proof.proofs.Imports.{TextLine, [], after_first, all_from_places, ap, append-nil, append_assoc}
-use Rattle.audit_proof.proofs.Imports.{arith, before_first, cond, drop, drop-append-add, drop_all, eq-eqb, false}
-use Rattle.audit_proof.proofs.Imports.{flat_map, get_or, get_or_from_slice_get, join_with_byte}
-use Rattle.audit_proof.proofs.Imports.{join_with_byte-slice_split, length, length-slice_split, length-take-le}
-use Rattle.audit_proof.proofs.Imports.{lines_between, lines_in, member_at, ne_eqb, not, position_or_len, prefix_len}
-use Rattle.audit_proof.proofs.Imports.{refl, slice_get-get_or, slice_split, slice_split_at, slice_split_none, spaced}
-use Rattle.audit_proof.proofs.Imports.{subst, sym, take, take-append-drop, take_at, taken_more, text_line, true}
-use Rattle.audit_proof.proofs.Imports.{words_on, ℕ, ◌++◌, ◌+◌, ◌<◌, ◌==◌, ◌∙◌, ◌∷◌, ◌≡◌, ◌≢◌, ◌≤◌}
-use Rattle.audit_proof.proofs.Texts.{has_no_both, has_no_more}
+use Rattle.audit_proof.proofs.Imports.{All, All-from_get_or, All-head, All-tail, LineAt, List, TextLine, []}
+use Rattle.audit_proof.proofs.Imports.{after_first, ap, append-nil, append_assoc, arith, before_first, cases_lt, cond}
+use Rattle.audit_proof.proofs.Imports.{drop, drop-append-add, drop-drop, drop_all, drop_more, eq-eqb}
+use Rattle.audit_proof.proofs.Imports.{fails_before_first, false, first_from, flat_map, inl, inr, join_with_byte}
+use Rattle.audit_proof.proofs.Imports.{join_with_byte-slice_split, le-ltb, length, length-drop, length-slice_split}
+use Rattle.audit_proof.proofs.Imports.{line_from, lines_between, lines_in, lt-ltb, position_or_len, refl, slice_split}
+use Rattle.audit_proof.proofs.Imports.{slice_split_at, slice_split_first, slice_split_none, spaced, sym, take, take_all}
+use Rattle.audit_proof.proofs.Imports.{take_at, text_line, true, words_on, ℕ, ◌++◌, ◌+◌, ◌-◌, ◌<◌, ◌==◌, ◌∙◌, ◌∷◌, ◌≡◌}
+use Rattle.audit_proof.proofs.Imports.{◌≤◌}
 
--- one byte more that is another
-pub taken_has_no : (s : ℕ) (xs : List ℕ) (i : ℕ) → i < length xs → get_or xs i 0 ≢ s → HasNo s (take i xs) →
-    HasNo s (take (i + 1) xs)
-taken_has_no s xs i within apart none =
-    subst (HasNo s)
-    (sym (taken_more xs i (get_or xs i 0) within
-    (sym (get_or_from_slice_get xs i (get_or xs i 0) (get_or xs i 0) (slice_get-get_or xs i 0 within)))))
-    (has_no_both s (take i xs) (get_or xs i 0 ∷ []) none
-    (has_no_more s (get_or xs i 0) [] apart (λ z c. absurd (Contains-none z c))))
+-- an ended line of these bytes
+abbrev pub full : List ℕ → TextLine
+full bytes = text_line bytes true
 
--- after the last byte nothing is left
-pub dropped_all_follows : (s : ℕ) (xs : List ℕ) (i : ℕ) → length xs ≤ i → Follows s (drop i xs)
-dropped_all_follows s xs i over = subst (Follows s) (sym (drop_all i xs over)) tt
+-- a byte isn't the separator
+abbrev pub IsNot : ℕ → ℕ → Type 0
+IsNot s x = (x == s) ≡ false
 
--- no byte of these is the separator
-apart : (s : ℕ) (xs : List ℕ) → HasNo s xs → All (λ (x : ℕ). (x == s) ≡ false) xs
-apart s xs none = all_from_places (λ (x : ℕ). (x == s) ≡ false) xs (λ i x at. ne_eqb x s (none x (member_at xs i x at)))
+-- no byte of these is
+abbrev pub HasNo : ℕ → List ℕ → Type 0
+HasNo s xs = All (IsNot s) xs
 
--- a part, a separator, and what follows it
-pub parts_at : (s : ℕ) (xs ys : List ℕ) → HasNo s xs →
-    slice_split (λ byte. byte == s) (xs ++ s ∷ ys) ≡ xs ∷ slice_split (λ byte. byte == s) ys
-parts_at s xs ys none = slice_split_at (λ byte. byte == s) xs s ys (apart s xs none) (eq-eqb s s refl)
+-- a list without a separator is one part
+parts_only : (s : ℕ) (xs : List ℕ) → length xs ≤ position_or_len (λ byte. byte == s) xs →
+    slice_split (λ byte. byte == s) xs ≡ xs ∷ []
+parts_only s xs over =
+    slice_split_none (λ byte. byte == s) xs (All-from_get_or (IsNot s) xs 0
+    (λ i low. fails_before_first (λ byte. byte == s) xs i 0 (omega (arith, over))))
 
--- the last part
-pub parts_last : (s : ℕ) (xs : List ℕ) → HasNo s xs → slice_split (λ byte. byte == s) xs ≡ xs ∷ []
-parts_last s xs none = slice_split_none (λ byte. byte == s) xs (apart s xs none)
+-- ---- by places
 
--- parts with a separator between each two
-pub joined : (s : ℕ) (x : List ℕ) (xs : List (List ℕ)) →
-    join_with_byte s (x ∷ xs) ≡ x ++ flat_map (λ (word : List ℕ). s ∷ word) xs
-joined s x [] = sym (append-nil x)
-joined s x (y ∷ xs) = ap (λ (zs : List ℕ). x ++ s ∷ zs) (joined s y xs)
+-- the words of a line are the first one and those after it
+pub words_taken : (xs : List ℕ) → words_on xs
+    ≡ take (position_or_len (λ byte. byte == 32) xs) xs ∷ spaced (drop (position_or_len (λ byte. byte == 32) xs) xs)
+words_taken xs =
+    let n = position_or_len (λ byte. byte == 32) xs in
+    elim (cases_lt n (length xs)) [
+      | inl inside ↦ slice_split_first (λ byte. byte == 32) xs 0 inside
+          ∙ ap (λ (ys : List ℕ). take n xs ∷ spaced ys) (sym (drop_more xs n 0 inside))
+      | inr over ↦ rw (take_all n xs over, drop_all n xs over) (parts_only 32 xs over)
+    ]
 
--- ---- up to the first separator
-
--- the byte is first after what doesn't have it, or nowhere
-first_at : (s : ℕ) (xs ys : List ℕ) → HasNo s xs → Follows s ys →
-    position_or_len (λ (byte : ℕ). byte == s) (xs ++ ys) ≡ length xs
-first_at s [] [] none follows = refl
-first_at s [] (y ∷ ys) none follows =
-    ap (λ (b : Bool). cond (not b) (1 + prefix_len (λ (byte : ℕ). not (byte == s)) ys) 0) (eq-eqb y s follows)
-first_at s (x ∷ xs) ys none follows =
-    ap (λ (b : Bool). cond (not b) (1 + prefix_len (λ (byte : ℕ). not (byte == s)) (xs ++ ys)) 0)
-    (ne_eqb x s (none x (Contains-head x xs)))
-    ∙ ap (λ (n : ℕ). 1 + n) (first_at s xs ys (λ z c. none z (Contains-later x xs z c)) follows)
-    ∙ one_more
-  where
-    one_more : 1 + length xs ≡ length (x ∷ xs)
-    one_more = omega arith
-
--- what is before a byte that it doesn't have is the part before the first such byte
-pub part_before : (s : ℕ) (xs ys : List ℕ) → HasNo s xs → Follows s ys →
-    before_first (λ (byte : ℕ). byte == s) (xs ++ ys) ≡ xs
-part_before s xs ys none follows =
-    ap (λ (n : ℕ). take n (xs ++ ys)) (first_at s xs ys none follows) ∙ take_at xs ys (length xs) refl
-
--- the part before the first such byte, by the place of that byte
-pub part_taken : (s : ℕ) (xs : List ℕ) (n : ℕ) → HasNo s (take n xs) → Follows s (drop n xs) →
-    before_first (λ (byte : ℕ). byte == s) xs ≡ take n xs
-part_taken s xs n none follows =
-    ap (before_first (λ (byte : ℕ). byte == s)) (sym (take-append-drop n xs))
-    ∙ part_before s (take n xs) (drop n xs) none follows
-
--- what is after the first separator
-pub part_after : (s : ℕ) (xs ys : List ℕ) → HasNo s xs → after_first (λ (byte : ℕ). byte == s) (xs ++ s ∷ ys) ≡ ys
-part_after s xs ys none =
-    ap (λ (n : ℕ). drop (n + 1) (xs ++ s ∷ ys)) (first_at s xs (s ∷ ys) none refl)
-    ∙ drop-append-add xs (s ∷ ys) 1
-
--- what is after it, by its place
-pub part_dropped : (s : ℕ) (xs : List ℕ) (n : ℕ) → n ≤ length xs → HasNo s (take n xs) → Follows s (drop n xs) →
-    after_first (λ (byte : ℕ). byte == s) xs ≡ drop (n + 1) xs
-part_dropped s xs n within none follows =
-    ap (λ (k : ℕ). drop (k + 1) xs)
-    (ap (position_or_len (λ (byte : ℕ). byte == s)) (sym (take-append-drop n xs))
-    ∙ first_at s (take n xs) (drop n xs) none follows ∙ length-take-le n xs within)
-
--- ---- words
-
--- a word, and what follows it
-pub words_at : (xs ys : List ℕ) → HasNo 32 xs → Follows 32 ys → words_on (xs ++ ys) ≡ xs ∷ spaced ys
-words_at xs [] none follows = ap words_on (append-nil xs) ∙ parts_last 32 xs none
-words_at xs (y ∷ ys) none follows = ap (λ (b : ℕ). words_on (xs ++ b ∷ ys)) follows ∙ parts_at 32 xs ys none
-
--- the same by the place where the word ends
-pub words_taken : (xs : List ℕ) (n : ℕ) → HasNo 32 (take n xs) → Follows 32 (drop n xs) →
-    words_on xs ≡ take n xs ∷ spaced (drop n xs)
-words_taken xs n none follows =
-    ap words_on (sym (take-append-drop n xs)) ∙ words_at (take n xs) (drop n xs) none follows
-
--- a line is its words with a space between each two
-pub words_back : (bytes first : List ℕ) (more : List (List ℕ)) → words_on bytes ≡ first ∷ more →
-    bytes ≡ first ++ flat_map (λ (word : List ℕ). 32 ∷ word) more
-words_back bytes first more are =
-    sym (join_with_byte-slice_split 32 bytes) ∙ ap (join_with_byte 32) are ∙ joined 32 first more
-
--- ---- lines
+-- so a word after a space is followed by the words after its end
+pub next_word : (xs : List ℕ) (at : ℕ) → at < length xs → spaced (drop at xs)
+    ≡ take (first_from 32 (at + 1) xs - (at + 1)) (drop (at + 1) xs) ∷ spaced (drop (first_from 32 (at + 1) xs) xs)
+next_word xs at inside =
+    let n = position_or_len (λ byte. byte == 32) (drop (at + 1) xs) in
+    let size : (at + 1) + n - (at + 1) ≡ n = omega arith in
+    rw (drop_more xs at 0 inside, words_taken (drop (at + 1) xs), drop-drop n (at + 1) xs, size) refl
 
 -- a part before others is a line that is ended
 line_before : (xs : List ℕ) (parts : List (List ℕ)) → 1 ≤ length parts →
     lines_between (xs ∷ parts) ≡ text_line xs true ∷ lines_between parts
 line_before xs [] some = absurd (omega (arith, some))
 line_before xs (part ∷ parts) some = refl
+
+-- the lines from a place on are the one there and those after it
+pub next_line : (bytes : List ℕ) (start : ℕ) (found : LineAt) → found ≡ line_from bytes start → start < length bytes →
+    lines_in (drop start bytes)
+    ≡ text_line (take (found.end - start) (drop start bytes)) found.is_ended ∷ lines_in (drop found.next bytes)
+next_line bytes start found is inside =
+    let xs = drop start bytes in
+    let n = position_or_len (λ byte. byte == 10) xs in
+    let size : start + n - start ≡ n = omega arith in
+    rw is (elim (cases_lt n (length xs)) [
+      | inl low ↦
+          let parts = length-slice_split (λ byte. byte == 10) (drop (n + 1) xs) in
+          let next : start + (n + 1) ≡ start + n + 1 = omega arith in
+          rw (lt-ltb (start + n) (length bytes) (omega (arith, low, length-drop start bytes)), size) (
+          ap lines_between (slice_split_first (λ byte. byte == 10) xs 0 low)
+          ∙ line_before (take n xs) (slice_split (λ byte. byte == 10) (drop (n + 1) xs)) (omega (arith, parts))
+          ∙ ap (λ (ys : List ℕ). text_line (take n xs) true ∷ lines_in ys)
+          (drop-drop (n + 1) start bytes ∙ ap (λ (k : ℕ). drop k bytes) next))
+      | inr over ↦
+          let front = drop_more bytes start 0 inside in
+          rw (
+            le-ltb (start + n) (length bytes) (omega (arith, over, length-drop start bytes)),
+            size,
+            take_all n xs over,
+          ) (
+          ap lines_between (parts_only 10 xs over)
+          ∙ rw (drop_all (start + n) bytes (omega (arith, over, length-drop start bytes)), front) refl)
+    ])
+
+-- ---- by what stands in them
+
+-- a part, a separator, and what follows it
+pub parts_at : (s : ℕ) (xs ys : List ℕ) → HasNo s xs →
+    slice_split (λ byte. byte == s) (xs ++ s ∷ ys) ≡ xs ∷ slice_split (λ byte. byte == s) ys
+parts_at s xs ys none = slice_split_at (λ byte. byte == s) xs s ys none (eq-eqb s s refl)
+
+-- the last part
+pub parts_last : (s : ℕ) (xs : List ℕ) → HasNo s xs → slice_split (λ byte. byte == s) xs ≡ xs ∷ []
+parts_last s xs none = slice_split_none (λ byte. byte == s) xs none
+
+-- where it comes first
+first_at : (s : ℕ) (xs ys : List ℕ) → HasNo s xs → position_or_len (λ byte. byte == s) (xs ++ s ∷ ys) ≡ length xs
+first_at s [] ys none = rw (eq-eqb s s refl) refl
+first_at s (x ∷ xs) ys none =
+    let size : 1 + length xs ≡ length (x ∷ xs) = omega arith in
+    rw (All-head (IsNot s) x xs none, first_at s xs ys (All-tail (IsNot s) x xs none)) size
+
+pub part_before : (s : ℕ) (xs ys : List ℕ) → HasNo s xs → before_first (λ byte. byte == s) (xs ++ s ∷ ys) ≡ xs
+part_before s xs ys none = rw (first_at s xs ys none) (take_at xs (s ∷ ys) (length xs) refl)
+
+pub part_after : (s : ℕ) (xs ys : List ℕ) → HasNo s xs → after_first (λ byte. byte == s) (xs ++ s ∷ ys) ≡ ys
+part_after s xs ys none = rw (first_at s xs ys none) (drop-append-add xs (s ∷ ys) 1)
 
 -- a line that is ended, and what follows it
 pub lines_at : (xs ys : List ℕ) → HasNo 10 xs → lines_in (xs ++ 10 ∷ ys) ≡ text_line xs true ∷ lines_in ys
@@ -121,25 +114,30 @@ lines_at xs ys none =
     ap lines_between (parts_at 10 xs ys none)
     ∙ line_before xs (slice_split (λ byte. byte == 10) ys) (omega (arith, size))
 
--- a line that isn't ended
-pub lines_last : (xs : List ℕ) → HasNo 10 xs → 1 ≤ length xs → lines_in xs ≡ text_line xs false ∷ []
-lines_last [] none some = absurd (omega (arith, some))
-lines_last (x ∷ xs) none some = ap lines_between (parts_last 10 (x ∷ xs) none)
+-- a line is its words with a space between each two
+pub words_back : (bytes first : List ℕ) (more : List (List ℕ)) → words_on bytes ≡ first ∷ more →
+    bytes ≡ first ++ flat_map (λ (word : List ℕ). 32 ∷ word) more
+words_back bytes first more are =
+    sym (join_with_byte-slice_split 32 bytes) ∙ ap (join_with_byte 32) are ∙ joined first more
+  where
+    joined : (x : List ℕ) (xs : List (List ℕ)) →
+        join_with_byte 32 (x ∷ xs) ≡ x ++ flat_map (λ (word : List ℕ). 32 ∷ word) xs
+    joined x [] = sym (append-nil x)
+    joined x (y ∷ xs) = ap (λ (zs : List ℕ). x ++ 32 ∷ zs) (joined y xs)
 
 -- a line's bytes with its newline, if it has one
 abbrev pub line_bytes : TextLine → List ℕ
 line_bytes line = line.bytes ++ cond line.is_ended (10 ∷ []) []
 
--- parts with a newline between each two are their lines
-between_back : (parts : List (List ℕ)) → flat_map line_bytes (lines_between parts) ≡ join_with_byte 10 parts
-between_back [] = refl
-between_back ([] ∷ []) = refl
-between_back ((x ∷ xs) ∷ []) = append-nil ((x ∷ xs) ++ []) ∙ append-nil (x ∷ xs)
-between_back (part ∷ next ∷ parts) =
-    append_assoc part (10 ∷ []) (flat_map line_bytes (lines_between (next ∷ parts)))
-    ∙ ap (λ (xs : List ℕ). part ++ 10 ∷ xs) (between_back (next ∷ parts))
-
 -- a text is its lines
 pub lines_back : (text : List ℕ) → flat_map line_bytes (lines_in text) ≡ text
-lines_back text =
-    between_back (slice_split (λ byte. byte == 10) text) ∙ join_with_byte-slice_split 10 text
+lines_back text = between (slice_split (λ byte. byte == 10) text) ∙ join_with_byte-slice_split 10 text
+  where
+    -- parts with a newline between each two are their lines
+    between : (parts : List (List ℕ)) → flat_map line_bytes (lines_between parts) ≡ join_with_byte 10 parts
+    between [] = refl
+    between ([] ∷ []) = refl
+    between ((x ∷ xs) ∷ []) = simp append-nil
+    between (part ∷ next ∷ parts) =
+        append_assoc part (10 ∷ []) (flat_map line_bytes (lines_between (next ∷ parts)))
+        ∙ ap (λ (xs : List ℕ). part ++ 10 ∷ xs) (between (next ∷ parts))

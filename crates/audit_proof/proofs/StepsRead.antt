@@ -1,17 +1,16 @@
 -- A line's words, read one by one: what is reached stands in a table.
-use Rattle.audit_proof.proofs.Imports.{Bool, Contains, Contains-map_cases, Err, Follows, Graph, HasNo, IsListedTable}
-use Rattle.audit_proof.proofs.Imports.{IsOnLine, IsReading, Line, List, Ok, ProofStep, ProofWhy, [], all_at}
-use Rattle.audit_proof.proofs.Imports.{all_from_places, and_from, and_parts, ap, arith, cases_eq, drop, drop-drop}
-use Rattle.audit_proof.proofs.Imports.{drop_all, drop_more, false, get_or, get_or-set_other, get_or-set_same, inl}
-use Rattle.audit_proof.proofs.Imports.{inr, is_on_line, length, length-set, line_with, list_all-append, list_any}
-use Rattle.audit_proof.proofs.Imports.{listed_in, lt-ltb, ltb-true, nat_lt, ne_eqb, place_of, push_cases, refl}
-use Rattle.audit_proof.proofs.Imports.{slice_set, spaced, step_fits, step_of_word, step_tests, steps_read, subst, sym}
-use Rattle.audit_proof.proofs.Imports.{take, true, ℕ, ◌++◌, ◌+◌, ◌-◌, ◌<◌, ◌==◌, ◌||◌, ◌∙◌, ◌∷◌, ◌≡◌, ◌≤◌}
-use Rattle.audit_proof.proofs.Ancestries.{same_test}
-use Rattle.audit_proof.proofs.Parts.{words_taken}
-use Rattle.audit_proof.proofs.LongerLines.{listed_new, more_on, on_more}
-use Rattle.audit_proof.proofs.Tests.{found, is_on, on_line}
-use Rattle.audit_proof.proofs.ReadSaid.{fits_are}
+use Rattle.audit_proof.proofs.Imports.{All-contains, All-map, All-push, Bool, Contains, Decides-like, Decides-ltb, Err}
+use Rattle.audit_proof.proofs.Imports.{Graph, IsListedTable, IsReading, Line, List, Ok, ProofStep, ProofWhy, []}
+use Rattle.audit_proof.proofs.Imports.{and_right, ap, arith, cases_eq, cases_lt, drop, drop_all, false}
+use Rattle.audit_proof.proofs.Imports.{false_from_ne_true, first_from, get_or-set_other, get_or-set_same, inl, inr}
+use Rattle.audit_proof.proofs.Imports.{le-ltb, length, length-set, line_with, list_all-append, listed_in, lt-ltb}
+use Rattle.audit_proof.proofs.Imports.{ltb-true, nat_lt, ne_eqb, refl, same_from_decides, slice_set, spaced, step_fits}
+use Rattle.audit_proof.proofs.Imports.{step_of_word, step_tests, steps_read, sym, take, true, ℕ, ◌++◌, ◌+◌, ◌-◌, ◌<◌}
+use Rattle.audit_proof.proofs.Imports.{◌∙◌, ◌∷◌, ◌≡◌, ◌≤◌}
+use Rattle.audit_proof.proofs.Parts.{next_word}
+use Rattle.audit_proof.proofs.ReadSaid.{fits_is}
+use Rattle.audit_proof.proofs.Tests.{all_decides, in_decides, on_decides}
+use Rattle.audit_proof.proofs.LongerLines.{Fits, listed_new, more_on, on_more}
 
 module _ {graph : Graph} {entry : ℕ} {words : List ℕ} {steps : List ProofStep} {reached : List Bool} {bound at : ℕ}
     (reading : IsReading graph entry words steps reached bound at) where
@@ -27,119 +26,85 @@ module _ {graph : Graph} {entry : ℕ} {words : List ℕ} {steps : List ProofSte
           rw (reading.bounded step.ancestor (ltb-true step.ancestor graph.count low), reading.shows step.via) refl
       by false over = rw over refl
 
-  -- a step that fits is within the table
-  pub fits_below : (step : ProofStep) → step_tests graph reached bound step ≡ Ok tt → step.ancestor < length reached
-  fits_below step fits =
-      let (low, _, _, _) = fits_are graph (line_with entry steps) step (sym (tests_fit step) ∙ fits) in
-      omega (arith, low, reading.each)
+  -- a step that fits
+  fitting : (step : ProofStep) → step_tests graph reached bound step ≡ Ok tt → Fits graph (line_with entry steps) step
+  fitting step fits = (fits_is graph (line_with entry steps) step).0 (sym (tests_fit step) ∙ fits)
 
-  module _ (end : ℕ) {word : List ℕ} (starts : at < length words) (order : (at + 1 ≤ end) × (end ≤ length words))
-      (is : word ≡ take (end - (at + 1)) (drop (at + 1) words))
-      (whole : HasNo 32 (take (end - (at + 1)) (drop (at + 1) words)))
-      (next : Follows 32 (drop end words)) where
+  -- is within the table
+  pub fits_below : (step : ProofStep) → step_tests graph reached bound step ≡ Ok tt → step.ancestor < length reached
+  fits_below step fits = let low = (fitting step fits).0.0 in omega (arith, low, reading.each)
+
+  -- what is listed is below the entry
+  under : (x : ℕ) → Contains (listed_in steps) x → x < entry
+  under x c =
+      All-contains (λ n. n < entry) (listed_in steps) x
+      (All-map (λ n. n < entry) (λ (s : ProofStep). s.ancestor) steps reading.below) c
+
+  module _ {end : ℕ} {word : List ℕ} (starts : at < length words) (ends : end ≡ first_from 32 (at + 1) words)
+      (is : word ≡ take (end - (at + 1)) (drop (at + 1) words)) where
     -- this word is the next
-    next_word : steps_read graph (line_with entry []) (spaced words)
+    at_word : steps_read graph (line_with entry []) (spaced words)
         ≡ steps_read graph (line_with entry steps) (word ∷ spaced (drop end words))
-    next_word =
-        let sum : (at + 1) + (end - (at + 1)) ≡ end = omega (arith, order.0) in
-        let rest : drop (end - (at + 1)) (drop (at + 1) words) ≡ drop end words =
-        drop-drop (end - (at + 1)) (at + 1) words ∙ ap (λ (n : ℕ). drop n words) sum in
-        reading.goes_on
-        ∙ ap (steps_read graph (line_with entry steps)) (ap spaced (drop_more words at 0 starts)
-        ∙ words_taken (drop (at + 1) words) (end - (at + 1)) whole (subst (Follows 32) (sym rest) next)
-        ∙ ap (λ (w : List ℕ). w ∷ spaced (drop (end - (at + 1)) (drop (at + 1) words))) (sym is)
-        ∙ ap (λ (xs : List ℕ). word ∷ spaced xs) rest)
+    at_word = reading.goes_on ∙ rw (next_word words at starts, sym ends, sym is) refl
 
     -- it is no step
     pub word_refused : (why : ProofWhy) → step_of_word word ≡ Err why →
         steps_read graph (line_with entry []) (spaced words) ≡ Err why
-    word_refused why e = next_word ∙ rw e refl
+    word_refused why e = at_word ∙ rw e refl
 
     module _ (step : ProofStep) (said : step_of_word word ≡ Ok step) where
       -- it is a step that doesn't fit
       pub step_refused : (why : ProofWhy) → step_tests graph reached bound step ≡ Err why →
           steps_read graph (line_with entry []) (spaced words) ≡ Err why
-      step_refused why e = next_word ∙ rw (said, sym (tests_fit step) ∙ e) refl
+      step_refused why e = at_word ∙ rw (said, sym (tests_fit step) ∙ e) refl
 
       -- it is one that fits
-      pub reading_more : step_tests graph reached bound step ≡ Ok tt → step.ancestor < step.via →
+      pub reading_more : step_tests graph reached bound step ≡ Ok tt → step.ancestor < step.via → end ≤ length words →
           IsReading graph entry words (steps ++ step ∷ []) (slice_set reached step.ancestor true) step.ancestor end
-      reading_more fits lower =
-          let (low, falls, on, _) = fits_are graph (line_with entry steps) step (sym (tests_fit step) ∙ fits) in
-          let under = ltb-true step.ancestor bound (sym (reading.bounded step.ancestor low) ∙ falls) in
+      reading_more fits lower inside_end =
+          let (low, (falls, (on, _))) = fitting step fits in
+          let falls_all = (all_decides _ (λ (s : ProofStep). step.ancestor < s.ancestor) steps
+          (λ s. Decides-ltb step.ancestor s.ancestor)).1 falls in
+          let inside_bound = ltb-true step.ancestor bound (sym (reading.bounded step.ancestor low.0) ∙ falls_all) in
           record {
-            within = order.1;
-            follows = next;
-            goes_on = next_word ∙ rw (said, sym (tests_fit step) ∙ fits) refl;
+            within = inside_end;
+            goes_on = at_word ∙ rw (said, sym (tests_fit step) ∙ fits) refl;
             each = length-set reached step.ancestor true ∙ reading.each;
-            shows = λ x. same_test _ _ (shown low x) (shows low x);
+            shows = λ x. elim (cases_eq x step.ancestor) [
+              | inl same ↦
+                  rw same (get_or-set_same reached step.ancestor true false (omega (arith, low, reading.each))
+                  ∙ sym ((on_decides more step.ancestor).1 (inr (listed_new entry steps step))))
+              | inr other ↦
+                  get_or-set_other reached step.ancestor x true false other ∙ reading.shows x
+                  ∙ same_from_decides _ _ (on_decides (line_with entry steps) x) (Decides-like _
+                  (λ it. elim (on_more entry steps step x it) [ inl old ↦ old | inr new ↦ absurd (other (sym new)) ])
+                  (more_on entry steps step x) (on_decides more x))
+            ];
             bounded = λ x inside.
-                list_all-append (λ earlier. nat_lt x earlier.ancestor) steps (step ∷ [])
-                ∙ same_test _ _ (λ e. (and_parts (nat_lt x step.ancestor) true (and_parts _ _ e).1).0)
-                (λ e. and_from _ _
-                (reading.bounded x inside ∙ lt-ltb x bound (omega (arith, ltb-true x step.ancestor e, under)))
-                (and_from (nat_lt x step.ancestor) true e refl));
-            below = all_from_places (λ (s : ProofStep). s.ancestor < entry) (steps ++ step ∷ []) (λ k s there.
-                elim (push_cases steps step k s there) [
-                  | inl old ↦ all_at (λ (t : ProofStep). t.ancestor < entry) steps k s reading.below old
-                  | inr new ↦ subst (λ (t : ProofStep). t.ancestor < entry) new (under_entry on)
+                rw (list_all-append (λ earlier. nat_lt x earlier.ancestor) steps (step ∷ []), reading.bounded x inside)
+                (elim (cases_lt x step.ancestor) [
+                  | inl less ↦ rw (lt-ltb x step.ancestor less, lt-ltb x bound (omega (arith, less, inside_bound))) refl
+                  | inr over ↦ rw (le-ltb x step.ancestor over) (and_right (nat_lt x bound) false refl)
                 ]);
+            below = All-push (λ (s : ProofStep). s.ancestor < entry) steps step reading.below (elim on [
+              | inl same ↦ omega (arith, lower, same)
+              | inr c ↦ omega (arith, lower, under step.via c)
+            ]);
           }
         where
           more : Line
           more = line_with entry (steps ++ step ∷ [])
 
-          shown : step.ancestor < graph.count → (x : ℕ) →
-              get_or (slice_set reached step.ancestor true) x false ≡ true → is_on_line more x ≡ true
-          shown low x e = elim (cases_eq x step.ancestor) [
-            | inl same ↦ is_on more x (subst (IsOnLine more) (sym same) (inr (listed_new entry steps step)))
-            | inr other ↦ is_on more x (more_on entry steps step x (on_line (line_with entry steps) x
-                (sym (reading.shows x) ∙ sym (get_or-set_other reached step.ancestor x true false other) ∙ e)))
-          ]
-
-          shows : step.ancestor < graph.count → (x : ℕ) → is_on_line more x ≡ true →
-              get_or (slice_set reached step.ancestor true) x false ≡ true
-          shows low x e = elim (cases_eq x step.ancestor) [
-            | inl same ↦
-                ap (λ (z : ℕ). get_or (slice_set reached step.ancestor true) z false) same
-                ∙ get_or-set_same reached step.ancestor true false
-                (subst (λ (n : ℕ). step.ancestor < n) (sym reading.each) low)
-            | inr other ↦ elim (on_more entry steps step x (on_line more x e)) [
-              | inl old ↦
-                  get_or-set_other reached step.ancestor x true false other
-                  ∙ reading.shows x ∙ is_on (line_with entry steps) x old
-              | inr new ↦ absurd (other (sym new))
-            ]
-          ]
-
-          -- what is on the line is at most its entry
-          under_entry : IsOnLine (line_with entry steps) step.via → step.ancestor < entry
-          under_entry (inl same) = omega (arith, lower, same)
-          under_entry (inr c) =
-              let (earlier, among, same) = Contains-map_cases (λ (t : ProofStep). t.ancestor) steps step.via c in
-              let (j, at_j) = place_of steps earlier among in
-              let less = all_at (λ (t : ProofStep). t.ancestor < entry) steps j earlier reading.below at_j in
-              omega (arith, lower, same, less)
-
   -- without the entry the table shows what is listed
   pub listed_table : entry < graph.count → IsListedTable steps (slice_set reached entry false)
   listed_table inside x = elim (cases_eq x entry) [
     | inl same ↦
-        ap (λ (z : ℕ). get_or (slice_set reached entry false) z false) same
-        ∙ get_or-set_same reached entry false false (subst (λ (n : ℕ). entry < n) (sym reading.each) inside)
-        ∙ same_test false (list_any (λ z. z == x) (listed_in steps)) (λ e. cc)
-        (λ e. absurd (apart same (found (listed_in steps) x e)))
+        rw same (get_or-set_same reached entry false false (omega (arith, inside, reading.each))
+        ∙ sym (false_from_ne_true _ (λ e. let low = under entry ((in_decides (listed_in steps) entry).0 e) in
+        omega (arith, low))))
     | inr other ↦
-        get_or-set_other reached entry x false false other ∙ reading.shows x
-        ∙ ap (λ (b : Bool). b || list_any (λ z. z == x) (listed_in steps)) (ne_eqb x entry other)
+        get_or-set_other reached entry x false false other ∙ reading.shows x ∙ rw (ne_eqb x entry other) refl
   ]
-    where
-      apart : x ≡ entry → Contains (listed_in steps) x → ⊥
-      apart same c =
-          let (step, among, is) = Contains-map_cases (λ (t : ProofStep). t.ancestor) steps x c in
-          let (k, at_k) = place_of steps step among in
-          let less = all_at (λ (t : ProofStep). t.ancestor < entry) steps k step reading.below at_k in
-          omega (arith, less, is, same)
 
   -- after the last word all are read
   pub words_end : length words ≤ at →

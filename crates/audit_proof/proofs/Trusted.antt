@@ -1,50 +1,49 @@
 -- By a proof a rule has the value that it has by the graph, or none.
 use Rattle.std.proofs.Common.{Bool, false}
-use Rattle.audit_proof.proofs.Imports.{◌≡◌, ℕ, ◌<◌, true, cond, List, [], ◌∷◌, length, refl, sym, subst, ap, ◌∙◌, inl}
-use Rattle.audit_proof.proofs.Imports.{inr, Option, Some, None, ◌==◌, Contains, eqb-true, eq-eqb, false≢true}
-use Rattle.audit_proof.proofs.Imports.{length-map, Three, False, Unknown, True, Descends, is_whole, before, Node}
-use Rattle.audit_proof.proofs.Imports.{Contains-none, Contains-head, Contains-later, Contains-cons_cases, place_of}
-use Rattle.audit_proof.proofs.Imports.{all_at, Graph, Row, unbound, first_value, three_in, IsLess, IsLessKnown}
-use Rattle.audit_proof.proofs.Imports.{less_is_known, rules_are_settled, same_values, Line, IsLineOf, IsProofOf}
-use Rattle.audit_proof.proofs.Imports.{HasEachLine, own_line, lists, is_whole_line, before_on, before_by, whole_by}
-use Rattle.audit_proof.proofs.Imports.{three_by, ProofsSayNoMore, FullProofsSayAll, ProofsAreRight}
+use Rattle.audit_proof.proofs.Imports.{All-contains, Contains, Descends, False, FullProofsSayAll, Graph, HasEachLine}
+use Rattle.audit_proof.proofs.Imports.{IsLess, IsLineOf, IsProofOf, Line, List, Node, None, Option, ProofsAreRight}
+use Rattle.audit_proof.proofs.Imports.{ProofsSayNoMore, Row, Some, Three, True, Unknown, ap, arith, before, before_by}
+use Rattle.audit_proof.proofs.Imports.{before_on, cases_lt, cond, eq-eqb, eqb-true, fails_before_first, false≢true}
+use Rattle.audit_proof.proofs.Imports.{find_at, first_value, get_or, get_or_from_slice_get, inl, inr, is_whole}
+use Rattle.audit_proof.proofs.Imports.{is_whole_line, length, length-map, less_is_known, lists, member_at, own_line}
+use Rattle.audit_proof.proofs.Imports.{passes_at_first, place_of, position_or_len, refl, rules_are_settled, same_values}
+use Rattle.audit_proof.proofs.Imports.{slice_get, slice_get-get_or, slice_get_within, subst, sym, true, unbound}
+use Rattle.audit_proof.proofs.Imports.{whole_by, ℕ, ◌<◌, ◌==◌, ◌∙◌, ◌≡◌, ◌⊎◌}
 use Rattle.std.specs.Prelude.{map}
 use Rattle.audit_proof.proofs.Ancestries.{order_same, whole_same}
 
 -- the line that is found for x is a line, and x's
 pub line_found : (lines : List Line) (x : ℕ) (line : Line) → own_line lines x ≡ Some line →
     Contains lines line × (line.entry ≡ x)
-line_found [] x line is = cc
-line_found (l ∷ lines) x line is = by (l.entry == x) refl is (line_found lines x line)
-  where
-    -- by cases: whether the first line is x's
-    by : (b : Bool) → (l.entry == x) ≡ b → cond b (Some l) (own_line lines x) ≡ Some line →
-        (own_line lines x ≡ Some line → Contains lines line × (line.entry ≡ x)) →
-        Contains (l ∷ lines) line × (line.entry ≡ x)
-    by true at found later =
-        let here : l ≡ line = cc in (
-          subst (Contains (l ∷ lines)) here (Contains-head l lines),
-          sym (ap (λ (k : Line). k.entry) here)
-              ∙ eqb-true l.entry x at,
-        )
-    by false at found later = let rest = later found in (Contains-later l lines line rest.0, rest.1)
+line_found lines x line is =
+    let n = position_or_len (λ (l : Line). l.entry == x) lines in
+    let at : slice_get lines n ≡ Some line = sym (find_at (λ (l : Line). l.entry == x) lines) ∙ is in
+    let passes = passes_at_first (λ (l : Line). l.entry == x) lines line (slice_get_within lines n line at) in (
+      member_at lines n line at,
+      eqb-true line.entry x (subst (λ (l : Line). (l.entry == x) ≡ true) (get_or_from_slice_get lines n line line at)
+          passes),
+    )
 
 -- where some line is x's, one is found
 pub line_there : (lines : List Line) (x : ℕ) (line : Line) → Contains lines line → line.entry ≡ x →
     (found : Line) × (own_line lines x ≡ Some found)
-line_there [] x line c same = absurd (Contains-none line c)
-line_there (l ∷ lines) x line c same = by (l.entry == x) refl (λ later. line_there lines x line later same)
-  where
-    -- by cases: whether the first line is x's
-    by : (b : Bool) → (l.entry == x) ≡ b →
-        (Contains lines line → (found : Line) × (own_line lines x ≡ Some found)) →
-        (found : Line) × (cond b (Some l) (own_line lines x) ≡ Some found)
-    by true at others = (l, refl)
-    by false at others =
-        elim (Contains-cons_cases l lines line c) [
-          | inl here ↦ absurd (false≢true (sym at ∙ eq-eqb l.entry x (ap (λ (k : Line). k.entry) here ∙ same)))
-          | inr later ↦ others later
-        ]
+line_there lines x line c same =
+    let n = position_or_len (λ (l : Line). l.entry == x) lines in
+    elim (cases_lt n (length lines)) [
+      | inl low ↦
+          (get_or lines n line, find_at (λ (l : Line). l.entry == x) lines ∙ slice_get-get_or lines n line low)
+      | inr over ↦
+          let (k, at) = place_of lines line c in
+          let low : k < n = omega (arith, over, slice_get_within lines k line at) in
+          let fails = fails_before_first (λ (l : Line). l.entry == x) lines k line low in
+          let other = ap (λ (l : Line). l.entry == x) (get_or_from_slice_get lines k line line at) in
+          absurd (false≢true (sym fails ∙ other ∙ eq-eqb line.entry x same))
+    ]
+
+-- there is a line, or none
+pub line_or_none : (o : Option Line) → (o ≡ None) ⊎ ((line : Line) × (o ≡ Some line))
+line_or_none None = inl refl
+line_or_none (Some line) = inr (line, refl)
 
 -- what is settled isn't unknown
 settled_known : (l w : Bool) → w ≡ true → cond l True (cond w False Unknown) ≡ Unknown → ⊥
@@ -62,9 +61,7 @@ module _ (graph : Graph) (lines : List Line) (descends : Descends graph.parents)
 
   -- where a line is found, it is one of the graph
   is_line : (x : ℕ) (line : Line) → own_line lines x ≡ Some line → IsLineOf graph line
-  is_line x line found =
-      let (k, at) = place_of lines line (line_found lines x line found).0 in all_at
-      (IsLineOf graph) lines k line is.each at
+  is_line x line found = All-contains (IsLineOf graph) lines line is.each (line_found lines x line found).0
 
   -- it says of the order before x what the graph says, and of x whether it is whole
   order_found : (y x : ℕ) (line : Line) → own_line lines x ≡ Some line → before_by graph.ragged lines y x ≡ order y x
@@ -82,64 +79,38 @@ module _ (graph : Graph) (lines : List Line) (descends : Descends graph.parents)
   -- what the proof says is less than what the graph says
   pub less_by : IsLess graph.count (before_by graph.ragged lines) (whole_by graph.ragged lines) order wholes
   less_by = record {
-    orders = λ y x l. order_less y x (own_line lines x) refl;
-    whole = λ x l w. whole_less x w (own_line lines x) refl;
+    orders = λ y x l. elim (line_or_none (own_line lines x)) [
+      | inl none ↦ inl (ap (λ (o : Option Line). before_on o (is_whole_line graph.ragged o) y) none)
+      | inr some ↦ inr (order_found y x some.0 some.1)
+    ];
+    whole = λ x l w. elim (line_or_none (own_line lines x)) [
+      | inl none ↦ absurd (false≢true (sym (ap (is_whole_line graph.ragged) none) ∙ w))
+      | inr some ↦ sym (whole_found x some.0 some.1) ∙ w
+    ];
     settled = λ y x l w. settled_known (lists (own_line lines x) y) (whole_by graph.ragged lines x) w;
   }
-    where
-      order_less : (y x : ℕ) (o : Option Line) → own_line lines x ≡ o →
-          IsLessKnown (before_by graph.ragged lines y x) (order y x)
-      order_less y x None found =
-          inl (ap (λ (o : Option Line). before_on o (is_whole_line graph.ragged o) y) found)
-      order_less y x (Some line) found = inr (order_found y x line found)
 
-      whole_less : (x : ℕ) → whole_by graph.ragged lines x ≡ true → (o : Option Line) → own_line lines x ≡ o →
-          wholes x ≡ true
-      whole_less x w None found = absurd (false≢true (sym (ap (is_whole_line graph.ragged) found) ∙ w))
-      whole_less x w (Some line) found = sym (whole_found x line found) ∙ w
-
-  -- and where each survivor has a line it says all
-  module _ (full : HasEachLine graph lines) where
-    pub order_full : (y x : ℕ) → x < graph.count → before_by graph.ragged lines y x ≡ order y x
-    order_full y x l =
-        let (line, c, same) = full x l in
-        let (found, at) = line_there lines x line c same in
-        order_found y x found at
-
-    pub whole_full : (x : ℕ) → x < graph.count → whole_by graph.ragged lines x ≡ wholes x
-    whole_full x l =
-        let (line, c, same) = full x l in
-        let (found, at) = line_there lines x line c same in
-        whole_found x found at
+  -- where each survivor has a line, one is found
+  full_found : HasEachLine graph lines → (x : ℕ) → x < graph.count → (line : Line) × (own_line lines x ≡ Some line)
+  full_found full x l = let (line, c, same) = full x l in line_there lines x line c same
 
 -- the law of all proofs
 pub proofs_say_no_more : ProofsSayNoMore
 proofs_say_no_more rows graph lines as_many descends is rule =
     less_is_known rows (before_by graph.ragged lines) (whole_by graph.ragged lines)
     (before graph.parents graph.ragged) (λ x. is_whole graph.parents graph.ragged x x)
-    (subst (λ (n : ℕ). IsLess n (before_by graph.ragged lines) (whole_by graph.ragged lines)
-    (before graph.parents graph.ragged) (λ x. is_whole graph.parents graph.ragged x x)) (sym as_many)
-    (less_by graph lines descends is)) rule
+    (rw as_many (less_by graph lines descends is)) rule
 
 -- the law of full proofs
 pub full_proofs_say_all : FullProofsSayAll
 full_proofs_say_all rows graph lines as_many descends is full rule =
     ap first_value (same_values rows (before_by graph.ragged lines) (before graph.parents graph.ragged)
     (whole_by graph.ragged lines) (λ x. is_whole graph.parents graph.ragged x x)
-    (λ y x l. order_full graph lines descends is full y x (subst (λ (n : ℕ). x < n) as_many l))
-    (λ x l. whole_full graph lines descends is full x (subst (λ (n : ℕ). x < n) as_many l))
+    (λ y x l. let (line, at) = full_found graph lines descends is full x (omega (arith, as_many, l)) in
+    order_found graph lines descends is y x line at)
+    (λ x l. let (line, at) = full_found graph lines descends is full x (omega (arith, as_many, l)) in
+    whole_found graph lines descends is x line at)
     rule unbound (λ v. tt))
-
--- what is known of less is known of more
-known_of_more : (x y v : Three) → IsLessKnown x y → (v ≡ Unknown → ⊥) → x ≡ v → y ≡ v
-known_of_more x y v (inl u) known is = absurd (known (sym is ∙ u))
-known_of_more x y v (inr e) known is = sym e ∙ is
-
-true≢unknown : True ≡ Unknown → ⊥
-true≢unknown e = cc
-
-false≢unknown : False ≡ Unknown → ⊥
-false≢unknown e = cc
 
 -- by any proof a rule's value, if known, is right of every completion
 pub proofs_are_right : {T : Type 0} (node : T → Node) (row : T → Row) → ProofsAreRight node row
@@ -147,10 +118,6 @@ proofs_are_right node row machines S G parents ragged lines single graph complet
     let nodes : Graph = record { count = length S; parents = parents; ragged = ragged } in
     let less = proofs_say_no_more (map row S) nodes lines (length-map S row) graph.descends is rule in
     let settled = rules_are_settled node row machines S G parents ragged single graph completion rule in (
-      λ t. settled.0
-          (known_of_more (three_by (map row S) ragged lines rule) (three_in
-          (map row S) parents ragged rule) True less true≢unknown t),
-      λ f. settled.1
-          (known_of_more (three_by (map row S) ragged lines rule) (three_in
-          (map row S) parents ragged rule) False less false≢unknown f),
+      λ t. settled.0 (elim less [ inl u ↦ cc | inr e ↦ cc ]),
+      λ f. settled.1 (elim less [ inl u ↦ cc | inr e ↦ cc ]),
     )

@@ -1,11 +1,10 @@
 //! Reading the lines of a proof's text.
-ghost use Rattle.std.specs.Prelude.{◌≡◌, ◌<◌, ◌≤◌, nat_le, length, drop, codes, All};
+ghost use Rattle.std.specs.Prelude.{◌≡◌, ◌<◌, ◌≤◌, nat_le, length, drop, All};
 ghost use Rattle.std.specs.List.{list_all};
 ghost use Rattle.audit_proof.specs.Lines.{IsBegun, listed_in};
 ghost use Rattle.audit_proof.specs.Reading.{end_read, lacks_no_parent, line_of_entry, past_read};
 ghost use Rattle.audit_proof.specs.inside.Begun.{
   IsListedTable,
-  IsNumbered,
   Told,
   line_with,
   spaced,
@@ -49,6 +48,7 @@ fn are_closed<A: Arrows>(graph: &A, steps: &[ProofStep], listed: &[bool]) -> boo
 }
 
 /// Whether no parent is missing on the line of an entry with these steps.
+#[tactic(auto, using(crate::proofs::LinesRead::closed_by))]
 fn lacks_no_parent<A: Arrows>(graph: &A, entry: usize, steps: &[ProofStep], listed: &[bool]) -> bool
     requires entry { entry < (A.graph graph.now).count }
     requires each { length listed.now ≡ (A.graph graph.now).count }
@@ -62,8 +62,8 @@ fn lacks_no_parent<A: Arrows>(graph: &A, entry: usize, steps: &[ProofStep], list
     are_closed(graph, steps, listed)
 }
 
-#[tactic(auto, unfolding(crate::specs::Reading::end_read))]
 /// The line of the entry with these steps, if it is ended and no parent is missing.
+#[tactic(auto, unfolding(crate::specs::Reading::end_read))]
 fn finish<A: Arrows>(
     alloc: Global,
     graph: &A,
@@ -89,6 +89,7 @@ fn finish<A: Arrows>(
 }
 
 /// The line that begins with this entry.
+#[tactic(auto, unfolding(crate::specs::Reading::line_of_entry))]
 fn read_entry_line<A: Arrows>(
     alloc: Global,
     graph: &A,
@@ -98,7 +99,7 @@ fn read_entry_line<A: Arrows>(
     least: usize,
 ) -> Result<PackedLine, Unread>
     requires few { (A.graph graph.now).count ≤ 16384 }
-    requires entry { IsNumbered (codes "past") line.now entry }
+    requires entry { entry.end ≤ length line.now }
     ensures { Told (line_of_entry (A.graph graph.now) (nat_le least) is_ended
         (entry.number, spaced (drop entry.end line.now))) result }
 {
@@ -116,6 +117,7 @@ fn read_entry_line<A: Arrows>(
 }
 
 /// The line that the bytes are, whose entry is at least this.
+#[tactic(auto, unfolding(crate::specs::Reading::past_read))]
 pub(crate) fn read_line<A: Arrows>(
     alloc: Global,
     graph: &A,

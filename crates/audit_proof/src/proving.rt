@@ -3,9 +3,7 @@ ghost use Rattle.std.specs.Prelude.{◌≡◌, ◌++◌, ◌<◌, ◌≤◌, len
 ghost use Rattle.std.specs.List.{flat_map};
 ghost use Rattle.std.specs.Fmt.{decimal};
 ghost use Rattle.entry_order.specs.Ancestors.{Descends};
-ghost use Rattle.audit_proof.specs.inside.Walks.{IsNoted, noted_one, via_at};
-ghost use Rattle.audit_proof.specs.Lines.{IsLineOf};
-ghost use Rattle.audit_proof.specs.Canonical.{IsGreatest};
+ghost use Rattle.audit_proof.specs.inside.Walks.{made_line, noted_all, noted_one, via_at};
 ghost use Rattle.audit_proof.specs.Proves.{IsProveAnswer};
 ghost use Rattle.audit_proof.specs.ProofText.{head_text, line_text, step_text};
 
@@ -88,8 +86,7 @@ fn push_head(text: &mut Vec<u8>, count: u32) -> Result<(), AllocError>
 fn line_at<A: Arrows>(alloc: Global, graph: &A, entry: usize) -> Result<ProofLine, AllocError>
     requires few { (A.graph graph.now).count ≤ 16384 }
     requires entry { entry < (A.graph graph.now).count }
-    ensures { IfOk result (λ line. (line.entry ≡ entry) × IsLineOf (A.graph graph.now) line
-        × IsGreatest (A.graph graph.now) line) }
+    ensures { IfOk result (λ line. line ≡ made_line (A.graph graph.now) entry) }
 {
     let mut vias: Vec<Option<u32>> = vec![in alloc; None; entry]?;
     note(&mut vias, graph.parents(entry), entry as u32);
@@ -124,7 +121,7 @@ fn via_of(vias: &[Option<u32>], place: usize) -> Option<u32>
 /// Notes of each of these that it is reached via this entry, where it wasn't reached before.
 fn note(vias: &mut Vec<Option<u32>>, parents: &[u32], via: u32)
     requires { All (λ parent. parent < length vias.old.items) parents.now }
-    ensures { IsNoted vias.old.items vias.new.items parents.now via }
+    ensures { vias.new.items ≡ noted_all vias.old.items parents.now via }
 {
     for parent in parents {
         note_one(vias, *parent as usize, via);

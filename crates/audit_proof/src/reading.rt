@@ -12,13 +12,12 @@ ghost use Rattle.std.specs.Prelude.{
   ok_or,
   IfSome,
   Ok,
-  Err,
 };
-ghost use Rattle.std.specs.List.{list_any};
+ghost use Rattle.std.specs.List.{list_any, position_or_len};
 ghost use Rattle.std.specs.Str.{bytes_eq};
 ghost use Rattle.audit_proof.specs.Reading.{number_after, step_of_word, words_on};
-ghost use Rattle.audit_proof.specs.inside.Bytes.{Follows, HasNo};
-ghost use Rattle.audit_proof.specs.inside.Begun.{IsNumbered, IsWordsAnswer, step_tests};
+ghost use Rattle.audit_proof.specs.inside.Bytes.{first_from};
+ghost use Rattle.audit_proof.specs.inside.Begun.{IsWordsAnswer, numbered, step_tests};
 
 use crate::step::ProofStep;
 use hall_text::decimal;
@@ -29,8 +28,7 @@ use std::alloc::{AllocError, AllocFailed, Global};
 /// Where the byte is first, or the length where it isn't.
 pub(crate) fn find_byte(bytes: &[u8], byte: u8) -> usize
     ensures within { result ≤ length bytes.now }
-    ensures before { HasNo byte (take result bytes.now) }
-    ensures at { Follows byte (drop result bytes.now) }
+    ensures is { result ≡ position_or_len (λ other. other == byte) bytes.now }
 {
     for i in 0..bytes.len() {
         if bytes[i] == byte {
@@ -57,6 +55,7 @@ fn after(word: &[u8], place: usize) -> &[u8]
 }
 
 /// The step that a word is.
+#[tactic(auto, using(crate::proofs::LinesRead::no_colon), unfolding(crate::specs::Reading::step_of_word))]
 pub(crate) fn read_step(word: &[u8]) -> Option<ProofStep>
     ensures { ok_or result ProofWhy.Form ≡ step_of_word word.now }
 {
@@ -73,8 +72,8 @@ pub(crate) fn read_step(word: &[u8]) -> Option<ProofStep>
     }
 }
 
-#[tactic(auto, unfolding(crate::specs::inside::Begun::step_tests))]
 /// Tries a step on a line of which this is reached, and whose last ancestor is the bound.
+#[tactic(auto, unfolding(crate::specs::inside::Begun::step_tests))]
 fn try_step<A: Arrows>(
     graph: &A,
     reached: &[bool],
@@ -113,8 +112,7 @@ fn has(numbers: &[u32], number: u32) -> bool
 pub(crate) fn word_end(words: &[u8], start: usize) -> usize
     requires { start ≤ length words.now }
     ensures within { (start ≤ result) × (result ≤ length words.now) }
-    ensures whole { HasNo 32 (take (result - start) (drop start words.now)) }
-    ensures next { Follows 32 (drop result words.now) }
+    ensures is { result ≡ first_from 32 start words.now }
 {
     start + find_byte(rest_from(words, start), b' ')
 }
@@ -150,9 +148,10 @@ pub(crate) struct Numbered {
 }
 
 /// The number after the first word of a line, which is to be this.
+#[tactic(auto, using(crate::proofs::LinesRead::one_word, crate::proofs::LinesRead::two_words))]
 pub(crate) fn read_number_after(line: &[u8], first: &[u8]) -> Option<Numbered>
-    ensures some { IfSome result (IsNumbered first.now line.now) }
-    ensures none { result ≡ None → number_after first.now (words_on line.now) ≡ Err ProofWhy.Form }
+    ensures within { IfSome result (λ found. found.end ≤ length line.now) }
+    ensures is { number_after first.now (words_on line.now) ≡ numbered line.now result }
 {
     let space = find_byte(line, b' ');
     if space == line.len() {
@@ -213,7 +212,6 @@ pub(crate) fn read_words<A: Arrows>(
 ) -> Result<LineSteps, Unread>
     requires few { (A.graph graph.now).count ≤ 16384 }
     requires entry { entry < (A.graph graph.now).count }
-    requires starts { Follows 32 words.now }
     ensures { IsWordsAnswer (A.graph graph.now) entry words.now result }
 {
     let mut steps = Vec::new(alloc);

@@ -1,10 +1,10 @@
 //! Reading the text of a proof.
-ghost use Rattle.std.specs.Prelude.{◌≡◌, ◌≢◌, ◌-◌, ◌≤◌, [], length, take, drop, Err};
+ghost use Rattle.std.specs.Prelude.{◌≡◌, ◌≢◌, ◌≤◌, [], length, drop, Err};
 ghost use Rattle.audit_proof.specs.Reading.{count_read, form_read, lines_in, lines_read, proof_of};
 ghost use Rattle.audit_proof.specs.Reads.{IsReadAnswer};
 ghost use Rattle.audit_proof.specs.inside.Begun.{text_line};
-ghost use Rattle.audit_proof.specs.inside.Bytes.{Follows, HasNo};
-ghost use Rattle.audit_proof.specs.inside.Lists.{IsLineAt, fault_of};
+ghost use Rattle.audit_proof.specs.inside.Bytes.{first_from};
+ghost use Rattle.audit_proof.specs.inside.Lists.{fault_of, line_from};
 
 use crate::fault::ProofFault;
 use crate::lines::read_line;
@@ -19,8 +19,7 @@ use std::alloc::Global;
 fn line_end(bytes: &[u8], start: usize) -> usize
     requires { start ≤ length bytes.now }
     ensures within { (start ≤ result) × (result ≤ length bytes.now) }
-    ensures whole { HasNo 10 (take (result - start) (drop start bytes.now)) }
-    ensures next { Follows 10 (drop result bytes.now) }
+    ensures is { result ≡ first_from 10 start bytes.now }
 {
     start + find_byte(rest_from(bytes, start), b'\n')
 }
@@ -36,7 +35,9 @@ struct LineAt {
 /// The line that begins at a place.
 fn line_at(bytes: &[u8], start: usize) -> LineAt
     requires { start ≤ length bytes.now }
-    ensures { IsLineAt bytes.now start result }
+    ensures within { (start ≤ result.end) × (result.end ≤ result.next)
+        × (result.next ≤ length bytes.now) }
+    ensures is { result ≡ line_from bytes.now start }
 {
     let end = line_end(bytes, start);
     let is_ended = end < bytes.len();
@@ -60,6 +61,7 @@ fn try_form(line: &[u8], is_ended: bool) -> Result<(), ProofWhy>
 }
 
 /// Tries the second line.
+#[tactic(auto, using(crate::proofs::LinesRead::words_follow), unfolding(crate::specs::Reading::count_read))]
 fn try_count(line: &[u8], is_ended: bool, count: usize) -> Result<(), ProofWhy>
     ensures { result ≡ count_read count (text_line line.now is_ended) }
 {

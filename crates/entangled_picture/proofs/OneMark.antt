@@ -126,7 +126,7 @@ shapes_found report placed survivors =
     let gap_marks : Stand (gaps_of graph gaps placed (machines + 2)) (map gap gaps) =
     ones gaps (λ i x is. rw (get_or_from_slice_get gaps i x [] is) (gap_found graph placed (machines + 2) i x)) in
     let logs = each (range_with_len 0 (length report.logs)) (λ place.
-      log_found report.logs machines column place (slice_get report.logs place)) in
+    log_found report.logs machines column place (slice_get report.logs place)) in
     let below = both (both lights arrows) bars in
     let beside = both (both forks gap_marks) (strays_found strays (machines + 1)) in
     both (both lanes logs) (both (both below beside) survivors)

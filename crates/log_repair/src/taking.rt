@@ -8,8 +8,8 @@ use entry_order::Step;
 use polling_world::{Memory, Stepped, World};
 use std::alloc::Global;
 
-/// Takes the step, which isn't a stop, and adds it to the list if it changes something. The room for it is taken first,
-/// so that each step that is taken is added.
+/// Takes the step, which isn't a stop, and adds it to the list if it changes something. The room for
+/// it is taken first, so that each step that is taken is added.
 pub fn take(
     alloc: Global,
     world: &mut World,

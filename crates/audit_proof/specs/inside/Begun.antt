@@ -1,18 +1,17 @@
 -- A line that is being read.
 use Rattle.std.specs.Prelude.{◌≡◌, ℕ, ◌<◌, ◌≤◌, ◌&&◌, ◌==◌, nat_lt, Bool, false, List, [], ◌∷◌, length, drop, All}
-use Rattle.std.specs.Prelude.{Result, Ok, Err, slice_index_or}
+use Rattle.std.specs.Prelude.{Result, Ok, Err, Option, Some, None, slice_index_or}
 use Rattle.std.specs.List.{list_all, list_any}
 use Rattle.precedence.specs.Graph.{Graph}
 use Rattle.audit_proof.specs.declared.step.ProofStep.{ProofStep}
-use Rattle.input_causes.specs.declared.proof.ProofWhy.TheVariants.{OutOfRange, NotFalling}
+use Rattle.input_causes.specs.declared.proof.ProofWhy.TheVariants.{Form, OutOfRange, NotFalling}
 use Rattle.input_causes.specs.declared.proof.ProofWhy.TheVariants.{NotReached, NotParent}
 use Rattle.audit_proof.specs.declared.reading.Unread.{Unread}
 use Rattle.audit_proof.specs.declared.reading.Unread.TheVariants.{Why, Memory}
 use Rattle.audit_proof.specs.declared.reading.LineSteps.{LineSteps}
 use Rattle.audit_proof.specs.declared.reading.Numbered.{Numbered}
 use Rattle.audit_proof.specs.Lines.{Line, listed_in}
-use Rattle.audit_proof.specs.Reading.{TextLine, ProofRead, ◌>>=◌, need, words_on, number_after, is_on_line, steps_read}
-use Rattle.audit_proof.specs.inside.Bytes.{Follows}
+use Rattle.audit_proof.specs.Reading.{TextLine, ProofRead, ◌>>=◌, need, words_on, is_on_line, steps_read}
 
 -- the line of an entry with these steps
 abbrev pub line_with : ℕ → List ProofStep → Line
@@ -27,11 +26,10 @@ abbrev pub spaced : List ℕ → List (List ℕ)
 spaced [] = []
 spaced (space ∷ bytes) = words_on bytes
 
--- the line begins with this word and this number, up to its end, and other words follow
-pub record IsNumbered (first line : List ℕ) (found : Numbered) : Type 0 where
-  pub within : found.end ≤ length line
-  pub next : Follows 32 (drop found.end line)
-  pub is : number_after first (words_on line) ≡ Ok (found.number, spaced (drop found.end line))
+-- the number that was found on a line, and the words after its end
+abbrev pub numbered : List ℕ → Option Numbered → ProofRead (ℕ × List (List ℕ))
+numbered line None = Err Form
+numbered line (Some found) = Ok (found.number, spaced (drop found.end line))
 
 -- whether a step goes on a line, by a table of what is reached there and a bound below which
 -- ancestors fall
@@ -52,7 +50,6 @@ IsListedTable steps listed =
 pub record IsReading (graph : Graph) (entry : ℕ) (words : List ℕ) (steps : List ProofStep)
     (reached : List Bool) (bound at : ℕ) : Type 0 where
   pub within : at ≤ length words
-  pub follows : Follows 32 (drop at words)
   pub goes_on : steps_read graph (line_with entry []) (spaced words)
       ≡ steps_read graph (line_with entry steps) (spaced (drop at words))
   pub each : length reached ≡ graph.count

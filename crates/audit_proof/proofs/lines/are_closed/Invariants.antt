@@ -1,4 +1,4 @@
-use Rattle.audit_proof.proofs.Imports.{◌≡◌, drop, list_all, listed_in, closed_at}
+use Rattle.audit_proof.proofs.Imports.{closed_at, drop, list_all, listed_in, ◌≡◌}
 use Rattle.audit_proof.proofs.lines.are_closed.Given as goal
 
 abbrev pub invariant-loop-step : goal.invariant-loop-step

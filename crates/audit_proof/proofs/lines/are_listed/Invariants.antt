@@ -1,4 +1,4 @@
-use Rattle.audit_proof.proofs.Imports.{◌≡◌, drop, closed_at}
+use Rattle.audit_proof.proofs.Imports.{closed_at, drop, ◌≡◌}
 use Rattle.audit_proof.proofs.lines.are_listed.Given as goal
 
 abbrev pub invariant-loop-number : goal.invariant-loop-number

@@ -1,16 +1,7 @@
 use Rattle.audit_proof.proofs.lines.read_entry_line.Goals as goal
-use Rattle.audit_proof.proofs.Imports.{Err, Line, List, Ok, ProofRead, Told, [], ap, arith, line_of_entry}
-use Rattle.audit_proof.proofs.Imports.{false_from_ne_true, le-leb, leb-true, line_with, nat_le, spaced}
-use Rattle.audit_proof.proofs.Imports.{steps_read, subst, sym, ℕ, ◌∙◌}
-use Rattle.audit_proof.proofs.LinesRead.{entry_by, not_rising, out_of_range, read_begun, words_refused}
-
-pub returns-then-number-count : goal.returns-then-number-count
-returns-then-number-count g c = out_of_range _ _ _ _ _ (omega (arith, c.if-number-count.true, c.count.ensures))
-
-pub returns-then-number-least : goal.returns-then-number-least
-returns-then-number-least g c =
-    not_rising _ _ _ _ _ (omega (arith, c.if-number-count.false, c.count.ensures))
-    (false_from_ne_true _ (λ rises. let low = leb-true _ _ rises in omega (arith, low, c.if-number-least.true)))
+use Rattle.audit_proof.proofs.Imports.{Err, Line, List, Ok, ProofRead, Told, [], ap, arith, le-leb}
+use Rattle.audit_proof.proofs.Imports.{line_of_entry, line_with, nat_le, spaced, steps_read, subst, sym, ℕ, ◌∙◌}
+use Rattle.audit_proof.proofs.LinesRead.{entry_by, read_begun, words_refused}
 
 pub finish-requires-clause-begun : goal.finish-requires-clause-begun
 finish-requires-clause-begun g c =
@@ -21,9 +12,10 @@ finish-requires-clause-begun g c =
 pub returns-in-Err : goal.returns-in-Err
 returns-in-Err g c =
     let graph = g.A.Arrows.graph c.args.graph.now in
-    subst (λ (xs : List ℕ). Told (line_of_entry graph (nat_le c.args.least) c.args.is_ended (c.args.entry.number, spaced xs))
+    subst (λ (xs : List ℕ).
+    Told (line_of_entry graph (nat_le c.args.least) c.args.is_ended (c.args.entry.number, spaced xs))
     (Err c.in-Err.unread)) c.rest_from.ensures
-    (words_refused graph (nat_le c.args.least) c.args.is_ended c.args.entry.number c.rest_from.result.now c.in-Err.unread
+    (words_refused _ _ _ _ c.rest_from.result.now c.in-Err.unread
     (omega (arith, c.if-number-count.false, c.count.ensures)) (le-leb _ _ (omega (arith, c.if-number-least.false)))
     c.in-Err.ensures)
 

@@ -1,4 +1,4 @@
-use Rattle.audit_proof.proofs.Imports.{◌∙◌, ℕ, ap, sym, nat_eq, not}
+use Rattle.audit_proof.proofs.Imports.{ap, nat_eq, not, sym, ℕ, ◌∙◌}
 use Rattle.audit_proof.proofs.PackedFacts.{table_lists}
 use Rattle.audit_proof.proofs.packed.has_code.Goals as goal
 

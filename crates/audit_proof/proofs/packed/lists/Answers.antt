@@ -1,4 +1,4 @@
-use Rattle.audit_proof.proofs.Imports.{sym, subst, Line, Falls, unpacked}
+use Rattle.audit_proof.proofs.Imports.{Falls, Line, subst, sym, unpacked}
 use Rattle.audit_proof.proofs.PackedFacts.{second_falls}
 use Rattle.audit_proof.proofs.packed.lists.Goals as goal
 

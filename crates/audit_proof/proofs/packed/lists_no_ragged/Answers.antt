@@ -1,4 +1,4 @@
-use Rattle.audit_proof.proofs.Imports.{◌<◌, List, sym, subst, ProofStep, Line, unpacked}
+use Rattle.audit_proof.proofs.Imports.{Line, List, ProofStep, subst, sym, unpacked, ◌<◌}
 use Rattle.std.specs.Prelude.{All}
 use Rattle.audit_proof.proofs.PackedFacts.{all_second}
 use Rattle.audit_proof.proofs.packed.lists_no_ragged.Goals as goal

@@ -1,6 +1,6 @@
-use Rattle.audit_proof.proofs.Imports.{◌≡◌, ◌∙◌, ◌++◌, ◌+◌, ◌≤◌, [], sym, ap, subst, List, ℕ, length, rules, arith}
-use Rattle.audit_proof.proofs.Imports.{head_text, IsWriting}
-use Rattle.audit_proof.proofs.Writing.{writing_none, writing_more, writing_ends, too_long, head_short}
+use Rattle.audit_proof.proofs.Imports.{[], ap, append-nil, arith, flat_map_more, head_text, line_text}
+use Rattle.audit_proof.proofs.Imports.{made_line, made_lines, proof_text, refl, rules, sym, ◌∙◌, ◌≡◌}
+use Rattle.audit_proof.proofs.Canonicals.{head_short, lines_push, made_text, too_long}
 use Rattle.audit_proof.proofs.proving.prove.Goals as goal
 
 pub loop-entry-init : goal.loop-entry-init
@@ -8,36 +8,29 @@ loop-entry-init g c =
     let graph = g.A.Arrows.graph c.args.graph.now in
     let none : c.new-text.result.items ≡ [] = search rules in
     let text : c.push_head.new.text.items ≡ head_text graph.count =
-    c.in_ok-push_head.ensures ∙ ap (λ (xs : List ℕ). xs ++ head_text c.count.result) none
-    ∙ ap head_text c.count.ensures in (
-      writing_none graph c.push_head.new.text.items text,
-      subst (λ (xs : List ℕ). length xs ≤ 67108864) (sym text) (head_short graph.count c.requires.few),
-    )
+    c.in_ok-push_head.ensures ∙ rw (none, c.count.ensures) refl in
+    (text ∙ sym (append-nil (head_text graph.count)), rw text (head_short graph.count c.requires.few))
 
 pub returns-then-len-gt-LIMIT : goal.returns-then-len-gt-LIMIT
 returns-then-len-gt-LIMIT g c =
-    let graph = g.A.Arrows.graph c.args.graph.now in
-    too_long graph c.requires.descends 67108864 (c.loop-entry.entry + 1) c.push_line.new.text.items
-    (omega (arith, c.loop-entry-test.true, c.count.ensures))
-    (writing_more graph c.loop-entry.text.items c.loop-entry.entry c.in_ok-line.line c.push_line.new.text.items
-    c.loop-entry.invariant.0 c.in_ok-line.ensures.0 c.in_ok-line.ensures.1 c.in_ok-line.ensures.2
-    c.in_ok-push_line.ensures)
+    too_long (g.A.Arrows.graph c.args.graph.now) c.requires.descends 67108864 c.loop-entry.entry
+    c.push_line.new.text.items (omega (arith, c.loop-entry-test.true, c.count.ensures))
+    (c.in_ok-push_line.ensures ∙ rw (c.loop-entry.invariant.0, c.in_ok-line.ensures) refl)
     (omega (arith, c.if-len-gt-LIMIT.true, c.len.ensures))
 
 pub loop-entry-preserved : goal.loop-entry-preserved
-loop-entry-preserved g c = (
-  writing_more (g.A.Arrows.graph c.args.graph.now) c.loop-entry.text.items c.loop-entry.entry c.in_ok-line.line
-      c.push_line.new.text.items c.loop-entry.invariant.0 c.in_ok-line.ensures.0 c.in_ok-line.ensures.1
-      c.in_ok-line.ensures.2 c.in_ok-push_line.ensures,
-  omega (arith, c.if-len-gt-LIMIT.false),
-)
+loop-entry-preserved g c =
+    let graph = g.A.Arrows.graph c.args.graph.now in (
+      c.in_ok-push_line.ensures ∙ rw (c.loop-entry.invariant.0, c.in_ok-line.ensures)
+          (flat_map_more line_text (head_text graph.count) (made_lines graph c.loop-entry.entry)
+          (made_line graph c.loop-entry.entry))
+          ∙ ap (proof_text graph.count) (sym (lines_push graph c.loop-entry.entry)),
+      omega (arith, c.if-len-gt-LIMIT.false),
+    )
 
 pub returns : goal.returns
 returns g c =
     let graph = g.A.Arrows.graph c.args.graph.now in
-    let all : c.loop-entry.entry ≡ graph.count =
-    omega (arith, c.loop-entry-test.false, c.count.ensures) in (
-      writing_ends graph c.loop-entry.text.items
-          (subst (IsWriting graph c.loop-entry.text.items) all c.loop-entry.invariant.0),
-      c.loop-entry.invariant.1,
-    )
+    let all : c.loop-entry.entry ≡ graph.count = omega (arith, c.loop-entry-test.false, c.count.ensures) in
+    let text = c.loop-entry.invariant.0 in
+    (rw (text, all) (made_text graph c.requires.descends), c.loop-entry.invariant.1)
