@@ -38,12 +38,10 @@ pub use Rattle.live_auditor.specs.Adding.{Collides, HasRoomFor, IsTooWideOver}
 pub use Rattle.live_auditor.specs.Live.{IsOfMachine, LiveState}
 pub use Rattle.live_auditor.specs.Same.{AreOneVerdict, OrdersGiveOneSummary}
 pub use Rattle.live_auditor.specs.Summary.{Summary}
-pub use Rattle.live_auditor.specs.declared.growth.Growth.{Growth}
 pub use Rattle.live_auditor.specs.declared.summary.Summed.{Summed}
-pub use Rattle.live_auditor.specs.declared.appended.Appended.{Appended}
-pub use Rattle.live_auditor.specs.inside.Found.{FindsNames, IsApartBy, IsAppendedBy}
-pub use Rattle.live_auditor.specs.inside.Grown.{AreJudgedOver, kept_with, said_with}
-pub use Rattle.live_auditor.specs.inside.Kept.{IsGraphed, IsKept, IsSummed, SurvivorsKept, link_to, live_of}
+pub use Rattle.live_auditor.specs.inside.Found.{FindsNames, IsApartBy}
+pub use Rattle.live_auditor.specs.inside.Grown.{AreJudgedOver, IsGrowth, kept_with}
+pub use Rattle.live_auditor.specs.inside.Kept.{AreGiven, IsGraphed, IsKept, IsSummed, SurvivorsKept, link_to, live_of}
 pub use Rattle.live_auditor.specs.inside.Kept.{nodes_by}
 pub use Rattle.live_auditor.specs.inside.KeptOf.{IsSummedBy, kept_of}
 pub use Rattle.live_auditor.specs.inside.Unsummed.{IsUnsummed}

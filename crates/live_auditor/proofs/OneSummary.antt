@@ -12,7 +12,7 @@ one_each : (vs ws : List Verdict) → AllZip SameVerdict vs ws → AllZip AreOne
 one_each vs ws same = same
 
 -- lists with the same entries
-abbrev AreSame : List SealedEntry → List SealedEntry → Type 0
+abbrev pub AreSame : List SealedEntry → List SealedEntry → Type 0
 AreSame given other = (e : SealedEntry) → Contains given e ↔ Contains other e
 
 -- what is a stray among entries is one among the same
@@ -21,7 +21,7 @@ stray_moved : (given other : List SealedEntry) → AreSame given other → (e : 
 stray_moved given other same e (g, has, names, late) = (g, (same g).0 has, names, late)
 
 -- the same the other way round
-turned : (given other : List SealedEntry) → AreSame given other → AreSame other given
+pub turned : (given other : List SealedEntry) → AreSame given other → AreSame other given
 turned given other same e = ((same e).1, (same e).0)
 
 -- a survivor among entries is one among the same

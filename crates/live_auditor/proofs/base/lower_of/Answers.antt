@@ -1,4 +1,4 @@
-use Rattle.std.proofs.Common.{◌≡◌, append-nil}
+use Rattle.std.proofs.Common.{append-nil}
 use Rattle.live_auditor.proofs.Imports.{◌∙◌, ap, sym, true, false, rules, ℕ, nat_lt, Entry, SealedEntry}
 use Rattle.live_auditor.proofs.AfterBase.{filter_step, lt_false}
 use Rattle.std.proofs.lemmas.Bool.{lt-ltb}

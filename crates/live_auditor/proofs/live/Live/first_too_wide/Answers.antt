@@ -13,7 +13,7 @@ returns-clause-some c =
     c.as_slice.ensures.value c.first_too_wide.ensures.some in
     if_some_weaker c.first_too_wide.result (λ place wide.
     subst (λ (l : LiveState). IsTooWideOver l.machines trees l.added place) c.self.view_is
-    (wide_kept _ (kept_of c.self.inside.survivors) c.self.invariant.0 trees place wide)) found
+    (wide_kept _ (kept_of c.self.inside.summed.survivors) c.self.invariant.0 trees place wide)) found
 
 pub returns-clause-none : goal.returns-clause-none
 returns-clause-none c =
@@ -22,5 +22,5 @@ returns-clause-none c =
     IfNone c.first_too_wide.result ((place : ℕ) → IsFirstTooWide rows trees place → ⊥))
     c.as_slice.ensures.value c.first_too_wide.ensures.none in
     if_none_weaker c.first_too_wide.result (λ never place wide.
-    narrow_kept _ (kept_of c.self.inside.survivors) c.self.invariant.0 trees c.entries_give_one_graph.ensures never place
+    narrow_kept _ (kept_of c.self.inside.summed.survivors) c.self.invariant.0 trees c.entries_give_one_graph.ensures never place
     (subst (λ (l : LiveState). IsTooWideOver l.machines trees l.added place) (sym c.self.view_is) wide)) none
