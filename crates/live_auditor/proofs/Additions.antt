@@ -2,10 +2,11 @@
 use Rattle.std.proofs.Common.{◌≡◌}
 use Rattle.live_auditor.proofs.Imports.{◌∙◌, ℕ, ◌+◌, ◌<◌, List, [], ◌∷◌, ◌++◌, length, get_or, take, ap, subst, inl}
 use Rattle.live_auditor.proofs.Imports.{inr, ◌≢◌, All, Contains, take_more, Contains-push_cases, IsNew, SealedEntry}
-use Rattle.live_auditor.proofs.Imports.{node_of_sealed, distinct, distinct_new, Post, HaveMakers}
-use Rattle.live_auditor.proofs.Imports.{IsTooWideOver, IsOfMachine, Unjudged, TooWide, IsUnsummed, sym, not, true}
-use Rattle.live_auditor.proofs.Imports.{arith, ◌≤◌, length-append, bytes_eq, bytes_eq-Decides, Contains-none, HasRoomFor}
-use Rattle.live_auditor.proofs.Imports.{Contains-cons_cases, Bool, Rule, rule_tree, map, LiveState, All-push, ltb-true, nat_lt, refl}
+use Rattle.live_auditor.proofs.Imports.{node_of_sealed, distinct, distinct_new, Post, HaveMakers, IsTooWideOver}
+use Rattle.live_auditor.proofs.Imports.{IsOfMachine, Unjudged, TooWide, IsUnsummed, sym, not, true, arith, ◌≤◌}
+use Rattle.live_auditor.proofs.Imports.{length-append, bytes_eq, bytes_eq-Decides, Contains-none, HasRoomFor}
+use Rattle.live_auditor.proofs.Imports.{Contains-cons_cases, Bool, Rule, rule_tree, map, LiveState, All-push, ltb-true}
+use Rattle.live_auditor.proofs.Imports.{nat_lt, refl}
 use Rattle.live_auditor.specs.Live.{IsLive}
 use Rattle.live_auditor.specs.inside.Kept.{AreGiven}
 use Rattle.live_auditor.specs.inside.Stamps.{lower}

@@ -1,55 +1,36 @@
 -- Entries that are put after those of a base.
 use Rattle.std.proofs.Common.{◌≡◌, append-nil, drop}
 use Rattle.live_auditor.proofs.Imports.{◌∙◌, ap, refl, sym, subst, ℕ, ◌+◌, ◌<◌, ◌≤◌, ◌⊎◌, Bool, true, false, cond, Some}
-use Rattle.live_auditor.proofs.Imports.{List, [], ◌∷◌, ◌++◌, map, length, get_or, take, arith, inl, inr, Ok, slice_get}
-use Rattle.live_auditor.proofs.Imports.{◌↔◌, nat_lt, Contains, IsNew, take_more, take_all, length-append, length-map}
+use Rattle.live_auditor.proofs.Imports.{List, [], ◌∷◌, ◌++◌, map, length, take, arith, inl, inr, Ok, slice_get, ◌↔◌}
+use Rattle.live_auditor.proofs.Imports.{nat_lt, Contains, IsNew, take_more, take_all, length-append, length-map}
 use Rattle.live_auditor.proofs.Imports.{cases_lt, ltb-true, true≢false, Contains-append_cases, Contains-append_left}
-use Rattle.live_auditor.proofs.Imports.{Contains-append_right, Contains-push_cases}
-use Rattle.live_auditor.proofs.Imports.{slice_get_within, get_or_from_slice_get, Descends}
-use Rattle.live_auditor.proofs.Imports.{distinct, distinct_given, SealedEntry, node_of_sealed, EntryGraph, Links}
-use Rattle.live_auditor.proofs.Imports.{IsGraphOfGiven, IsSealedGraph, parents_of, grown, Post, Row, RuleTree, row_of}
-use Rattle.live_auditor.proofs.Imports.{AreJudged, nodes_of, nodes_by, Summary, SurvivorsKept}
-use Rattle.live_auditor.proofs.Imports.{IsGraphed, IsSummed, kept_of, link_to}
+use Rattle.live_auditor.proofs.Imports.{Contains-append_right, Contains-push_cases, slice_get_within}
+use Rattle.live_auditor.proofs.Imports.{get_or_from_slice_get, Descends, distinct, distinct_given, SealedEntry}
+use Rattle.live_auditor.proofs.Imports.{node_of_sealed, EntryGraph, Links, IsGraphOfGiven, IsSealedGraph, parents_of}
+use Rattle.live_auditor.proofs.Imports.{grown, Post, Row, RuleTree, row_of, AreJudged, nodes_of, nodes_by, Summary}
+use Rattle.live_auditor.proofs.Imports.{SurvivorsKept, IsGraphed, IsSummed, kept_of, link_to, AreGiven, IsGrowth}
+use Rattle.live_auditor.proofs.Imports.{Summed, ◌&&◌, list_all}
 use Rattle.live_auditor.specs.inside.Stamps.{from_stamp, lower}
-use Rattle.live_auditor.specs.inside.Following.{CanFollow, IsFollowed, IsPushed}
+use Rattle.live_auditor.specs.inside.Following.{CanFollow, IsFollowed, IsPushed, FollowOf}
 use Rattle.live_auditor.specs.declared.late.Tail.{Tail}
 use Rattle.live_auditor.proofs.Additions.{distinct_shorter, given_lower, in_lower}
-use Rattle.live_auditor.proofs.Imports.{AreGiven, IsGrowth, Summed, ◌&&◌, list_all}
 use Rattle.std.proofs.lemmas.List.Sorted.{Contains-permutation, IsPermutation-sym}
 use Rattle.std.specs.List.Sorted.{IsPermutation}
-use Rattle.live_auditor.specs.inside.Following.{FollowOf}
 use Rattle.live_auditor.specs.inside.Kept.{AreSurvivorsOf}
 use Rattle.live_auditor.proofs.Ends.{at_contains}
 use Rattle.live_auditor.proofs.OneSummary.{AreSame, graph_moved, turned}
 use Rattle.live_auditor.proofs.Steps.{graphed_next}
-use Rattle.entry_graph.proofs.DistinctFacts.{distinct_bears}
+use Rattle.entry_graph.proofs.DistinctFacts.{distinct_bears, filter_drops}
 use Rattle.entry_order.proofs.Lists.{Contains-filter, Contains-filter_cases}
 use Rattle.entry_order.specs.Naming.{Distinct}
-use Rattle.std.proofs.lemmas.Bool.{false_from_ne_true, lt-ltb, le-leb, leb-true}
+use Rattle.std.proofs.lemmas.Bool.{false_from_ne_true, lt-ltb, le-leb}
 use Rattle.std.proofs.lemmas.List.{append_assoc, take-append-drop, take-append-le}
-use Rattle.std.proofs.lemmas.List.Elements.{filter_more}
-use Rattle.std.specs.List.{filter}
 use Rattle.std.specs.Prelude.{nat_le, Err, IfOk, IfSome, None, Option, Result}
-use Rattle.entry_graph.proofs.DistinctFacts.{filter_drops}
 
--- of one element more a test keeps it, or not
-pub filter_step : {X : Type 0} (p : X → Bool) (xs : List X) (i : ℕ) (x : X) (b : Bool) (ys new : List X) →
-    i < length xs → x ≡ get_or xs i x → p x ≡ b → ys ≡ filter p (take i xs) → new ≡ ys ++ cond b (x ∷ []) [] →
-    new ≡ filter p (take (i + 1) xs)
-filter_step {X} p xs i x b ys new within is test so_far added =
-    added ∙ ap (λ (zs : List X). zs ++ cond b (x ∷ []) []) so_far
-    ∙ ap (λ (c : Bool). filter p (take i xs) ++ cond c (x ∷ []) []) (sym (ap p (sym is) ∙ test))
-    ∙ ap (λ (y : X). filter p (take i xs) ++ cond (p (get_or xs i x)) (y ∷ []) []) is
-    ∙ sym (filter_more p xs i x within)
-
--- tests of numbers that fail
+-- a number that is no lower
 pub lt_false : (m n : ℕ) → n ≤ m → nat_lt m n ≡ false
 lt_false m n past =
     false_from_ne_true (nat_lt m n) (λ is. let low = ltb-true m n is in absurd (omega (arith, low, past)))
-
-pub le_false : (m n : ℕ) → n < m → nat_le m n ≡ false
-le_false m n low =
-    false_from_ne_true (nat_le m n) (λ is. let past = leb-true m n is in absurd (omega (arith, low, past)))
 
 -- one of the first elements is one of all
 taken : {X : Type 0} (xs : List X) (i : ℕ) (x : X) → Contains (take i xs) x → Contains xs x

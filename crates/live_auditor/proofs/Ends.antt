@@ -1,7 +1,7 @@
 -- Lists with one element more at their end.
 use Rattle.std.proofs.Common.{◌≡◌}
-use Rattle.live_auditor.proofs.Imports.{◌∙◌, ap, refl, sym, subst, ℕ, zero, suc, ◌<◌, Some, List, [], ◌∷◌, ◌++◌}
-use Rattle.live_auditor.proofs.Imports.{take, length, arith, length-append, inl, inr, slice_get, ◌⊎◌, Contains, cases_order}
+use Rattle.live_auditor.proofs.Imports.{◌∙◌, ap, refl, sym, subst, ℕ, zero, suc, ◌<◌, Some, List, [], ◌∷◌, ◌++◌, take}
+use Rattle.live_auditor.proofs.Imports.{length, arith, length-append, inl, inr, slice_get, ◌⊎◌, Contains, cases_order}
 use Rattle.live_auditor.proofs.Imports.{Contains-get_or, slice_get_within, get_or_from_slice_get}
 
 -- the elements stay where they are when one more is put after them

@@ -1,10 +1,9 @@
 -- What is found of the names of an entry, and of an appended one.
 use Rattle.std.proofs.Common.{◌≡◌}
-use Rattle.live_auditor.proofs.Imports.{◌∙◌, ap, sym, subst, ℕ, ◌+◌, ◌-◌, ◌<◌, ◌≤◌, List, [], ◌∷◌, ◌++◌, length}
-use Rattle.live_auditor.proofs.Imports.{get_or, take, inl, inr, arith, false, Some, slice_get, ◌⊎◌, Contains}
-use Rattle.live_auditor.proofs.Imports.{bytes_eq, cases_lt, true≢false, take_more, Contains-append_left}
-use Rattle.live_auditor.proofs.Imports.{Contains-push, Contains-push_cases, slice_get-get_or, bytes_eq-Decides}
-use Rattle.live_auditor.proofs.Imports.{FindsNames}
+use Rattle.live_auditor.proofs.Imports.{◌∙◌, ap, sym, subst, ℕ, ◌+◌, ◌-◌, ◌<◌, ◌≤◌, List, [], ◌∷◌, ◌++◌, length, get_or}
+use Rattle.live_auditor.proofs.Imports.{take, inl, inr, arith, false, Some, slice_get, ◌⊎◌, Contains, bytes_eq}
+use Rattle.live_auditor.proofs.Imports.{cases_lt, true≢false, take_more, Contains-append_left, Contains-push}
+use Rattle.live_auditor.proofs.Imports.{Contains-push_cases, slice_get-get_or, bytes_eq-Decides, FindsNames}
 
 module _ (digests names : List (List ℕ)) (i : ℕ) (d : List ℕ) (within : i < length names) where
   -- the next name

@@ -1,11 +1,10 @@
 -- Verdicts by the rows of survivors, as they are where others come after them.
 use Rattle.std.proofs.Common.{◌≡◌}
 use Rattle.live_auditor.proofs.Imports.{◌∙◌, ap, refl, sym, subst, ℕ, zero, suc, ◌<◌, ◌≤◌, Bool, List, [], ◌∷◌, map}
-use Rattle.live_auditor.proofs.Imports.{length, take, arith, get_or, Ok, Links, parents_in, ragged_in}
-use Rattle.live_auditor.proofs.Imports.{parents_of, ragged_of, Three, Descends, before, is_whole, Known, IsKnownOf}
-use Rattle.live_auditor.proofs.Imports.{known_before, known_whole, Rule, Row, rule_tree, RuleTree, is_true}
-use Rattle.live_auditor.proofs.Imports.{ComesBeforeNone, IsJudgeAnswer, Verdict, same_answer, AreJudged}
-use Rattle.live_auditor.proofs.Imports.{AreJudgedOver, nodes_by}
+use Rattle.live_auditor.proofs.Imports.{length, take, arith, get_or, Ok, Links, parents_in, ragged_in, parents_of}
+use Rattle.live_auditor.proofs.Imports.{ragged_of, Three, Descends, before, is_whole, Known, IsKnownOf, known_before}
+use Rattle.live_auditor.proofs.Imports.{known_whole, Rule, Row, rule_tree, RuleTree, is_true, ComesBeforeNone}
+use Rattle.live_auditor.proofs.Imports.{IsJudgeAnswer, Verdict, same_answer, AreJudged, AreJudgedOver, nodes_by}
 use Rattle.live_auditor.proofs.Agreements.{same_before, same_whole, not_before}
 use Rattle.live_auditor.proofs.Ends.{slice_get_take}
 

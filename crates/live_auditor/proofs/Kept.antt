@@ -1,18 +1,14 @@
 -- What is kept of survivors, read off a graph.
 use Rattle.std.proofs.Common.{◌≡◌}
-use Rattle.live_auditor.proofs.Imports.{◌∙◌, ap, refl, sym, subst, ℕ, Bool, ◌+◌, ◌<◌, List, [], ◌∷◌, ◌++◌}
-use Rattle.live_auditor.proofs.Imports.{map, length, get_or, take, arith, Some}
-use Rattle.live_auditor.proofs.Imports.{slice_get, Ok, All, take_more}
-use Rattle.live_auditor.proofs.Imports.{map-append, get_or_from_slice_get, slice_get-get_or}
-use Rattle.live_auditor.proofs.Imports.{SealedEntry}
-use Rattle.live_auditor.proofs.Imports.{node_of_sealed, EntryGraph, Links, parents_in, ragged_in, parents_of}
-use Rattle.live_auditor.proofs.Imports.{ragged_of, distinct, IsSealedGraph, Post, Rule}
-use Rattle.live_auditor.proofs.Imports.{rule_tree, RuleTree, HasRoomFor, IsOfMachine}
-use Rattle.live_auditor.proofs.Imports.{Summary, Summed, SurvivorsKept, IsKept, IsSummed}
-use Rattle.live_auditor.proofs.Imports.{IsSummedBy, kept_of}
+use Rattle.live_auditor.proofs.Imports.{◌∙◌, ap, refl, sym, subst, ℕ, Bool, ◌+◌, ◌<◌, List, [], ◌∷◌, ◌++◌, map, length}
+use Rattle.live_auditor.proofs.Imports.{get_or, take, arith, Some, slice_get, Ok, All, take_more, map-append}
+use Rattle.live_auditor.proofs.Imports.{get_or_from_slice_get, slice_get-get_or, SealedEntry, node_of_sealed}
+use Rattle.live_auditor.proofs.Imports.{EntryGraph, Links, parents_in, ragged_in, parents_of, ragged_of, distinct}
+use Rattle.live_auditor.proofs.Imports.{IsSealedGraph, Post, Rule, rule_tree, RuleTree, HasRoomFor, IsOfMachine}
+use Rattle.live_auditor.proofs.Imports.{Summary, Summed, SurvivorsKept, IsKept, IsSummed, IsSummedBy, kept_of, AreGiven}
+use Rattle.live_auditor.proofs.Imports.{live_of, ◌≤◌}
 use Rattle.live_auditor.proofs.Additions.{given_live, given_more, once_more}
 use Rattle.live_auditor.proofs.AfterBase.{lower_more}
-use Rattle.live_auditor.proofs.Imports.{AreGiven, live_of, ◌≤◌}
 use Rattle.live_auditor.specs.declared.base.Base.{Base}
 use Rattle.live_auditor.specs.inside.Base.{IsBase}
 use Rattle.live_auditor.specs.inside.Stamps.{lower}

@@ -1,19 +1,12 @@
 -- An appended entry more: what is kept, and what is said then.
-use Rattle.std.proofs.Common.{◌≡◌}
-use Rattle.std.proofs.Common.{Option}
-use Rattle.live_auditor.proofs.Imports.{◌∙◌, ap, refl, sym, subst, ℕ, ◌<◌, true, false, Some, None, List}
-use Rattle.live_auditor.proofs.Imports.{[], ◌∷◌, ◌++◌, map, length, arith, inl, inr, eq-eqb, slice_get}
-use Rattle.live_auditor.proofs.Imports.{◌&&◌, ◌==◌, Contains, list_any, bytes_eq}
-use Rattle.live_auditor.proofs.Imports.{option_map, true≢false, and_from, length-map, map-append}
-use Rattle.live_auditor.proofs.Imports.{slice_get-map, bytes_eq-Decides, ascending}
-use Rattle.live_auditor.proofs.Imports.{Contains-map, list_any_of}
-use Rattle.live_auditor.proofs.Imports.{SealedEntry, node_of_sealed, EntryGraph, Links, IsGraphOfGiven}
-use Rattle.live_auditor.proofs.Imports.{Row}
-use Rattle.live_auditor.proofs.Imports.{row_of}
-use Rattle.live_auditor.proofs.Imports.{IsApartBy, kept_with}
-use Rattle.live_auditor.proofs.Imports.{SurvivorsKept, IsGraphed, Post, IsNew}
-use Rattle.live_auditor.proofs.Imports.{link_to, IsAppended}
-use Rattle.live_auditor.proofs.Imports.{AreParents, AreMissing, grown}
+use Rattle.std.proofs.Common.{◌≡◌, Option}
+use Rattle.live_auditor.proofs.Imports.{◌∙◌, ap, refl, sym, subst, ℕ, ◌<◌, true, false, Some, None, List, [], ◌∷◌, ◌++◌}
+use Rattle.live_auditor.proofs.Imports.{map, length, arith, inl, inr, eq-eqb, slice_get, ◌&&◌, ◌==◌, Contains, list_any}
+use Rattle.live_auditor.proofs.Imports.{bytes_eq, option_map, true≢false, and_from, length-map, map-append}
+use Rattle.live_auditor.proofs.Imports.{slice_get-map, bytes_eq-Decides, ascending, Contains-map, list_any_of}
+use Rattle.live_auditor.proofs.Imports.{SealedEntry, node_of_sealed, EntryGraph, Links, IsGraphOfGiven, Row, row_of}
+use Rattle.live_auditor.proofs.Imports.{IsApartBy, kept_with, SurvivorsKept, IsGraphed, Post, IsNew, link_to}
+use Rattle.live_auditor.proofs.Imports.{IsAppended, AreParents, AreMissing, grown}
 use Rattle.live_auditor.proofs.Additions.{apart_more}
 use Rattle.live_auditor.proofs.Ends.{at_contains}
 use Rattle.live_auditor.proofs.Grown.{is_grown}

@@ -15,6 +15,7 @@ use crate::borrowed::{Borrowed, borrowed_with};
 use crate::late::summed_from;
 use crate::summary::{Summed, summed_of};
 use entry_format::Sealed;
+use entry_order::Knot;
 use roster::Roster;
 use rule_engine::Unjudged;
 use rule_language::Rule;
@@ -80,7 +81,7 @@ fn lower_of<'a>(
 {
     let mut entries = Vec::new(alloc);
     for entry in added {
-        if entry.entry().stamp < below {
+        if entry.stamp() < below {
             entries.push(Borrowed::of(entry))?;
         }
     }

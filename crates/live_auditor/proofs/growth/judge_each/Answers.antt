@@ -1,5 +1,5 @@
-use Rattle.live_auditor.proofs.Imports.{◌+◌, List, map, take, arith, sym, subst, length-map, known_before}
-use Rattle.live_auditor.proofs.Imports.{known_whole, rule_tree, Verdict, AreJudged, judged_more}
+use Rattle.live_auditor.proofs.Imports.{◌+◌, List, map, take, arith, sym, subst, length-map, known_before, known_whole}
+use Rattle.live_auditor.proofs.Imports.{rule_tree, Verdict, AreJudged, judged_more}
 use Rattle.live_auditor.proofs.Judged.{judged_at, one_each}
 use Rattle.live_auditor.proofs.growth.judge_each.Goals as goal
 

@@ -1,7 +1,7 @@
 use Rattle.std.proofs.Common.{◌≡◌}
-use Rattle.live_auditor.proofs.Imports.{List, length, map, take, arith, sym, subst, length-take-le}
-use Rattle.live_auditor.proofs.Imports.{Links, IsKnownOf, known_before, known_whole, rule_tree, ComesBeforeNone}
-use Rattle.live_auditor.proofs.Imports.{Ready, AreJudgedOver, nodes_by}
+use Rattle.live_auditor.proofs.Imports.{List, length, map, take, arith, sym, subst, length-take-le, Links, IsKnownOf}
+use Rattle.live_auditor.proofs.Imports.{known_before, known_whole, rule_tree, ComesBeforeNone, Ready, AreJudgedOver}
+use Rattle.live_auditor.proofs.Imports.{nodes_by}
 use Rattle.live_auditor.proofs.Judged.{judged_over, last_comes_last}
 use Rattle.live_auditor.proofs.growth.verdicts_by.Goals as goal
 

@@ -1,6 +1,5 @@
 use Rattle.std.proofs.Common.{Option}
-use Rattle.live_auditor.proofs.Imports.{List, map, subst, sym, IfSome, SealedEntry, rule_tree, HaveMakers}
-use Rattle.live_auditor.proofs.Imports.{IsOfMachine}
+use Rattle.live_auditor.proofs.Imports.{List, map, subst, sym, IfSome, SealedEntry, rule_tree, HaveMakers, IsOfMachine}
 use Rattle.std.specs.Prelude.{nat_le}
 use Rattle.std.proofs.lemmas.List.Elements.{All-filter}
 use Rattle.std.proofs.lemmas.List.Sorted.{All-permutation}

@@ -1,4 +1,5 @@
-use Rattle.live_auditor.proofs.Imports.{◌∙◌, List, ap, map, subst, sym, SealedEntry, AreGiven, IsSummed, rule_tree, kept_of}
+use Rattle.live_auditor.proofs.Imports.{◌∙◌, List, ap, map, subst, sym, SealedEntry, AreGiven, IsSummed, rule_tree}
+use Rattle.live_auditor.proofs.Imports.{kept_of}
 use Rattle.live_auditor.specs.inside.Stamps.{lower}
 use Rattle.live_auditor.proofs.Additions.{given_lower}
 use Rattle.live_auditor.proofs.AfterBase.{lower_lower}

@@ -1,5 +1,5 @@
-use Rattle.live_auditor.proofs.Imports.{◌∙◌, List, [], ◌∷◌, ◌++◌, ap, map, refl, subst, sym, SealedEntry}
-use Rattle.live_auditor.proofs.Imports.{rule_tree, HasRoomFor, IsTooWideOver, LiveState, IsOfMachine}
+use Rattle.live_auditor.proofs.Imports.{◌∙◌, List, [], ◌∷◌, ◌++◌, ap, map, refl, subst, sym, SealedEntry, rule_tree}
+use Rattle.live_auditor.proofs.Imports.{HasRoomFor, IsTooWideOver, LiveState, IsOfMachine}
 use Rattle.live_auditor.proofs.Additions.{wide_over}
 use Rattle.live_auditor.proofs.Kept.{kept_next}
 use Rattle.live_auditor.proofs.live.Live.add_new.Goals as goal
@@ -22,15 +22,7 @@ invariant_of-self-in-Ok c =
     c.in-Ok.ensures.ok c.in-Ok.ensures.late c.in-Ok.ensures.base
 
 pub returns-in-Ok-clause-kept : goal.returns-in-Ok-clause-kept
-returns-in-Ok-clause-kept c =
-    (kept_next c.self.inside.roster.machines c.self.inside.rules.items c.as_slice-rules.result.now
-    c.self.inside.added.items c.as_slice-added.result.now c.push_reserved.new.self.items c.self.inside.summed
-    c.in-Ok.summed c.summed_with.new.base c.args.s c.self.invariant.0
-    (subst (λ (l : LiveState). IsOfMachine l.machines c.args.s) (sym c.self.view_is) c.requires.machine)
-    (subst (λ (l : LiveState). HasRoomFor l.added c.args.s) (sym c.self.view_is) c.requires.room)
-    c.as_slice-rules.ensures.value (c.as_slice-added.ensures.value ∙ c.in_ok-reserve.ensures.items)
-    (c.push_reserved.ensures.items ∙ ap (λ (es : List SealedEntry). es ++ c.args.s ∷ []) c.in_ok-reserve.ensures.items)
-    c.in-Ok.ensures.ok c.in-Ok.ensures.late c.in-Ok.ensures.base).0.live
+returns-in-Ok-clause-kept c = (invariant_of-self-in-Ok c).0.live
 
 pub returns-in-Err-TooWide-clause-answer : goal.returns-in-Err-TooWide-clause-answer
 returns-in-Err-TooWide-clause-answer c = (
