@@ -2,10 +2,16 @@
 use Rattle.std.proofs.Common.{◌≡◌}
 use Rattle.live_auditor.proofs.Imports.{◌∙◌, ℕ, ◌+◌, ◌<◌, List, [], ◌∷◌, ◌++◌, length, get_or, take, ap, subst, inl}
 use Rattle.live_auditor.proofs.Imports.{inr, ◌≢◌, All, Contains, take_more, Contains-push_cases, IsNew, SealedEntry}
-use Rattle.live_auditor.proofs.Imports.{node_of_sealed, distinct, distinct_new, Post, HaveMakers, RuleTree}
-use Rattle.live_auditor.proofs.Imports.{IsTooWideOver, IsOfMachine, Unjudged, TooWide, IsUnsummed, sym, not, true, Ok}
-use Rattle.live_auditor.proofs.Imports.{arith, ◌≤◌, length-append, bytes_eq, bytes_eq-Decides, Contains-none, HasRoomFor}
-use Rattle.live_auditor.proofs.Imports.{Contains-cons_cases, EntryGraph, IsGraphOfGiven, IsSealedGraph, no_collision_new}
+use Rattle.live_auditor.proofs.Imports.{node_of_sealed, distinct, distinct_new, Post, HaveMakers, IsTooWideOver}
+use Rattle.live_auditor.proofs.Imports.{IsOfMachine, Unjudged, TooWide, IsUnsummed, sym, not, true, arith, ◌≤◌}
+use Rattle.live_auditor.proofs.Imports.{length-append, bytes_eq, bytes_eq-Decides, Contains-none, HasRoomFor}
+use Rattle.live_auditor.proofs.Imports.{Contains-cons_cases, Bool, Rule, rule_tree, map, LiveState, All-push, ltb-true}
+use Rattle.live_auditor.proofs.Imports.{nat_lt, refl}
+use Rattle.live_auditor.specs.Live.{IsLive}
+use Rattle.live_auditor.specs.inside.Kept.{AreGiven}
+use Rattle.live_auditor.specs.inside.Stamps.{lower}
+use Rattle.std.proofs.lemmas.List.Elements.{All-filter}
+use Rattle.std.proofs.lemmas.List.Filters.{length-filter_both}
 use Rattle.entry_order.specs.Naming.{Distinct}
 use Rattle.entry_order.proofs.Lists.{Contains-filter_cases}
 use Rattle.std.specs.List.{filter}
@@ -32,10 +38,14 @@ none_more entries digest i e within is none other f has =
     ]
 
 -- what has no summary as a rule is too wide is refused as such
-pub wide_over : (machines : List Post) (trees : List RuleTree) (entries : List SealedEntry) (fault : Unjudged)
-    (place : ℕ) → IsUnsummed machines trees entries fault → fault ≡ TooWide place →
-    IsTooWideOver machines trees entries place
-wide_over machines trees entries fault place given is = subst (IsUnsummed machines trees entries) is given
+pub wide_over : (machines : List Post) (rules seen : List Rule) (added listed : List SealedEntry) (e : SealedEntry)
+    (fault : Unjudged) (place : ℕ) → seen ≡ rules → listed ≡ added →
+    IsUnsummed machines (map rule_tree seen) (listed ++ e ∷ []) fault → fault ≡ TooWide place →
+    IsTooWideOver machines (map rule_tree rules) (added ++ e ∷ []) place
+wide_over machines rules seen added listed e fault place same all given is =
+    subst (λ (es : List SealedEntry). IsTooWideOver machines (map rule_tree rules) (es ++ e ∷ []) place) all
+    (subst (λ (rs : List Rule). IsTooWideOver machines (map rule_tree rs) (listed ++ e ∷ []) place) same
+    (subst (IsUnsummed machines (map rule_tree seen) (listed ++ e ∷ [])) is given))
 
 -- an entry that is kept after another has another digest
 kept_after : (e : SealedEntry) (es : List SealedEntry) (f : SealedEntry) →
@@ -83,13 +93,48 @@ apart_more given e apart new f g has_f has_g same = elim (Contains-push_cases gi
   ]
 ]
 
--- the graph of entries, each of them once, and of one more is what is answered of them
-pub sealed_more : (added : List SealedEntry) (e : SealedEntry) (first graph : EntryGraph SealedEntry) →
-    IsSealedGraph added (Ok first) → distinct node_of_sealed added ≡ added → HasRoomFor added e →
-    IsGraphOfGiven node_of_sealed (added ++ e ∷ []) graph → IsSealedGraph (added ++ e ∷ []) (Ok graph)
-sealed_more added e first graph before once room is =
-    let all = once_more added e once room.0 in (
-      no_collision_new node_of_sealed (λ (s : SealedEntry). s.text) added e before.0 room.0,
-      subst (λ es. length es ≤ 16384) (sym all) (omega (arith, length-append added (e ∷ []), room.1)),
-      subst (λ es. IsGraphOfGiven node_of_sealed es graph) (sym all) is,
-    )
+-- a filter keeps no more than there is
+filter_shorter : {X : Type 0} (p : X → Bool) (xs : List X) → length (filter p xs) ≤ length xs
+filter_shorter p xs = omega (arith, length-filter_both p (λ x. not (p x)) (λ x. refl) xs)
+
+-- nor are more distinct
+pub distinct_shorter : (given : List SealedEntry) → length (distinct node_of_sealed given) ≤ length given
+distinct_shorter [] = omega arith
+distinct_shorter (e ∷ es) =
+    let fewer = distinct_shorter es in
+    let kept = filter_shorter (λ (f : SealedEntry). not (bytes_eq f.digest e.digest)) (distinct node_of_sealed es) in
+    omega (arith, fewer, kept)
+
+-- those with lower stamps
+pub in_lower : (added : List SealedEntry) (below : ℕ) (f : SealedEntry) → Contains (lower below added) f →
+    Contains added f × (f.entry.stamp < below)
+in_lower added below f has =
+    let (there, low) = Contains-filter_cases (λ (g : SealedEntry). nat_lt g.entry.stamp below) added f has in
+    (there, ltb-true f.entry.stamp below low)
+
+-- are entries of the machines, too
+pub given_lower : (machines : List Post) (added : List SealedEntry) (below : ℕ) → AreGiven machines added →
+    AreGiven machines (lower below added)
+given_lower machines added below is = record {
+  of_machines = All-filter (λ (e : SealedEntry). nat_lt e.entry.stamp below) (IsOfMachine machines) added
+      is.of_machines;
+  few =
+      (let fewer = filter_shorter (λ (e : SealedEntry). nat_lt e.entry.stamp below) added in
+      omega (arith, fewer, is.few));
+  apart = λ e f has also same.
+      is.apart e f (in_lower added below e has).0 (in_lower added below f also).0 same;
+}
+
+-- so are the entries of an audit
+pub given_live : (live : LiveState) → IsLive live → AreGiven live.machines live.added
+given_live live is =
+    record { of_machines = is.of_machines; few = is.few; apart = added_apart live.added is.once }
+
+-- and one more
+pub given_more : (machines : List Post) (added : List SealedEntry) (e : SealedEntry) → AreGiven machines added →
+    IsOfMachine machines e → HasRoomFor added e → AreGiven machines (added ++ e ∷ [])
+given_more machines added e is machine room = record {
+  of_machines = All-push (IsOfMachine machines) added e is.of_machines machine;
+  few = omega (arith, length-append added (e ∷ []), room.1);
+  apart = apart_more added e is.apart room.0;
+}

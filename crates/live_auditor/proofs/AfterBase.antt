@@ -1,128 +1,72 @@
 -- Entries that are put after those of a base.
 use Rattle.std.proofs.Common.{◌≡◌, append-nil, drop}
 use Rattle.live_auditor.proofs.Imports.{◌∙◌, ap, refl, sym, subst, ℕ, ◌+◌, ◌<◌, ◌≤◌, ◌⊎◌, Bool, true, false, cond, Some}
-use Rattle.live_auditor.proofs.Imports.{List, [], ◌∷◌, ◌++◌, map, length, get_or, take, arith, inl, inr, Ok, slice_get}
-use Rattle.live_auditor.proofs.Imports.{◌↔◌, nat_lt, Contains, IsNew, take_more, take_all, length-append, length-map}
-use Rattle.live_auditor.proofs.Imports.{cases_Bool, cases_lt, ltb-true, true≢false, Contains-append_cases, Contains-append_left}
-use Rattle.live_auditor.proofs.Imports.{Contains-append_right, Contains-push, Contains-push_cases, Contains-none}
-use Rattle.live_auditor.proofs.Imports.{slice_get_within, get_or_from_slice_get, Descends}
-use Rattle.live_auditor.proofs.Imports.{distinct, distinct_given, SealedEntry, node_of_sealed, EntryGraph, Links}
-use Rattle.live_auditor.proofs.Imports.{IsGraphOfGiven, IsSealedGraph, parents_of, grown, Post, Row, RuleTree, row_of}
-use Rattle.live_auditor.proofs.Imports.{Verdict, AreJudged, nodes_of, nodes_by, HasRoomFor, Summary, SurvivorsKept}
-use Rattle.live_auditor.proofs.Imports.{IsGraphed, IsSummed, kept_of, kept_with, link_to}
+use Rattle.live_auditor.proofs.Imports.{List, [], ◌∷◌, ◌++◌, map, length, take, arith, inl, inr, Ok, slice_get, ◌↔◌}
+use Rattle.live_auditor.proofs.Imports.{nat_lt, Contains, IsNew, take_more, take_all, length-append, length-map}
+use Rattle.live_auditor.proofs.Imports.{cases_lt, ltb-true, true≢false, Contains-append_cases, Contains-append_left}
+use Rattle.live_auditor.proofs.Imports.{Contains-append_right, Contains-push_cases, slice_get_within}
+use Rattle.live_auditor.proofs.Imports.{get_or_from_slice_get, Descends, distinct, distinct_given, SealedEntry}
+use Rattle.live_auditor.proofs.Imports.{node_of_sealed, EntryGraph, Links, IsGraphOfGiven, IsSealedGraph, parents_of}
+use Rattle.live_auditor.proofs.Imports.{grown, Post, Row, RuleTree, row_of, AreJudged, nodes_of, nodes_by, Summary}
+use Rattle.live_auditor.proofs.Imports.{SurvivorsKept, IsGraphed, IsSummed, kept_of, link_to, AreGiven, IsGrowth}
+use Rattle.live_auditor.proofs.Imports.{Summed, ◌&&◌, list_all}
 use Rattle.live_auditor.specs.inside.Stamps.{from_stamp, lower}
-use Rattle.live_auditor.specs.inside.Following.{CanFollow, IsFollowed, IsPushed}
+use Rattle.live_auditor.specs.inside.Following.{CanFollow, IsFollowed, IsPushed, FollowOf}
 use Rattle.live_auditor.specs.declared.late.Tail.{Tail}
-use Rattle.live_auditor.proofs.Additions.{apart_more, sealed_more}
+use Rattle.live_auditor.proofs.Additions.{distinct_shorter, given_lower, in_lower}
+use Rattle.std.proofs.lemmas.List.Sorted.{Contains-permutation, IsPermutation-sym}
+use Rattle.std.specs.List.Sorted.{IsPermutation}
+use Rattle.live_auditor.specs.inside.Kept.{AreSurvivorsOf}
 use Rattle.live_auditor.proofs.Ends.{at_contains}
-use Rattle.live_auditor.proofs.OneSummary.{graph_moved}
-use Rattle.live_auditor.proofs.Steps.{graphed_next, mapped_at}
-use Rattle.entry_graph.proofs.DistinctFacts.{distinct_bears}
+use Rattle.live_auditor.proofs.OneSummary.{AreSame, graph_moved, turned}
+use Rattle.live_auditor.proofs.Steps.{graphed_next}
+use Rattle.entry_graph.proofs.DistinctFacts.{distinct_bears, filter_drops}
 use Rattle.entry_order.proofs.Lists.{Contains-filter, Contains-filter_cases}
 use Rattle.entry_order.specs.Naming.{Distinct}
-use Rattle.std.proofs.lemmas.Bool.{false_from_ne_true, lt-ltb, le-leb, leb-true}
+use Rattle.std.proofs.lemmas.Bool.{false_from_ne_true, lt-ltb, le-leb}
 use Rattle.std.proofs.lemmas.List.{append_assoc, take-append-drop, take-append-le}
-use Rattle.std.proofs.lemmas.List.Elements.{filter_more}
-use Rattle.std.specs.List.{filter}
-use Rattle.std.specs.Prelude.{nat_le, All, Err, IfOk, IfSome, None, Option, Result}
-use Rattle.std.proofs.lemmas.List.Elements.{All-filter, All-push}
-use Rattle.live_auditor.proofs.Imports.{HaveMakers, IsOfMachine, Rule, rule_tree}
-use Rattle.live_auditor.proofs.Additions.{have_makers}
-use Rattle.live_auditor.specs.declared.base.Base.{Base}
-use Rattle.live_auditor.specs.inside.Base.{IsBase}
-use Rattle.entry_graph.proofs.DistinctFacts.{filter_drops}
+use Rattle.std.specs.Prelude.{nat_le, Err, IfOk, IfSome, None, Option, Result}
 
--- of one element more a test keeps it, or not
-pub filter_step : {X : Type 0} (p : X → Bool) (xs : List X) (i : ℕ) (x : X) (b : Bool) (ys new : List X) →
-    i < length xs → x ≡ get_or xs i x → p x ≡ b → ys ≡ filter p (take i xs) → new ≡ ys ++ cond b (x ∷ []) [] →
-    new ≡ filter p (take (i + 1) xs)
-filter_step {X} p xs i x b ys new within is test so_far added =
-    added ∙ ap (λ (zs : List X). zs ++ cond b (x ∷ []) []) so_far
-    ∙ ap (λ (c : Bool). filter p (take i xs) ++ cond c (x ∷ []) []) (sym (ap p (sym is) ∙ test))
-    ∙ ap (λ (y : X). filter p (take i xs) ++ cond (p (get_or xs i x)) (y ∷ []) []) is
-    ∙ sym (filter_more p xs i x within)
-
--- tests of numbers that fail
+-- a number that is no lower
 pub lt_false : (m n : ℕ) → n ≤ m → nat_lt m n ≡ false
 lt_false m n past =
     false_from_ne_true (nat_lt m n) (λ is. let low = ltb-true m n is in absurd (omega (arith, low, past)))
-
-pub le_false : (m n : ℕ) → n < m → nat_le m n ≡ false
-le_false m n low =
-    false_from_ne_true (nat_le m n) (λ is. let past = leb-true m n is in absurd (omega (arith, low, past)))
 
 -- one of the first elements is one of all
 taken : {X : Type 0} (xs : List X) (i : ℕ) (x : X) → Contains (take i xs) x → Contains xs x
 taken xs i x has =
     subst (λ ys. Contains ys x) (take-append-drop i xs) (Contains-append_left (take i xs) (drop i xs) x has)
 
-module _ (added : List SealedEntry) (below : ℕ) where
-  -- those with lower stamps
-  pub in_lower : (f : SealedEntry) → Contains (lower below added) f → Contains added f × (f.entry.stamp < below)
-  in_lower f has =
-      let (there, low) = Contains-filter_cases (λ (g : SealedEntry). nat_lt g.entry.stamp below) added f has in
-      (there, ltb-true f.entry.stamp below low)
+-- one of the entries is one of those with lower stamps, or of the others
+either : (added : List SealedEntry) (below : ℕ) (f : SealedEntry) → Contains added f →
+    Contains (lower below added) f ⊎ Contains (from_stamp below added) f
+either added below f has = elim (cases_lt f.entry.stamp below) [
+  | inl low ↦ inl (Contains-filter (λ (g : SealedEntry). nat_lt g.entry.stamp below) added f has
+      (lt-ltb f.entry.stamp below low))
+  | inr high ↦ inr (Contains-filter (λ (g : SealedEntry). nat_le below g.entry.stamp) added f has
+      (le-leb below f.entry.stamp high))
+]
 
-  -- one of the entries is one of those, or of the others
-  either : (f : SealedEntry) → Contains added f → Contains (lower below added) f ⊎ Contains (from_stamp below added) f
-  either f has = elim (cases_Bool (nat_lt f.entry.stamp below)) [
-    | inl low ↦ inl (Contains-filter (λ (g : SealedEntry). nat_lt g.entry.stamp below) added f has low)
-    | inr high ↦ inr (Contains-filter (λ (g : SealedEntry). nat_le below g.entry.stamp) added f has
-        (le-leb below f.entry.stamp (not_lower (f.entry.stamp) high)))
-  ]
-    where
-      -- what isn't lower is no lower
-      not_lower : (n : ℕ) → nat_lt n below ≡ false → below ≤ n
-      not_lower n high = elim (cases_lt n below) [
-        | inl low ↦ absurd (true≢false (sym (lt-ltb n below low) ∙ high))
-        | inr past ↦ past
-      ]
-
--- the graph of entries of which no two have one digest
-pub graph_of_apart : (given : List SealedEntry) (graph : EntryGraph SealedEntry) → Distinct node_of_sealed given →
-    IsSealedGraph given (Ok graph) → IsGraphOfGiven node_of_sealed given graph
-graph_of_apart given graph apart is =
-    graph_moved (distinct node_of_sealed given) given (λ f. (
-      distinct_given node_of_sealed given f,
-      λ has.
-          (let (g, there, same) = distinct_bears node_of_sealed given f has in
-          let one : g ≡ f = apart g f (distinct_given node_of_sealed given g there) has same in
-          subst (λ h. Contains (distinct node_of_sealed given) h) one there),
-    )) graph is.2
-
--- where there is no stray, all entries survive
-pub all_survive : (given : List SealedEntry) (graph : EntryGraph SealedEntry) →
-    IsGraphOfGiven node_of_sealed given graph → graph.strays ≡ [] → (f : SealedEntry) →
-    Contains graph.survivors f ↔ Contains given f
-all_survive given graph is none f = (
-  λ has. ((is.members f).0 has).0,
-  λ has. (is.members f).1 (
-    has,
-    λ stray. Contains-none f.digest
-        (subst (λ ds. Contains ds f.digest) none ((is.strays.members f.digest).1 (f, has, stray, refl))),
-  ),
+-- those that are distinct among entries of which no two have one digest are all
+same_distinct : (given : List SealedEntry) → Distinct node_of_sealed given →
+    AreSame (distinct node_of_sealed given) given
+same_distinct given apart f = (
+  distinct_given node_of_sealed given f,
+  λ has.
+      (let (g, there, same) = distinct_bears node_of_sealed given f has in
+      let one : g ≡ f = apart g f (distinct_given node_of_sealed given g there) has same in
+      subst (λ h. Contains (distinct node_of_sealed given) h) one there),
 )
 
--- the row at the place of an entry is the entry's
-pub row_at : (machines : List Post) (S : List SealedEntry) (seen : List Row) (i : ℕ) (e : SealedEntry) (row : Row) →
-    seen ≡ map (row_of machines) S → slice_get S i ≡ Some e → slice_get seen i ≡ Some row → row ≡ row_of machines e
-row_at machines S seen i e row same at there =
-    let (x, stands, gives) = mapped_at (row_of machines) S i row
-    (ap (λ (rs : List Row). slice_get rs i) (sym same) ∙ there) in
-    let both : Some x ≡ Some e = sym stands ∙ at in
-    let one : x ≡ e = cc in
-    sym gives ∙ ap (row_of machines) one
-
--- what is kept of entries with a summary is read off their graph
-pub graphed_base : (machines : List Post) (trees : List RuleTree) (given : List SealedEntry) (summary : Summary)
-    (kept : SurvivorsKept) (is : IsSummed machines trees given summary kept) → Distinct node_of_sealed given →
-    IsGraphed machines given is.after.graph summary.gaps kept
-graphed_base machines trees given summary kept is apart = record {
-  apart = apart;
-  graphed = graph_of_apart given is.after.graph apart is.after.graphed;
-  are_gaps = is.after.gaps;
-  survivors = is.survivors;
-}
+-- so their graph is what is answered of them
+pub sealed_apart : (machines : List Post) (given : List SealedEntry) (graph : EntryGraph SealedEntry) →
+    AreGiven machines given → IsGraphOfGiven node_of_sealed given graph → IsSealedGraph given (Ok graph)
+sealed_apart machines given graph are is = (
+  λ e f has also same. ap (λ (s : SealedEntry). s.text) (are.apart e f has also same),
+  (let fewer = distinct_shorter given in omega (arith, fewer, are.few)),
+  graph_moved given (distinct node_of_sealed given)
+      (turned (distinct node_of_sealed given) given (same_distinct given are.apart)) graph is,
+)
 
 -- after the base alone there is no other
 pub followed_none : (machines : List Post) (given : List SealedEntry) (first : EntryGraph SealedEntry)
@@ -208,156 +152,126 @@ module _ (machines : List Post) (given : List SealedEntry) (first : EntryGraph S
         ∙ append_assoc before.links is.links (link_to pushed.parents pushed.missing ∷ []);
   }
 
-module _ (machines : List Post) (trees : List RuleTree) (added : List SealedEntry) (e : SealedEntry) (below : ℕ)
-    (once : distinct node_of_sealed added ≡ added) (apart : Distinct node_of_sealed added)
-    (room : HasRoomFor added e) (now : EntryGraph SealedEntry) (is_now : IsSealedGraph added (Ok now)) (summary : Summary) (before : SurvivorsKept)
-    (base : IsSummed machines trees (lower below added) summary before) (graph : EntryGraph SealedEntry)
-    (later : IsSealedGraph (from_stamp below added ++ e ∷ []) (Ok graph)) (none : graph.strays ≡ []) where
-  -- the entries of the base, the later ones, and all
+module _ (machines : List Post) (trees : List RuleTree) (entries : List SealedEntry) (below : ℕ)
+    (given : AreGiven machines entries) (first : Summed)
+    (base : IsSummed machines trees (lower below entries) first.summary (kept_of first.survivors))
+    (later : List SealedEntry) (sorted : IsPermutation (from_stamp below entries) later) where
+  -- the first entries
   abbrev B : List SealedEntry
-  B = lower below added
+  B = lower below entries
 
-  abbrev L : List SealedEntry
-  L = from_stamp below added ++ e ∷ []
+  -- and those of the later ones that were given
+  abbrev high : List SealedEntry
+  high = from_stamp below entries
 
-  abbrev all : List SealedEntry
-  all = added ++ e ∷ []
-
-  -- no two of all have one digest
-  all_apart : Distinct node_of_sealed all
-  all_apart = apart_more added e apart room.0
-
-  from_base : (f : SealedEntry) → Contains B f → Contains all f
-  from_base f has = Contains-append_left added (e ∷ []) f (in_lower added below f has).0
-
-  from_later : (f : SealedEntry) → Contains L f → Contains all f
-  from_later f has = elim (Contains-push_cases (from_stamp below added) e f has) [
-    | inl old ↦ Contains-append_left added (e ∷ []) f
-        (Contains-filter_cases (λ (g : SealedEntry). nat_le below g.entry.stamp) added f old).0
-    | inr last ↦ subst (λ g. Contains all g) last (Contains-push added e)
-  ]
-
-  base_apart : Distinct node_of_sealed B
-  base_apart f g has also = all_apart f g (from_base f has) (from_base g also)
-
-  later_apart : Distinct node_of_sealed L
-  later_apart f g has also = all_apart f g (from_later f has) (from_later g also)
-
-  -- all of the later ones survive among themselves
-  survive : (f : SealedEntry) → Contains graph.survivors f ↔ Contains L f
-  survive = all_survive L graph (graph_of_apart L graph later_apart later) none
-
-  -- the base and the later ones are all
-  same : (f : SealedEntry) → Contains (B ++ graph.survivors) f ↔ Contains all f
+  -- the first and the later ones are all
+  same : (f : SealedEntry) → Contains (B ++ later) f ↔ Contains entries f
   same f = (
-    λ has. elim (Contains-append_cases B graph.survivors f has) [
-      | inl old ↦ from_base f old
-      | inr new ↦ from_later f ((survive f).0 new)
+    λ has. elim (Contains-append_cases B later f has) [
+      | inl old ↦ (in_lower entries below f old).0
+      | inr new ↦ (Contains-filter_cases (λ (g : SealedEntry). nat_le below g.entry.stamp) entries f
+          (Contains-permutation later high f (IsPermutation-sym high later sorted) new)).0
     ],
-    λ has. elim (Contains-push_cases added e f has) [
-      | inl old ↦ elim (either added below f old) [
-        | inl low ↦ Contains-append_left B graph.survivors f low
-        | inr high ↦ Contains-append_right B graph.survivors f
-            ((survive f).1 (Contains-append_left (from_stamp below added) (e ∷ []) f high))
-      ]
-      | inr last ↦ Contains-append_right B graph.survivors f
-          ((survive f).1 (subst (λ g. Contains L g) last (Contains-push (from_stamp below added) e)))
+    λ has. elim (either entries below f has) [
+      | inl low ↦ Contains-append_left B later f low
+      | inr past ↦ Contains-append_right B later f (Contains-permutation high later f sorted past)
     ],
   )
 
   -- so they can follow
-  pub can_follow : CanFollow B graph.survivors below
+  can_follow : CanFollow B later below
   can_follow = record {
-    below = λ f has. (in_lower added below f has).1;
-    apart = λ f g has also. all_apart f g ((same f).0 has) ((same g).0 also);
+    below = λ f has. (in_lower entries below f has).1;
+    apart = λ f g has also. given.apart f g ((same f).0 has) ((same g).0 also);
   }
 
-  pub first_graphed : IsGraphed machines B base.after.graph summary.gaps before
-  first_graphed = graphed_base machines trees B summary before base base_apart
+  -- what is kept of the first entries is read off their graph
+  first_graphed : IsGraphed machines B base.after.graph first.summary.gaps (kept_of first.survivors)
+  first_graphed =
+      let apart = (given_lower machines entries below given).apart in
+      record {
+        apart = apart;
+        graphed =
+            graph_moved (distinct node_of_sealed B) B (same_distinct B apart) base.after.graph base.after.graphed.2;
+        are_gaps = base.after.gaps;
+        survivors = base.survivors;
+      }
 
-  -- there are as many rows of the base as links
-  counted : length before.rows ≡ length before.links
-  counted =
-      let rows = ap length base.survivors.rows ∙ length-map base.after.graph.survivors (row_of machines) in
-      let links = ap length base.survivors.links in
-      omega (arith, rows, links, base.after.graphed.2.kept.linked.one_each)
+  module _ (tail : Tail) (follow : FollowOf machines below first later tail) where
+    -- the graph of all
+    is : IsFollowed machines B base.after.graph (kept_of first.survivors) later tail
+    is = follow B base.after.graph first_graphed can_follow
 
-  module _ (tail : Tail) (is : IsFollowed machines B base.after.graph before graph.survivors tail) where
-    pub tail_falls : Descends (parents_of tail.survivors.links.items)
-    tail_falls =
-        subst (λ (links : List Links). Descends (parents_of links)) (sym is.graphed.survivors.links)
-        is.graphed.graphed.kept.linked.arrows.descends
+    -- how many survivors were first
+    abbrev count : ℕ
+    count = length first.survivors.links.items
 
-    pub tail_one_each : length tail.survivors.rows.items ≡ length tail.survivors.links.items
-    tail_one_each =
+    -- their rows are the first
+    first_rows : take count tail.survivors.rows.items ≡ first.survivors.rows.items
+    first_rows =
+        let counted : length first.survivors.rows.items ≡ count =
+        (let rows = ap length base.survivors.rows ∙ length-map base.after.graph.survivors (row_of machines) in
+        let links = ap length base.survivors.links in
+        omega (arith, rows, links, base.after.graphed.2.kept.linked.one_each)) in
+        ap (take count) is.rows_are
+        ∙ take-append-le count first.survivors.rows.items is.rows (omega (arith, counted))
+        ∙ take_all count first.survivors.rows.items (omega (arith, counted))
+
+    -- and their links
+    first_links : take count tail.survivors.links.items ≡ first.survivors.links.items
+    first_links =
+        ap (take count) is.links_are ∙ take-append-le count first.survivors.links.items is.links (omega arith)
+        ∙ take_all count first.survivors.links.items (omega arith)
+
+    -- so the later survivors can be judged by the verdicts on the first
+    pub tail_growth : IsGrowth tail.survivors.rows.items tail.survivors.links.items count trees first.summary.verdicts
+    tail_growth =
         let rows = ap length is.graphed.survivors.rows ∙ length-map is.graph.survivors (row_of machines) in
         let links = ap length is.graphed.survivors.links in
-        omega (arith, rows, links, is.graphed.graphed.kept.linked.one_each)
-
-    pub tail_few : length tail.survivors.links.items ≤ 16384
-    tail_few =
-        let links = ap length is.graphed.survivors.links in
-        omega (arith, links, is.graphed.graphed.kept.linked.one_each, is.graphed.graphed.kept.few)
-
-    pub tail_first : length before.links ≤ length tail.survivors.links.items
-    tail_first = let links = ap length is.links_are in omega (arith, links, length-append before.links is.links)
-
-    -- the first of its rows and links are those of the base
-    pub tail_before : AreJudged (take (length before.links) tail.survivors.rows.items)
-        (nodes_by (take (length before.links) tail.survivors.links.items)) trees summary.verdicts
-    tail_before =
-        let rows : take (length before.links) tail.survivors.rows.items ≡ before.rows =
-        ap (take (length before.links)) is.rows_are
-        ∙ take-append-le (length before.links) before.rows is.rows (omega (arith, counted))
-        ∙ take_all (length before.links) before.rows (omega (arith, counted)) in
-        let links : take (length before.links) tail.survivors.links.items ≡ before.links =
-        ap (take (length before.links)) is.links_are
-        ∙ take-append-le (length before.links) before.links is.links (omega arith)
-        ∙ take_all (length before.links) before.links (omega arith) in
-        subst (λ (rs : List Row). AreJudged rs (nodes_by (take (length before.links) tail.survivors.links.items)) trees
-        summary.verdicts) (sym rows)
-        (subst (λ (ls : List Links). AreJudged before.rows (nodes_by ls) trees summary.verdicts) (sym links)
-        (subst (λ (ls : List Links). AreJudged before.rows (nodes_by ls) trees summary.verdicts)
-        (sym base.survivors.links)
-        (subst (λ (rs : List Row). AreJudged rs (nodes_of base.after.graph) trees summary.verdicts)
-        (sym base.survivors.rows) base.after.judged)))
-
-    -- the graph is what is answered of all
-    sealed_all : IsSealedGraph all (Ok is.graph)
-    sealed_all =
-        sealed_more added e now is.graph is_now once room
-        (graph_moved (B ++ graph.survivors) all same is.graph is.graphed.graphed)
+        let all = ap length is.links_are in
+        record {
+          falls =
+              subst (λ (ls : List Links). Descends (parents_of ls)) (sym is.graphed.survivors.links)
+              is.graphed.graphed.kept.linked.arrows.descends;
+          one_each = omega (arith, rows, links, is.graphed.graphed.kept.linked.one_each);
+          few = omega (arith, links, is.graphed.graphed.kept.linked.one_each, is.graphed.graphed.kept.few);
+          first = omega (arith, all, length-append first.survivors.links.items is.links);
+          judged =
+              subst (λ (rs : List Row). AreJudged rs (nodes_by (take count tail.survivors.links.items)) trees
+              first.summary.verdicts) (sym (first_rows ∙ base.survivors.rows))
+              (subst (λ (ls : List Links). AreJudged (map (row_of machines) base.after.graph.survivors) (nodes_by ls)
+              trees first.summary.verdicts) (sym (first_links ∙ base.survivors.links)) base.after.judged);
+        }
 
     -- what is said by verdicts on all rows is said of all entries
-    pub tail_summed : (said : Summary) (kept : SurvivorsKept) (verdicts : List Verdict) → said ≡ record {
+    pub tail_summed : (summed : Summed) → summed.summary ≡ record {
       survivors = length tail.survivors.links.items;
       gaps = tail.gaps.items;
-      strays = summary.strays;
-      forks = summary.forks;
-      verdicts = verdicts;
-    } → AreJudged tail.survivors.rows.items (nodes_by tail.survivors.links.items) trees verdicts →
-        kept ≡ kept_of tail.survivors → IsSummed machines trees all said kept
-    tail_summed said kept verdicts says judged held = record {
+      strays = first.summary.strays;
+      forks = first.summary.forks;
+      verdicts = summed.summary.verdicts;
+    } → AreJudged tail.survivors.rows.items (nodes_by tail.survivors.links.items) trees summed.summary.verdicts →
+        kept_of summed.survivors ≡ kept_of tail.survivors →
+        IsSummed machines trees entries summed.summary (kept_of summed.survivors)
+    tail_summed summed says judged held = record {
       after = record {
         graph = is.graph;
-        graphed = sealed_all;
+        graphed =
+            sealed_apart machines entries is.graph given
+            (graph_moved (B ++ later) entries same is.graph is.graphed.graphed);
         survivors = ap (λ (s : Summary). s.survivors) says ∙ ap length is.graphed.survivors.links
             ∙ is.graphed.graphed.kept.linked.one_each;
         gaps = ap (λ (s : Summary). s.gaps) says ∙ is.graphed.are_gaps;
         strays = ap (λ (s : Summary). s.strays) says ∙ base.after.strays ∙ sym is.strays;
         forks = ap (λ (s : Summary). s.forks) says ∙ base.after.forks ∙ sym is.forks;
         judged =
-            subst (λ (vs : List Verdict). AreJudged (map (row_of machines) is.graph.survivors) (nodes_of is.graph) trees
-            vs) (sym (ap (λ (s : Summary). s.verdicts) says))
-            (subst (λ (rs : List Row). AreJudged rs (nodes_of is.graph) trees verdicts) is.graphed.survivors.rows
-            (subst (λ (ls : List Links). AreJudged tail.survivors.rows.items (nodes_by ls) trees verdicts)
-            is.graphed.survivors.links judged));
+            subst (λ (rs : List Row). AreJudged rs (nodes_of is.graph) trees summed.summary.verdicts)
+            is.graphed.survivors.rows
+            (subst (λ (ls : List Links). AreJudged tail.survivors.rows.items (nodes_by ls) trees
+            summed.summary.verdicts) is.graphed.survivors.links judged);
       };
-      survivors = record {
-        digests = ap (λ (k : SurvivorsKept). k.digests) held ∙ is.graphed.survivors.digests;
-        rows = ap (λ (k : SurvivorsKept). k.rows) held ∙ is.graphed.survivors.rows;
-        links = ap (λ (k : SurvivorsKept). k.links) held ∙ is.graphed.survivors.links;
-      };
+      survivors =
+          subst (λ (k : SurvivorsKept). AreSurvivorsOf machines is.graph k) (sym held) is.graphed.survivors;
     }
 
 -- what three clauses say of what is found, taken together
@@ -368,34 +282,40 @@ three_said (Err fault) both p q r = tt
 three_said (Ok None) both p q r = tt
 three_said (Ok (Some x)) both p q r = both x p q r
 
--- the later entries have makers
-pub later_makers : (machines : List Post) (below : ℕ) (added : List SealedEntry) (e : SealedEntry) →
-    All (IsOfMachine machines) added → IsOfMachine machines e →
-    HaveMakers machines (from_stamp below added ++ e ∷ [])
-later_makers machines below added e each last =
-    have_makers machines (from_stamp below added ++ e ∷ [])
-    (All-push (IsOfMachine machines) (from_stamp below added) e
-    (All-filter (λ (g : SealedEntry). nat_le below g.entry.stamp) (IsOfMachine machines) added each) last)
+-- of none the stamp is lower than 0
+pub lower_none : (entries : List SealedEntry) → lower 0 entries ≡ []
+lower_none [] = refl
+lower_none (e ∷ es) = rw (lt_false e.entry.stamp 0 (omega arith), lower_none es) refl
+
+-- where all stamps are lower those with lower stamps are all
+pub lower_all : (below : ℕ) (entries : List SealedEntry) →
+    list_all (λ (f : SealedEntry). nat_lt f.entry.stamp below) entries ≡ true → lower below entries ≡ entries
+lower_all below [] all = refl
+lower_all below (e ∷ es) all =
+    by (nat_lt e.entry.stamp below) all (λ rest. ap (λ (fs : List SealedEntry). e ∷ fs) (lower_all below es rest))
+  where
+    -- by whether the first is lower
+    by : (b : Bool) → (b && list_all (λ (f : SealedEntry). nat_lt f.entry.stamp below) es) ≡ true →
+        (list_all (λ (f : SealedEntry). nat_lt f.entry.stamp below) es ≡ true → e ∷ lower below es ≡ e ∷ es) →
+        cond b (e ∷ lower below es) (lower below es) ≡ e ∷ es
+    by true rest deeper = deeper rest
+    by false rest deeper = absurd (true≢false (sym rest))
+
+-- of those with lower stamps those with still lower ones are those of all
+pub lower_lower : (low below : ℕ) (entries : List SealedEntry) → low ≤ below →
+    lower low (lower below entries) ≡ lower low entries
+lower_lower low below [] under = refl
+lower_lower low below (e ∷ es) under = elim (cases_lt e.entry.stamp below) [
+  | inl less ↦
+      rw (lt-ltb e.entry.stamp below less)
+      (ap (λ (fs : List SealedEntry). cond (nat_lt e.entry.stamp low) (e ∷ fs) fs) (lower_lower low below es under))
+  | inr past ↦
+      rw (lt_false e.entry.stamp below past, lt_false e.entry.stamp low (omega (arith, past, under)))
+      (lower_lower low below es under)
+]
 
 -- an entry that isn't below leaves those that are
 pub lower_more : (below : ℕ) (added : List SealedEntry) (e : SealedEntry) → below ≤ e.entry.stamp →
     lower below (added ++ e ∷ []) ≡ lower below added
 lower_more below added e past =
     filter_drops (λ (g : SealedEntry). nat_lt g.entry.stamp below) added e (lt_false e.entry.stamp below past)
-
--- so the base stays
-pub base_more : (machines : List Post) (rules : List Rule) (added : List SealedEntry) (e : SealedEntry) (base : Base) →
-    base.below ≤ e.entry.stamp → IsBase machines rules added base → IsBase machines rules (added ++ e ∷ []) base
-base_more machines rules added e base past is =
-    subst (λ (es : List SealedEntry). IsSummed machines (map rule_tree rules) es base.summed.summary
-    (kept_of base.summed.survivors)) (sym (lower_more base.below added e past)) is
-
--- as it is said of what is added
-pub based : (machines : List Post) (rules seen : List Rule) (listed before now : List SealedEntry) (e : SealedEntry)
-    (base : Base) (stamp : ℕ) → seen ≡ rules → listed ≡ before → now ≡ before ++ e ∷ [] → stamp ≡ e.entry.stamp →
-    base.below ≤ stamp → IsBase machines seen listed base → IsBase machines rules now base
-based machines rules seen listed before now e base stamp same all added is past kept =
-    subst (λ (rs : List Rule). IsBase machines rs now base) same
-    (subst (λ (es : List SealedEntry). IsBase machines seen es base) (sym added)
-    (subst (λ (es : List SealedEntry). IsBase machines seen (es ++ e ∷ []) base) all
-    (base_more machines seen listed e base (omega (arith, past, is)) kept)))

@@ -1,6 +1,6 @@
 -- Lists with one element more at their end.
 use Rattle.std.proofs.Common.{◌≡◌}
-use Rattle.live_auditor.proofs.Imports.{◌∙◌, ap, refl, sym, subst, ℕ, zero, suc, ◌<◌, ◌≤◌, Some, List, [], ◌∷◌, ◌++◌}
+use Rattle.live_auditor.proofs.Imports.{◌∙◌, ap, refl, sym, subst, ℕ, zero, suc, ◌<◌, Some, List, [], ◌∷◌, ◌++◌, take}
 use Rattle.live_auditor.proofs.Imports.{length, arith, length-append, inl, inr, slice_get, ◌⊎◌, Contains, cases_order}
 use Rattle.live_auditor.proofs.Imports.{Contains-get_or, slice_get_within, get_or_from_slice_get}
 
@@ -11,23 +11,17 @@ slice_get_old [] x i low = absurd (omega arith)
 slice_get_old (y ∷ ys) x zero low = refl
 slice_get_old (y ∷ ys) x (suc i) low = slice_get_old ys x i (omega arith)
 
--- or when others are
-pub slice_get_left : {X : Type 0} (xs ys : List X) (i : ℕ) → i < length xs → slice_get (xs ++ ys) i ≡ slice_get xs i
-slice_get_left [] ys i low = absurd (omega arith)
-slice_get_left (x ∷ xs) ys zero low = refl
-slice_get_left (x ∷ xs) ys (suc i) low = slice_get_left xs ys i (omega arith)
+-- the first elements are where they were
+pub slice_get_take : {X : Type 0} (n : ℕ) (xs : List X) (i : ℕ) → i < n → slice_get (take n xs) i ≡ slice_get xs i
+slice_get_take zero xs i low = absurd (omega arith)
+slice_get_take (suc n) [] i low = refl
+slice_get_take (suc n) (x ∷ xs) zero low = refl
+slice_get_take (suc n) (x ∷ xs) (suc i) low = slice_get_take n xs i (omega arith)
 
 -- an element that is put after a list comes at its length
 pub slice_get_last : {X : Type 0} (xs : List X) (x : X) → slice_get (xs ++ x ∷ []) (length xs) ≡ Some x
 slice_get_last [] x = refl
 slice_get_last (y ∷ ys) x = slice_get_last ys x
-
--- at the last place
-pub slice_get_end : {X : Type 0} (xs : List X) (x : X) (i : ℕ) → length xs ≤ i → i < length (xs ++ x ∷ []) →
-    slice_get (xs ++ x ∷ []) i ≡ Some x
-slice_get_end xs x i past within =
-    let end : i ≡ length xs = omega (arith, past, within, length-append xs (x ∷ [])) in
-    ap (slice_get (xs ++ x ∷ [])) end ∙ slice_get_last xs x
 
 -- a place of a list with one element more is one of the list, or the last
 pub at_cases : {X : Type 0} (xs : List X) (x : X) (i : ℕ) (y : X) → slice_get (xs ++ x ∷ []) i ≡ Some y →

@@ -1,11 +1,9 @@
 -- What is found of the names of an entry, and of an appended one.
 use Rattle.std.proofs.Common.{◌≡◌}
-use Rattle.live_auditor.proofs.Imports.{◌∙◌, ap, sym, subst, ℕ, ◌+◌, ◌-◌, ◌<◌, ◌≤◌, List, [], ◌∷◌, ◌++◌, length}
-use Rattle.live_auditor.proofs.Imports.{get_or, take, inl, inr, arith, false, Some, slice_get, ◌⊎◌, IfSome, Contains}
-use Rattle.live_auditor.proofs.Imports.{bytes_eq, cases_lt, true≢false, take_more, Contains-append_left}
-use Rattle.live_auditor.proofs.Imports.{Contains-push, Contains-push_cases, slice_get-get_or, bytes_eq-Decides}
-use Rattle.live_auditor.proofs.Imports.{SealedEntry, Row, Appended, FindsNames, IsAppendedBy}
-use Rattle.std.specs.Prelude.{Option}
+use Rattle.live_auditor.proofs.Imports.{◌∙◌, ap, sym, subst, ℕ, ◌+◌, ◌-◌, ◌<◌, ◌≤◌, List, [], ◌∷◌, ◌++◌, length, get_or}
+use Rattle.live_auditor.proofs.Imports.{take, inl, inr, arith, false, Some, slice_get, ◌⊎◌, Contains, bytes_eq}
+use Rattle.live_auditor.proofs.Imports.{cases_lt, true≢false, take_more, Contains-append_left, Contains-push}
+use Rattle.live_auditor.proofs.Imports.{Contains-push_cases, slice_get-get_or, bytes_eq-Decides, FindsNames}
 
 module _ (digests names : List (List ℕ)) (i : ℕ) (d : List ℕ) (within : i < length names) where
   -- the next name
@@ -98,14 +96,3 @@ looked_at digests d place item stands other none k past low at = elim (cases_lt 
       true≢false (sym ((bytes_eq-Decides item d).1 same) ∙ other))
   | inr later ↦ none k later low at
 ]
-
--- what is found of an appended entry says that it is one
-pub appended_found : (added : List SealedEntry) (seen gaps digests : List (List ℕ)) (rows : List Row) (e : SealedEntry)
-    (found : Option Appended) (appended : Appended) → seen ≡ gaps → found ≡ Some appended →
-    IfSome found (λ u. IsAppendedBy added seen digests rows e u.named.parents.items u.named.missing.items) →
-    IsAppendedBy added gaps digests rows e appended.named.parents.items appended.named.missing.items
-appended_found added seen gaps digests rows e found appended same is shown =
-    let there = subst (λ (o : Option Appended).
-    IfSome o (λ u. IsAppendedBy added seen digests rows e u.named.parents.items u.named.missing.items)) is shown in
-    subst (λ (ds : List (List ℕ)).
-    IsAppendedBy added ds digests rows e appended.named.parents.items appended.named.missing.items) same there

@@ -1,17 +1,16 @@
 -- The graph with an appended entry more.
 use Rattle.std.proofs.Common.{◌≡◌}
-use Rattle.live_auditor.proofs.Imports.{◌∙◌, ap, refl, sym, subst, ℕ, suc, ◌<◌, true, false, Some, List, [], ◌∷◌}
-use Rattle.live_auditor.proofs.Imports.{◌++◌, length, get_or, arith, inl, inr, length-append, slice_get, not, ◌==◌}
-use Rattle.live_auditor.proofs.Imports.{◌↔◌, ◌⊎◌, Contains, cases_Bool, cases_order, true≢false, Contains-append_left}
+use Rattle.live_auditor.proofs.Imports.{◌∙◌, ap, refl, sym, subst, ℕ, suc, ◌<◌, true, false, Some, List, [], ◌∷◌, ◌++◌}
+use Rattle.live_auditor.proofs.Imports.{length, get_or, arith, inl, inr, length-append, slice_get, not, ◌==◌, ◌↔◌, ◌⊎◌}
+use Rattle.live_auditor.proofs.Imports.{Contains, cases_Bool, cases_order, true≢false, Contains-append_left}
 use Rattle.live_auditor.proofs.Imports.{Contains-append_right, Contains-append_cases, Contains-push}
 use Rattle.live_auditor.proofs.Imports.{Contains-push_cases, Contains-get_or, all_pairs_push, slice_get_within}
 use Rattle.live_auditor.proofs.Imports.{slice_get_past, ascending, Descends, Node, Names, IsNew, IsBorneIn, IsNamedIn}
-use Rattle.live_auditor.proofs.Imports.{IsGraphOf, NamesNoGap, IsStray, is_stray, gaps, IsGaps}
-use Rattle.live_auditor.proofs.Imports.{Contains-ascending, Contains-ascending_cases, ascending_ascending}
-use Rattle.live_auditor.proofs.Imports.{gaps_are_unique, Contains-head, Contains-none, is_stray_of, is_stray_from}
-use Rattle.live_auditor.proofs.Imports.{EntryGraph, Links, parents_in, ragged_in, parents_of}
-use Rattle.live_auditor.proofs.Imports.{ragged_of, IsLower, AreStrays, IsFork, AreForks, IsGraphOfGiven, link_to}
-use Rattle.live_auditor.proofs.Imports.{IsAppended, AreParents, AreMissing, grown}
+use Rattle.live_auditor.proofs.Imports.{IsGraphOf, NamesNoGap, IsStray, is_stray, gaps, IsGaps, Contains-ascending}
+use Rattle.live_auditor.proofs.Imports.{Contains-ascending_cases, ascending_ascending, gaps_are_unique, Contains-head}
+use Rattle.live_auditor.proofs.Imports.{Contains-none, is_stray_of, is_stray_from, EntryGraph, Links, parents_in}
+use Rattle.live_auditor.proofs.Imports.{ragged_in, parents_of, ragged_of, IsLower, AreStrays, IsFork, AreForks}
+use Rattle.live_auditor.proofs.Imports.{IsGraphOfGiven, link_to, IsAppended, AreParents, AreMissing, grown}
 use Rattle.live_auditor.proofs.Ends.{slice_get_old, slice_get_last, at_cases, at_contains}
 
 -- a list without members is empty, as its length shows

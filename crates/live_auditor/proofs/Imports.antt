@@ -13,7 +13,7 @@ pub use Rattle.entry_format.specs.SealedEntry.{SealedEntry}
 pub use Rattle.entry_format.specs.Sealing.{IsSealed}
 pub use Rattle.entry_format.specs.Unsealing.{key_at}
 pub use Rattle.entry_format.specs.declared.entry.Entry.{Entry}
-pub use Rattle.entry_graph.proofs.DistinctFacts.{distinct_given, distinct_new, no_collision_new}
+pub use Rattle.entry_graph.proofs.DistinctFacts.{distinct_given, distinct_new}
 pub use Rattle.entry_graph.specs.EntryGraph.{AreForks, AreStrays, EntryGraph, IsFork, IsGraphOfGiven, IsLower, Links}
 pub use Rattle.entry_graph.specs.EntryGraph.{parents_in, parents_of, ragged_in, ragged_of}
 pub use Rattle.entry_graph.specs.Given.{distinct}
@@ -30,7 +30,6 @@ pub use Rattle.entry_order.specs.Settled.{IsGraphOf, NamesNoGap}
 pub use Rattle.entry_order.specs.Survivors.{IsGaps, IsStray, gaps, is_stray}
 pub use Rattle.entry_order.specs.declared.three.Three.{Three}
 pub use Rattle.entry_order.specs.declared.three.Three.TheVariants.{False, True, Unknown}
-pub use Rattle.evidence.proofs.Survivors.{survivors_distinct}
 pub use Rattle.evidence.specs.Graphs.{IsSealedGraph}
 pub use Rattle.evidence.specs.OneAnswer.{EntriesGiveOneGraph}
 pub use Rattle.evidence.specs.Same.{SameGraph}
@@ -38,12 +37,10 @@ pub use Rattle.live_auditor.specs.Adding.{Collides, HasRoomFor, IsTooWideOver}
 pub use Rattle.live_auditor.specs.Live.{IsOfMachine, LiveState}
 pub use Rattle.live_auditor.specs.Same.{AreOneVerdict, OrdersGiveOneSummary}
 pub use Rattle.live_auditor.specs.Summary.{Summary}
-pub use Rattle.live_auditor.specs.declared.growth.Growth.{Growth}
 pub use Rattle.live_auditor.specs.declared.summary.Summed.{Summed}
-pub use Rattle.live_auditor.specs.declared.appended.Appended.{Appended}
-pub use Rattle.live_auditor.specs.inside.Found.{FindsNames, IsApartBy, IsAppendedBy}
-pub use Rattle.live_auditor.specs.inside.Grown.{AreJudgedOver, kept_with, said_with}
-pub use Rattle.live_auditor.specs.inside.Kept.{IsGraphed, IsKept, IsSummed, SurvivorsKept, link_to, live_of}
+pub use Rattle.live_auditor.specs.inside.Found.{FindsNames, IsApartBy}
+pub use Rattle.live_auditor.specs.inside.Grown.{AreJudgedOver, IsGrowth, kept_with}
+pub use Rattle.live_auditor.specs.inside.Kept.{AreGiven, IsGraphed, IsKept, IsSummed, SurvivorsKept, link_to, live_of}
 pub use Rattle.live_auditor.specs.inside.Kept.{nodes_by}
 pub use Rattle.live_auditor.specs.inside.KeptOf.{IsSummedBy, kept_of}
 pub use Rattle.live_auditor.specs.inside.Unsummed.{IsUnsummed}
@@ -52,11 +49,11 @@ pub use Rattle.precedence.specs.Graph.{Graph}
 pub use Rattle.precedence.specs.Known.{IsKnownOf, Known, known_before, known_whole}
 pub use Rattle.roster.specs.declared.post.Post.{Post}
 pub use Rattle.rule_engine.proofs.Graphs.{same_answer}
-pub use Rattle.rule_engine.proofs.OneByOne.{first_too_wide, judged_more, wide_by}
+pub use Rattle.rule_engine.proofs.OneByOne.{judged_more}
 pub use Rattle.rule_engine.specs.Growth.{ComesBeforeNone, Ready}
 pub use Rattle.rule_engine.specs.Verdicts.{IsJudgeAnswer}
 pub use Rattle.rule_engine.specs.declared.rules.Unjudged.{Unjudged}
-pub use Rattle.rule_engine.specs.declared.rules.Unjudged.TheVariants.{Memory, TooWide}
+pub use Rattle.rule_engine.specs.declared.rules.Unjudged.TheVariants.{TooWide}
 pub use Rattle.rule_engine.specs.declared.verdict.Verdict.{Verdict}
 pub use Rattle.rule_language.specs.Forms.{rule_tree}
 pub use Rattle.rule_language.specs.Trees.{RuleTree}
@@ -64,9 +61,9 @@ pub use Rattle.rule_language.specs.declared.formula.Rule.{Rule}
 pub use Rattle.rule_language.specs.declared.row.Row.{Row}
 pub use Rattle.rule_meaning.specs.Kleene.{is_true}
 pub use Rattle.sha2.specs.Sha256.{sha256}
-pub use Rattle.std.proofs.Common.{Bool, List, None, Some, [], ap, arith, cond, eq-eqb, false, get_or, inl, inr}
-pub use Rattle.std.proofs.Common.{length, length-append, map, refl, rules, subst, suc, sym, take, true, zero, ℕ, ◌++◌}
-pub use Rattle.std.proofs.Common.{◌+◌, ◌-◌, ◌<◌, ◌∙◌, ◌∷◌, ◌≤◌}
+pub use Rattle.std.proofs.Common.{Bool, List, None, Some, [], ap, arith, cond, eq-eqb, false, get_or, inl, inr, length}
+pub use Rattle.std.proofs.Common.{length-append, map, refl, rules, subst, suc, sym, take, true, zero, ℕ, ◌++◌, ◌+◌, ◌-◌}
+pub use Rattle.std.proofs.Common.{◌<◌, ◌∙◌, ◌∷◌, ◌≤◌}
 pub use Rattle.std.proofs.lemmas.Bool.{and_from, cases_Bool, cases_lt, cases_order, ltb-true, or_from, true≢false}
 pub use Rattle.std.proofs.lemmas.List.{length-map, length-take-le, map-append, take_all, take_more}
 pub use Rattle.std.proofs.lemmas.List.Elements.{All-contains, All-push, Contains-append_cases, Contains-append_left}
@@ -79,6 +76,5 @@ pub use Rattle.std.proofs.lemmas.Result.{IfErr-weaker, IfOk-weaker}
 pub use Rattle.std.proofs.lemmas.Slice.Eq.{bytes_eq-Decides}
 pub use Rattle.std.specs.List.{AllZip, Contains, list_all, list_any}
 pub use Rattle.std.specs.Option.{option_map}
-pub use Rattle.std.specs.Prelude.{All, Err, IfOk, IfSome, Ok, Result, nat_lt, not, slice_get, ◌&&◌, ◌==◌, ◌||◌, ◌↔◌}
-pub use Rattle.std.specs.Prelude.{◌≢◌, ◌⊎◌}
+pub use Rattle.std.specs.Prelude.{All, IfSome, Ok, nat_lt, not, slice_get, ◌&&◌, ◌==◌, ◌||◌, ◌↔◌, ◌≢◌, ◌⊎◌}
 pub use Rattle.std.specs.Str.{bytes_eq}

@@ -1,16 +1,17 @@
 -- What is kept of survivors, read off a graph.
 use Rattle.std.proofs.Common.{◌≡◌}
-use Rattle.live_auditor.proofs.Imports.{◌∙◌, ap, refl, sym, subst, ℕ, Bool, ◌+◌, ◌<◌, List, [], ◌∷◌, ◌++◌}
-use Rattle.live_auditor.proofs.Imports.{map, length, get_or, take, arith, length-append, Some}
-use Rattle.live_auditor.proofs.Imports.{slice_get, Ok, All, take_more}
-use Rattle.live_auditor.proofs.Imports.{map-append, All-push, get_or_from_slice_get, slice_get-get_or}
-use Rattle.live_auditor.proofs.Imports.{SealedEntry}
-use Rattle.live_auditor.proofs.Imports.{node_of_sealed, EntryGraph, Links, parents_in, ragged_in, parents_of}
-use Rattle.live_auditor.proofs.Imports.{ragged_of, distinct, IsSealedGraph, Post, Rule, Row}
-use Rattle.live_auditor.proofs.Imports.{rule_tree, RuleTree, Verdict, HasRoomFor, IsOfMachine}
-use Rattle.live_auditor.proofs.Imports.{Summary, Summed, said_with, kept_with, SurvivorsKept, IsKept, IsSummed}
-use Rattle.live_auditor.proofs.Imports.{IsSummedBy, kept_of}
-use Rattle.live_auditor.proofs.Additions.{once_more}
+use Rattle.live_auditor.proofs.Imports.{◌∙◌, ap, refl, sym, subst, ℕ, Bool, ◌+◌, ◌<◌, List, [], ◌∷◌, ◌++◌, map, length}
+use Rattle.live_auditor.proofs.Imports.{get_or, take, arith, Some, slice_get, Ok, All, take_more, map-append}
+use Rattle.live_auditor.proofs.Imports.{get_or_from_slice_get, slice_get-get_or, SealedEntry, node_of_sealed}
+use Rattle.live_auditor.proofs.Imports.{EntryGraph, Links, parents_in, ragged_in, parents_of, ragged_of, distinct}
+use Rattle.live_auditor.proofs.Imports.{IsSealedGraph, Post, Rule, rule_tree, RuleTree, HasRoomFor, IsOfMachine}
+use Rattle.live_auditor.proofs.Imports.{Summary, Summed, SurvivorsKept, IsKept, IsSummed, IsSummedBy, kept_of, AreGiven}
+use Rattle.live_auditor.proofs.Imports.{live_of, ◌≤◌}
+use Rattle.live_auditor.proofs.Additions.{given_live, given_more, once_more}
+use Rattle.live_auditor.proofs.AfterBase.{lower_more}
+use Rattle.live_auditor.specs.declared.base.Base.{Base}
+use Rattle.live_auditor.specs.inside.Base.{IsBase}
+use Rattle.live_auditor.specs.inside.Stamps.{lower}
 
 -- the first elements, mapped, and one more
 pub mapped_more : {X Y : Type 0} (f : X → Y) (xs : List X) (i : ℕ) (x : X) (y : Y) (ys new : List Y) → i < length xs →
@@ -68,45 +69,37 @@ first_kept machines rules trees entries added summary kept same none also is =
       survivors = moved.survivors;
     }
 
--- with an entry more it stays one
-pub kept_more : (machines : List Post) (rules : List Rule) (trees : List RuleTree)
-    (added entries now : List SealedEntry) (before summary : Summary) (old kept : SurvivorsKept) (e : SealedEntry) →
-    IsKept (record { machines = machines; rules = rules; added = added; summary = before }) old →
-    IsOfMachine machines e → HasRoomFor added e → entries ≡ added ++ e ∷ [] → now ≡ added ++ e ∷ [] →
-    trees ≡ map rule_tree rules → IsSummed machines trees entries summary kept →
-    IsKept (record { machines = machines; rules = rules; added = now; summary = summary }) kept
-kept_more machines rules trees added entries now before summary old kept e is of_machine room all stands same summed =
-    let moved = subst (λ (es : List SealedEntry). IsSummed machines (map rule_tree rules) es summary kept)
-    (all ∙ sym stands) (subst (λ (ts : List RuleTree). IsSummed machines ts entries summary kept) same summed) in
-    record {
-      live = record {
-        few = omega (arith, ap length stands, length-append added (e ∷ []), room.1);
-        of_machines = subst (All (IsOfMachine machines)) (sym stands)
-            (All-push (IsOfMachine machines) added e is.live.of_machines of_machine);
-        once = subst (λ es. distinct node_of_sealed es ≡ es) (sym stands) (once_more added e is.live.once room.0);
-        after = moved.after;
-      };
-      survivors = moved.survivors;
-    }
-
--- the audit is kept with one survivor more, when what is said and kept is put together
-pub kept_grown : (machines : List Post) (rules seen : List Rule) (added listed now : List SealedEntry)
-    (before summary : Summary) (old kept : SurvivorsKept) (e : SealedEntry) (gaps : List (List ℕ))
-    (verdicts : List Verdict) (rows : List Row) (link : Links) →
-    IsKept (record { machines = machines; rules = rules; added = added; summary = before }) old →
-    IsOfMachine machines e → HasRoomFor added e → seen ≡ rules → listed ≡ added → now ≡ added ++ e ∷ [] →
-    summary ≡ said_with before gaps verdicts → kept ≡ kept_with old e.digest rows link →
-    IsSummed machines (map rule_tree seen) (listed ++ e ∷ []) (said_with before gaps verdicts)
-    (kept_with old e.digest rows link) →
-    IsKept (record { machines = machines; rules = rules; added = now; summary = summary }) kept
-kept_grown machines rules seen added listed now before summary old kept e gaps verdicts rows link is of_machine room
-    same all stands said held summed =
-    let trees = map rule_tree seen in
-    let moved = subst (λ (k : SurvivorsKept). IsSummed machines trees (listed ++ e ∷ []) summary k) (sym held)
-    (subst (λ (s : Summary). IsSummed machines trees (listed ++ e ∷ []) s (kept_with old e.digest rows link)) (sym said)
-    summed) in
-    kept_more machines rules trees added (listed ++ e ∷ []) now before summary old kept e is of_machine room
-    (ap (λ (es : List SealedEntry). es ++ e ∷ []) all) stands (ap (map rule_tree) same) moved
+-- with an entry more it stays one, and so does its base
+pub kept_next : (machines : List Post) (rules seen : List Rule) (added listed now : List SealedEntry)
+    (old summed : Summed) (base : Base) (e : SealedEntry) →
+    IsKept (live_of machines rules added old.summary) (kept_of old.survivors) → IsOfMachine machines e →
+    HasRoomFor added e → seen ≡ rules → listed ≡ added → now ≡ added ++ e ∷ [] →
+    IsSummed machines (map rule_tree seen) (listed ++ e ∷ []) summed.summary (kept_of summed.survivors) →
+    base.below ≤ e.entry.stamp → IsBase machines seen listed base →
+    IsKept (live_of machines rules now summed.summary) (kept_of summed.survivors) × IsBase machines rules now base
+kept_next machines rules seen added listed now old summed base e is machine room same all stands said past based =
+    let given = subst (AreGiven machines) (sym stands)
+    (given_more machines added e (given_live (live_of machines rules added old.summary) is.live) machine room) in
+    let moved = subst (λ (es : List SealedEntry).
+    IsSummed machines (map rule_tree rules) es summed.summary (kept_of summed.survivors))
+    (ap (λ (es : List SealedEntry). es ++ e ∷ []) all ∙ sym stands)
+    (subst (λ (rs : List Rule). IsSummed machines (map rule_tree rs) (listed ++ e ∷ []) summed.summary
+    (kept_of summed.survivors)) same said) in
+    let lower_ones : lower base.below listed ≡ lower base.below now =
+    ap (lower base.below) all ∙ sym (lower_more base.below added e past) ∙ ap (lower base.below) (sym stands) in (
+      record {
+        live = record {
+          few = given.few;
+          of_machines = given.of_machines;
+          once = subst (λ es. distinct node_of_sealed es ≡ es) (sym stands) (once_more added e is.live.once room.0);
+          after = moved.after;
+        };
+        survivors = moved.survivors;
+      },
+      subst (λ (es : List SealedEntry). IsSummed machines (map rule_tree rules) es base.summed.summary
+          (kept_of base.summed.survivors)) lower_ones
+          (subst (λ (rs : List Rule). IsBase machines rs listed base) same based),
+    )
 
 -- links with the same parents and the same mark are the same
 pub same_links : (parents others : List ℕ) (ragged torn : Bool) → parents ≡ others → ragged ≡ torn →

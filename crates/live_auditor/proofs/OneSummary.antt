@@ -1,18 +1,17 @@
 -- Entries have one summary, in whatever order they came.
 use Rattle.std.proofs.Common.{◌≡◌}
 use Rattle.live_auditor.proofs.Imports.{◌∙◌, ◌≤◌, List, length, map, ap, sym, subst, arith, ◌↔◌, Ok, AllZip, Contains}
-use Rattle.live_auditor.proofs.Imports.{length-map, Descends, IsStray, SealedEntry}
-use Rattle.live_auditor.proofs.Imports.{node_of_sealed, distinct, EntryGraph, IsGraphOfGiven, parents_of, Post, Rule}
-use Rattle.live_auditor.proofs.Imports.{rule_tree, Verdict, IsSealedGraph, EntriesGiveOneGraph, SameGraph, AreJudged}
-use Rattle.live_auditor.proofs.Imports.{nodes_of, row_of, standard, SameVerdict, verdicts_agree, AreOneVerdict}
-use Rattle.live_auditor.proofs.Imports.{OrdersGiveOneSummary}
+use Rattle.live_auditor.proofs.Imports.{length-map, Descends, IsStray, SealedEntry, node_of_sealed, distinct}
+use Rattle.live_auditor.proofs.Imports.{EntryGraph, IsGraphOfGiven, parents_of, Post, Rule, rule_tree, Verdict}
+use Rattle.live_auditor.proofs.Imports.{IsSealedGraph, EntriesGiveOneGraph, SameGraph, AreJudged, nodes_of, row_of}
+use Rattle.live_auditor.proofs.Imports.{standard, SameVerdict, verdicts_agree, AreOneVerdict, OrdersGiveOneSummary}
 
 -- verdicts that agree are one
 one_each : (vs ws : List Verdict) → AllZip SameVerdict vs ws → AllZip AreOneVerdict vs ws
 one_each vs ws same = same
 
 -- lists with the same entries
-abbrev AreSame : List SealedEntry → List SealedEntry → Type 0
+abbrev pub AreSame : List SealedEntry → List SealedEntry → Type 0
 AreSame given other = (e : SealedEntry) → Contains given e ↔ Contains other e
 
 -- what is a stray among entries is one among the same
@@ -21,7 +20,7 @@ stray_moved : (given other : List SealedEntry) → AreSame given other → (e : 
 stray_moved given other same e (g, has, names, late) = (g, (same g).0 has, names, late)
 
 -- the same the other way round
-turned : (given other : List SealedEntry) → AreSame given other → AreSame other given
+pub turned : (given other : List SealedEntry) → AreSame given other → AreSame other given
 turned given other same e = ((same e).1, (same e).0)
 
 -- a survivor among entries is one among the same

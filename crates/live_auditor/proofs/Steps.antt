@@ -1,35 +1,15 @@
 -- An appended entry more: what is kept, and what is said then.
-use Rattle.std.proofs.Common.{◌≡◌}
-use Rattle.std.proofs.Common.{Option}
-use Rattle.live_auditor.proofs.Imports.{◌∙◌, ap, refl, sym, subst, ℕ, ◌<◌, ◌≤◌, Bool, true, false, Some, None, List}
-use Rattle.live_auditor.proofs.Imports.{[], ◌∷◌, ◌++◌, map, length, arith, length-append, inl, inr, eq-eqb, slice_get}
-use Rattle.live_auditor.proofs.Imports.{◌&&◌, ◌==◌, ◌⊎◌, nat_lt, Ok, Contains, list_all, list_any, bytes_eq}
-use Rattle.live_auditor.proofs.Imports.{option_map, true≢false, ltb-true, and_from, length-map, map-append}
-use Rattle.live_auditor.proofs.Imports.{slice_get-map, bytes_eq-Decides, Descends, ascending, Contains-cons_cases}
-use Rattle.live_auditor.proofs.Imports.{Contains-none, Contains-map, list_any_of}
-use Rattle.live_auditor.proofs.Imports.{SealedEntry, node_of_sealed, EntryGraph, Links, IsGraphOfGiven, parents_of}
-use Rattle.live_auditor.proofs.Imports.{distinct, no_collision_new, IsSealedGraph, survivors_distinct, Row, rule_tree}
-use Rattle.live_auditor.proofs.Imports.{Verdict, AreJudged, IsFirstTooWide, nodes_of, row_of, HasRoomFor, LiveState}
-use Rattle.live_auditor.proofs.Imports.{Unjudged, TooWide, Memory, IsApartBy, IsAppendedBy, said_with, kept_with}
-use Rattle.live_auditor.proofs.Imports.{SurvivorsKept, IsGraphed, Post, RuleTree, IsNew}
-use Rattle.live_auditor.proofs.Imports.{IsKept, IsSummed, link_to, nodes_by, IsUnjudged, IsUnsummed, IsAppended}
-use Rattle.live_auditor.proofs.Imports.{AreParents, AreMissing, grown}
-use Rattle.live_auditor.proofs.Additions.{added_apart, apart_more, sealed_more}
+use Rattle.std.proofs.Common.{◌≡◌, Option}
+use Rattle.live_auditor.proofs.Imports.{◌∙◌, ap, refl, sym, subst, ℕ, ◌<◌, true, false, Some, None, List, [], ◌∷◌, ◌++◌}
+use Rattle.live_auditor.proofs.Imports.{map, length, arith, inl, inr, eq-eqb, slice_get, ◌&&◌, ◌==◌, Contains, list_any}
+use Rattle.live_auditor.proofs.Imports.{bytes_eq, option_map, true≢false, and_from, length-map, map-append}
+use Rattle.live_auditor.proofs.Imports.{slice_get-map, bytes_eq-Decides, ascending, Contains-map, list_any_of}
+use Rattle.live_auditor.proofs.Imports.{SealedEntry, node_of_sealed, EntryGraph, Links, IsGraphOfGiven, Row, row_of}
+use Rattle.live_auditor.proofs.Imports.{IsApartBy, kept_with, SurvivorsKept, IsGraphed, Post, IsNew, link_to}
+use Rattle.live_auditor.proofs.Imports.{IsAppended, AreParents, AreMissing, grown}
+use Rattle.live_auditor.proofs.Additions.{apart_more}
 use Rattle.live_auditor.proofs.Ends.{at_contains}
 use Rattle.live_auditor.proofs.Grown.{is_grown}
-
--- what holds of all holds of each member
-each_passes : {X : Type 0} (p : X → Bool) (xs : List X) (x : X) → list_all p xs ≡ true → Contains xs x → p x ≡ true
-each_passes p [] x all has = absurd (Contains-none x has)
-each_passes p (y ∷ ys) x all has =
-    by (p y) refl all (Contains-cons_cases y ys x has) (λ rest later. each_passes p ys x rest later)
-  where
-    -- by whether the first member passes
-    by : (b : Bool) → p y ≡ b → (b && list_all p ys) ≡ true → ((y ≡ x) ⊎ Contains ys x) →
-        (list_all p ys ≡ true → Contains ys x → p x ≡ true) → p x ≡ true
-    by true at rest (inl same) deeper = subst (λ z. p z ≡ true) same at
-    by true at rest (inr later) deeper = deeper rest later
-    by false at rest cases deeper = absurd (true≢false (sym rest))
 
 -- what a place of mapped elements has comes from an element at the place
 pub mapped_at : {X Y : Type 0} (f : X → Y) (xs : List X) (p : ℕ) (y : Y) → slice_get (map f xs) p ≡ Some y →
@@ -149,12 +129,6 @@ module _ (machines : List Post) (given : List SealedEntry) (graph : EntryGraph S
   links_next : kept.links ++ link_to parents missing ∷ [] ≡ graph.links ++ link_to parents missing ∷ []
   links_next = ap (λ (links : List Links). links ++ link_to parents missing ∷ []) is.survivors.links
 
-  -- the parents of survivors and of the entry are below them
-  pub falls_next : Descends (parents_of (kept.links ++ link_to parents missing ∷ []))
-  falls_next =
-      subst (λ (links : List Links). Descends (parents_of links)) (sym links_next)
-      is_next.kept.linked.arrows.descends
-
   -- the graph of the entries and this one, and what is then kept of it
   pub graphed_next : (row : Row) (rows : List Row) (link : Links) (more : List (List ℕ)) → row ≡ row_of machines e →
       rows ≡ kept.rows ++ row ∷ [] → link ≡ link_to parents missing → more ≡ ascending (gaps ++ missing) →
@@ -170,94 +144,3 @@ module _ (machines : List Post) (given : List SealedEntry) (graph : EntryGraph S
       links = ap (λ (l : Links). kept.links ++ l ∷ []) linked ∙ links_next;
     };
   }
-
-  -- and what is said of them by verdicts on the rows
-  pub judged_next : (trees : List RuleTree) (row : Row) (verdicts : List Verdict) → row ≡ row_of machines e →
-      AreJudged (kept.rows ++ row ∷ []) (nodes_by (kept.links ++ link_to parents missing ∷ [])) trees verdicts →
-      AreJudged (map (row_of machines) (graph.survivors ++ e ∷ [])) (nodes_of (grown graph e parents missing)) trees
-      verdicts
-  judged_next trees row verdicts same judged =
-      subst (λ (seen : List Row). AreJudged seen (nodes_of (grown graph e parents missing)) trees verdicts)
-      (rows_next row same)
-      (subst (λ (links : List Links). AreJudged (kept.rows ++ row ∷ []) (nodes_by links) trees verdicts) links_next
-      judged)
-
--- what is kept of an audit is what its graph has
-pub graphed_kept : (live : LiveState) (kept : SurvivorsKept) (is : IsKept live kept) →
-    IsGraphed live.machines live.added is.live.after.graph live.summary.gaps kept
-graphed_kept live kept is = record {
-  apart = added_apart live.added is.live.once;
-  graphed = subst (λ es. IsGraphOfGiven node_of_sealed es is.live.after.graph) is.live.once is.live.after.graphed.2;
-  are_gaps = is.live.after.gaps;
-  survivors = is.survivors;
-}
-
--- each of these has a lower stamp
-pub all_lower : (given : List SealedEntry) (e : SealedEntry) →
-    list_all (λ (g : SealedEntry). nat_lt g.entry.stamp e.entry.stamp) given ≡ true → (f : SealedEntry) →
-    Contains given f → f.entry.stamp < e.entry.stamp
-all_lower given e latest f has =
-    ltb-true f.entry.stamp e.entry.stamp
-    (each_passes (λ (g : SealedEntry). nat_lt g.entry.stamp e.entry.stamp) given f latest has)
-
-module _ (live : LiveState) (kept : SurvivorsKept) (is : IsKept live kept) (e : SealedEntry)
-    (room : HasRoomFor live.added e) (parents : List ℕ) (missing : List (List ℕ))
-    (appended : IsAppendedBy live.added live.summary.gaps kept.digests kept.rows e parents missing) where
-  abbrev first : EntryGraph SealedEntry
-  first = is.live.after.graph
-
-  seen : IsGraphed live.machines live.added first live.summary.gaps kept
-  seen = graphed_kept live kept is
-
-  low : (f : SealedEntry) → Contains live.added f → f.entry.stamp < e.entry.stamp
-  low = all_lower live.added e appended.latest
-
-  -- its graph is what is answered of them
-  sealed_appended : IsSealedGraph (live.added ++ e ∷ []) (Ok (grown first e parents missing))
-  sealed_appended =
-      sealed_more live.added e first (grown first e parents missing) is.live.after.graphed is.live.once room
-      (is_next live.machines live.added first live.summary.gaps kept seen e room.0 low parents missing appended.apart)
-
-  -- what refuses the rules with an appended entry more refuses them over all entries
-  pub unsummed_appended : (row : Row) → row ≡ row_of live.machines e → (fault : Unjudged) →
-      IsUnjudged (kept.rows ++ row ∷ []) (map rule_tree live.rules) fault →
-      IsUnsummed live.machines (map rule_tree live.rules) (live.added ++ e ∷ []) fault
-  unsummed_appended row same (TooWide place) found = (
-    grown first e parents missing,
-    sealed_appended,
-    subst (λ rows. IsFirstTooWide rows (map rule_tree live.rules) place)
-        (rows_next live.machines live.added first live.summary.gaps kept seen e room.0 low parents missing appended.apart row
-        same) found,
-  )
-  unsummed_appended row same Memory found = tt
-
-  -- the parents of survivors and of an appended entry are below them
-  pub falls_appended : Descends (parents_of (kept.links ++ link_to parents missing ∷ []))
-  falls_appended =
-      falls_next live.machines live.added first live.summary.gaps kept seen e room.0 low parents missing appended.apart
-
-  -- what is said and kept with an appended entry more is that of the entries and this one
-  pub summed_appended : (row : Row) (rows : List Row) (link : Links) (gaps : List (List ℕ)) (verdicts : List Verdict) →
-      row ≡ row_of live.machines e → rows ≡ kept.rows ++ row ∷ [] → link ≡ link_to parents missing →
-      gaps ≡ ascending (live.summary.gaps ++ missing) →
-      AreJudged (kept.rows ++ row ∷ []) (nodes_by (kept.links ++ link_to parents missing ∷ []))
-      (map rule_tree live.rules) verdicts →
-      IsSummed live.machines (map rule_tree live.rules) (live.added ++ e ∷ []) (said_with live.summary gaps verdicts)
-      (kept_with kept e.digest rows link)
-  summed_appended row rows link gaps verdicts same all linked are judged =
-      let next = graphed_next live.machines live.added first live.summary.gaps kept seen e room.0 low parents missing
-      appended.apart row rows link gaps same all linked are in
-      record {
-        after = record {
-          graph = grown first e parents missing;
-          graphed = sealed_appended;
-          survivors = omega (arith, is.live.after.survivors, length-append first.survivors (e ∷ []));
-          gaps = next.are_gaps;
-          strays = is.live.after.strays;
-          forks = is.live.after.forks;
-          judged =
-              judged_next live.machines live.added first live.summary.gaps kept seen e room.0 low parents
-              missing appended.apart (map rule_tree live.rules) row verdicts same judged;
-        };
-        survivors = next.survivors;
-      }

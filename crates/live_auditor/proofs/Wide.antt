@@ -1,13 +1,11 @@
 -- The first rule that is too wide.
-use Rattle.std.proofs.Common.{◌≡◌}
+use Rattle.std.proofs.Common.{◌≡◌, Option}
 use Rattle.live_auditor.proofs.Imports.{◌∙◌, ℕ, zero, suc, ◌+◌, ◌<◌, ◌≤◌, List, [], ◌∷◌, length, get_or, map, ap, sym}
 use Rattle.live_auditor.proofs.Imports.{subst, arith, inl, inr, ◌⊎◌, true, false, true≢false, cases_lt, Some, Ok}
-use Rattle.live_auditor.proofs.Imports.{slice_get, length-map, slice_get_within, SealedEntry, Rule}
-use Rattle.live_auditor.proofs.Imports.{Row, rule_tree, RuleTree, EntriesGiveOneGraph, SameGraph}
-use Rattle.live_auditor.proofs.Imports.{IsFirstTooWide, row_of, IsTooWideOver, LiveState, SurvivorsKept, IsKept}
+use Rattle.live_auditor.proofs.Imports.{slice_get, length-map, slice_get_within, SealedEntry, Rule, Row, rule_tree}
+use Rattle.live_auditor.proofs.Imports.{RuleTree, EntriesGiveOneGraph, SameGraph, IsFirstTooWide, row_of, IsTooWideOver}
+use Rattle.live_auditor.proofs.Imports.{LiveState, SurvivorsKept, IsKept, None}
 use Rattle.rule_meaning.specs.Widths.{is_too_wide}
-use Rattle.std.proofs.Common.{Option}
-use Rattle.live_auditor.proofs.Imports.{None, IfSome}
 use Rattle.std.specs.Prelude.{IfNone}
 
 -- the first rules aren't too wide
@@ -73,13 +71,7 @@ module _ (state : LiveState) (kept : SurvivorsKept) (is : IsKept state kept) (tr
       none place (subst (λ rows. IsFirstTooWide rows trees place)
       (ap (λ (S : List SealedEntry). map (row_of state.machines) S) same.survivors ∙ sym is.survivors.rows) first)
 
--- what holds of a value that may be there, follows from what does
-pub if_some_weaker : {X : Type 0} {P Q : X → Type 0} (found : Option X) → ((x : X) → P x → Q x) → IfSome found P →
-    IfSome found Q
-if_some_weaker None more h = h
-if_some_weaker (Some x) more h = more x h
-
--- so does what holds where none is there
+-- what holds where no value is there follows from what does
 pub if_none_weaker : {X : Type 0} {P Q : Type 0} (found : Option X) → (P → Q) → IfNone found P → IfNone found Q
 if_none_weaker None more h = more h
 if_none_weaker (Some x) more h = h

@@ -1,29 +1,19 @@
-//! Whether an entry is appended: one after which nothing needs to be said anew of the other survivors.
-ghost use Rattle.std.specs.Prelude.{◌≡◌, ◌<◌, ◌≤◌, ◌&&◌, ◌==◌, nat_lt, length, slice_get};
+//! Whether nothing needs to be said anew of the survivors where an entry comes after them.
+ghost use Rattle.std.specs.Prelude.{◌≡◌, ◌≤◌, ◌&&◌, ◌==◌, length, slice_get};
 ghost use Rattle.std.specs.Prelude.{IfNone, IfOk, IfSome, Some};
-ghost use Rattle.std.specs.List.{Contains, list_all, list_any};
+ghost use Rattle.std.specs.List.{Contains, list_any};
 ghost use Rattle.std.specs.Str.{bytes_eq};
-ghost use Rattle.survivor_rows.specs.Rows.{row_of};
-ghost use Rattle.live_auditor.specs.inside.Found.{FindsNames, IsApartBy, IsAppendedBy};
+ghost use Rattle.live_auditor.specs.inside.Found.{FindsNames, IsApartBy};
 
 use crate::digests::same_digest;
 use crate::survivors::Survivors;
 use entry_format::Sealed;
 use entry_order::Knot;
-use roster::Roster;
 use rule_language::Row;
 use std::alloc::{AllocError, Global};
-use survivor_rows::row_of;
 
 /// The most survivors of a graph.
 const MOST_SURVIVORS: usize = 16_384;
-
-/// Whether the entry has a higher stamp than each of the others.
-fn is_latest(added: &[Sealed], entry: &Sealed) -> bool
-    ensures { result ≡ list_all (λ f. nat_lt f.entry.stamp entry.now.entry.stamp) added.now }
-{
-    added.iter().all(|f| f.entry().stamp < entry.entry().stamp)
-}
 
 /// Whether the digest is one of these.
 fn is_among(digests: &[[u8; 32]], digest: &[u8; 32]) -> bool
@@ -98,54 +88,4 @@ pub(crate) fn apart_names(
     }
     let named = named_in(alloc, survivors.digests.as_slice(), entry.names())?;
     Ok(Some(named))
-}
-
-/// What the entry names among the survivors, if it is appended.
-fn appended_names(
-    alloc: Global,
-    added: &[Sealed],
-    gaps: &[[u8; 32]],
-    survivors: &Survivors,
-    entry: &Sealed,
-) -> Result<Option<Named>, AllocError>
-    ensures { IfOk result (λ found. IfSome found (λ named. IsAppendedBy added.now gaps.now
-        survivors.now.digests.items survivors.now.rows.items entry.now
-        named.parents.items named.missing.items)) }
-{
-    if !is_latest(added, entry) {
-        return Ok(None);
-    }
-    apart_names(alloc, gaps, survivors, entry)
-}
-
-/// What an appended entry is for the survivors: what it names among them, and its row.
-#[derive(Drop)]
-pub(crate) struct Appended {
-    pub(crate) named: Named,
-    pub(crate) row: Row,
-}
-
-/// What the entry is for the survivors, if it is appended.
-pub(crate) fn appended_in(
-    alloc: Global,
-    roster: &Roster,
-    added: &[Sealed],
-    gaps: &[[u8; 32]],
-    survivors: &Survivors,
-    entry: &Sealed,
-) -> Result<Option<Appended>, AllocError>
-    requires { entry.now.entry.maker < length roster.now.machines }
-    ensures named { IfOk result (λ found. IfSome found (λ appended. IsAppendedBy added.now gaps.now
-        survivors.now.digests.items survivors.now.rows.items entry.now
-        appended.named.parents.items appended.named.missing.items)) }
-    ensures row { IfOk result (λ found. IfSome found
-        (λ appended. appended.row ≡ row_of roster.now.machines entry.now)) }
-{
-    let Some(named) = appended_names(alloc, added, gaps, survivors, entry)? else {
-        return Ok(None);
-    };
-    Ok(Some(Appended {
-        named,
-        row: row_of(roster, entry),
-    }))
 }

@@ -1,22 +1,28 @@
 //! What is kept of the entries with lower stamps, so that others can be put in between.
-ghost use Rattle.std.specs.Prelude.{◌≡◌, ◌≤◌, ◌++◌, ◌∷◌, [], map, IfOk, IsTrue, OnOk};
+ghost use Rattle.std.specs.Prelude.{◌≡◌, ◌≤◌, ◌++◌, ◌∷◌, [], map, nat_lt};
+ghost use Rattle.std.specs.Prelude.{IfErr, IfOk, OnOk};
+ghost use Rattle.std.specs.List.{list_all};
 ghost use Rattle.rule_language.specs.Forms.{rule_tree};
-ghost use Rattle.survivor_rows.specs.Rows.{HaveMakers};
+ghost use Rattle.live_auditor.specs.Adding.{HasRoomFor};
+ghost use Rattle.live_auditor.specs.Live.{IsOfMachine};
 ghost use Rattle.live_auditor.specs.inside.Base.{IsBase};
-ghost use Rattle.live_auditor.specs.inside.Stamps.{from_stamp, lower};
-ghost use Rattle.live_auditor.specs.inside.Kept.{IsSummed};
+ghost use Rattle.live_auditor.specs.inside.Stamps.{lower};
+ghost use Rattle.live_auditor.specs.inside.Kept.{AreGiven, IsKept, IsSummed, live_of};
 ghost use Rattle.live_auditor.specs.inside.KeptOf.{kept_of};
+ghost use Rattle.live_auditor.specs.inside.Unsummed.{IsUnsummed};
 
-use crate::borrowed::Borrowed;
+use crate::borrowed::{Borrowed, borrowed_with};
+use crate::late::summed_from;
 use crate::summary::{Summed, summed_of};
 use entry_format::Sealed;
+use entry_order::Knot;
 use roster::Roster;
 use rule_engine::Unjudged;
 use rule_language::Rule;
 use std::alloc::{AllocError, Global};
 
-/// The most entries that are put after the base of an audit.
-pub(crate) const MOST_LATER: usize = 32;
+/// How many entries come after the base of an audit when it is found again.
+const MANY_LATER: usize = 24;
 
 /// The most entries after which one is late.
 const FEW_LATER: usize = 12;
@@ -28,23 +34,40 @@ pub(crate) struct Base {
     pub(crate) summed: Summed,
 }
 
-/// The base of those of the entries that have stamps below the bound.
-pub(crate) fn base_of(
-    alloc: Global,
-    roster: &Roster,
-    rules: &[Rule],
-    added: &[Sealed],
-    below: u32,
-) -> Result<Base, Unjudged>
-    requires { HaveMakers roster.now.machines added.now }
-    ensures bound { IfOk result (λ base. base.below ≡ below) }
-    ensures ok { IfOk result (λ base. IsSummed roster.now.machines (map rule_tree rules.now)
-        (lower below added.now) base.summed.summary (kept_of base.summed.survivors)) }
-{
-    let entries = lower_of(alloc, added, below)?;
-    match summed_of(alloc, roster, rules, entries) {
-        Ok(summed) => Ok(Base { below, summed }),
-        Err(fault) => Err(fault),
+impl Base {
+    /// The base of no entries.
+    pub(crate) fn empty(alloc: Global, roster: &Roster, rules: &[Rule]) -> Result<Base, AllocError>
+        ensures low { IfOk result (λ base. base.below ≡ 0) }
+        ensures ok { IfOk result (λ base. IsSummed roster.now.machines (map rule_tree rules.now)
+            [] base.summed.summary (kept_of base.summed.survivors)) }
+    {
+        // No rule is too wide over no entry.
+        match summed_of(alloc, roster, rules, Vec::new(alloc)) {
+            Ok(summed) => Ok(Base { below: 0, summed }),
+            Err(_) => Err(AllocError),
+        }
+    }
+
+    /// The base of those of the entries that have stamps below a bound that isn't lower.
+    fn raised(
+        &self,
+        alloc: Global,
+        roster: &Roster,
+        rules: &[Rule],
+        added: &[Sealed],
+        below: u32,
+    ) -> Result<Base, Unjudged>
+        requires given { AreGiven roster.now.machines added.now }
+        requires base { IsBase roster.now.machines rules.now added.now self.now }
+        requires higher { self.now.below ≤ below }
+        ensures bound { IfOk result (λ base. base.below ≡ below) }
+        ensures ok { IfOk result (IsBase roster.now.machines rules.now added.now) }
+    {
+        let entries = lower_of(alloc, added, below)?;
+        match summed_from(alloc, roster, rules, self.below, &self.summed, entries) {
+            Ok(summed) => Ok(Base { below, summed }),
+            Err(fault) => Err(fault),
+        }
     }
 }
 
@@ -58,35 +81,16 @@ fn lower_of<'a>(
 {
     let mut entries = Vec::new(alloc);
     for entry in added {
-        if entry.entry().stamp < below {
+        if entry.stamp() < below {
             entries.push(Borrowed::of(entry))?;
         }
     }
     Ok(entries)
 }
 
-/// Those of the entries that have no stamps below the bound, and this one, borrowed.
-pub(crate) fn later_with<'a>(
-    alloc: Global,
-    added: &'a [Sealed],
-    below: u32,
-    last: &'a Sealed,
-) -> Result<Vec<Borrowed<'a>>, AllocError>
-    ensures { IfOk result (λ entries.
-        entries.items ≡ from_stamp below added.now ++ last.now ∷ []) }
-{
-    let mut entries = Vec::new(alloc);
-    for entry in added {
-        if entry.entry().stamp >= below {
-            entries.push(Borrowed::of(entry))?;
-        }
-    }
-    entries.push(Borrowed::of(last))?;
-    Ok(entries)
-}
-
-/// Sees to it that the stamp isn't below the base: else the base is that of no entries.
-pub(crate) fn lower_base(
+/// Sees to it that the stamp isn't below the base. Where the stamp is one of the last few, and many
+/// entries come after the base, the base is raised.
+fn move_base(
     alloc: Global,
     roster: &Roster,
     rules: &[Rule],
@@ -94,63 +98,40 @@ pub(crate) fn lower_base(
     stamp: u32,
     base: &mut Base,
 ) -> Result<(), AllocError>
-    requires makers { HaveMakers roster.now.machines added.now }
+    requires given { AreGiven roster.now.machines added.now }
     requires base { IsBase roster.now.machines rules.now added.now base.old }
     ensures above { OnOk result (base.new.below ≤ stamp) }
     ensures kept { IsBase roster.now.machines rules.now added.now base.new }
 {
-    if base.below <= stamp {
+    if stamp < base.below {
+        *base = Base::empty(alloc, roster, rules)?;
         return Ok(());
     }
-    // No rule is too wide over no entry.
-    match base_of(alloc, roster, rules, added, 0) {
+    let higher = count_from(added, stamp);
+    if higher == 0 || higher > FEW_LATER || count_from(added, base.below) < MANY_LATER {
+        return Ok(());
+    }
+    let below = bound_of(alloc, added, FEW_LATER + 1)?;
+    if below < base.below || stamp < below {
+        return Ok(());
+    }
+    match base.raised(alloc, roster, rules, added, below) {
         Ok(found) => {
             *base = found;
             Ok(())
         }
-        Err(_) => Err(AllocError),
-    }
-}
-
-/// Answers whether an entry with the stamp is one of the last few, and comes after the base. Where
-/// many do that, the base is found again.
-pub(crate) fn raise_base(
-    alloc: Global,
-    roster: &Roster,
-    rules: &[Rule],
-    added: &[Sealed],
-    stamp: u32,
-    base: &mut Base,
-) -> Result<bool, AllocError>
-    requires makers { HaveMakers roster.now.machines added.now }
-    requires base { IsBase roster.now.machines rules.now added.now base.old }
-    ensures above { IfOk result (λ late. IsTrue late → base.new.below ≤ stamp) }
-    ensures kept { IsBase roster.now.machines rules.now added.now base.new }
-{
-    if count_from(added, stamp) > FEW_LATER {
-        return Ok(false);
-    }
-    if count_from(added, base.below) < MOST_LATER {
-        return Ok(base.below <= stamp);
-    }
-    let below = bound_of(alloc, added, FEW_LATER + 1)?;
-    match base_of(alloc, roster, rules, added, below) {
-        Ok(found) => {
-            *base = found;
-            Ok(below <= stamp)
-        }
-        Err(Unjudged::TooWide { .. }) => Ok(false),
+        Err(Unjudged::TooWide { .. }) => Ok(()),
         Err(Unjudged::Memory) => Err(AllocError),
     }
 }
 
 /// How many of the entries have stamps from this one on.
-pub(crate) fn count_from(added: &[Sealed], stamp: u32) -> usize {
+fn count_from(added: &[Sealed], stamp: u32) -> usize {
     added.iter().filter(|f| f.entry().stamp >= stamp).count()
 }
 
 /// The least of the highest stamps of so many of the entries, or 0 where there aren't so many.
-pub(crate) fn bound_of(alloc: Global, added: &[Sealed], highest: usize) -> Result<u32, AllocError> {
+fn bound_of(alloc: Global, added: &[Sealed], highest: usize) -> Result<u32, AllocError> {
     let mut stamps = Vec::with_capacity(alloc, added.len())?;
     for entry in added {
         stamps.push(entry.entry().stamp)?;
@@ -160,4 +141,43 @@ pub(crate) fn bound_of(alloc: Global, added: &[Sealed], highest: usize) -> Resul
         Some(place) if place < stamps.len() => Ok(stamps[place]),
         _ => Ok(0),
     }
+}
+
+/// Whether the stamp is higher than that of each entry.
+fn is_latest(added: &[Sealed], stamp: u32) -> bool
+    ensures { result ≡ list_all (λ f. nat_lt f.entry.stamp stamp) added.now }
+{
+    added.iter().all(|f| f.entry().stamp < stamp)
+}
+
+/// What is said of the entries and this one: by what is said of them where it comes last, and by the
+/// base otherwise.
+pub(crate) fn summed_with(
+    alloc: Global,
+    roster: &Roster,
+    rules: &[Rule],
+    added: &[Sealed],
+    summed: &Summed,
+    base: &mut Base,
+    entry: &Sealed,
+) -> Result<Summed, Unjudged>
+    requires kept { IsKept (live_of roster.now.machines rules.now added.now summed.now.summary)
+        (kept_of summed.now.survivors) }
+    requires base { IsBase roster.now.machines rules.now added.now base.old }
+    requires machine { IsOfMachine roster.now.machines entry.now }
+    requires room { HasRoomFor added.now entry.now }
+    ensures ok { IfOk result (λ summed. IsSummed roster.now.machines (map rule_tree rules.now)
+        (added.now ++ entry.now ∷ []) summed.summary (kept_of summed.survivors)) }
+    ensures err { IfErr result (IsUnsummed roster.now.machines (map rule_tree rules.now)
+        (added.now ++ entry.now ∷ [])) }
+    ensures late { OnOk result (base.new.below ≤ entry.now.entry.stamp) }
+    ensures base { IsBase roster.now.machines rules.now added.now base.new }
+{
+    let stamp = entry.entry().stamp;
+    move_base(alloc, roster, rules, added, stamp, base)?;
+    let entries = borrowed_with(alloc, added, entry)?;
+    if is_latest(added, stamp) {
+        return summed_from(alloc, roster, rules, stamp, summed, entries);
+    }
+    summed_from(alloc, roster, rules, base.below, &base.summed, entries)
 }

@@ -30,6 +30,13 @@ impl<'a> Borrowed<'a> {
     {
         Borrowed { entry }
     }
+
+    /// The same entry, borrowed once more.
+    pub(crate) fn again(&self) -> Borrowed<'a>
+        ensures { result ≡ self.now }
+    {
+        Borrowed { entry: self.entry }
+    }
 }
 
 impl<'a> Knot for Borrowed<'a> {

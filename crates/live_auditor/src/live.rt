@@ -10,14 +10,10 @@ ghost use Rattle.live_auditor.specs.Adding.{
 };
 ghost use Rattle.live_auditor.specs.Live.{IsLive, IsOfMachine};
 
-use crate::base::{Base, base_of, lower_base, raise_base};
-use crate::borrowed::borrowed_with;
+use crate::base::{Base, summed_with};
 use crate::fresh::{Fresh, LiveFault};
-use crate::growth::growth_of;
-use crate::late::summed_late;
 use crate::seen::{Seen, seen_among};
-use crate::summary::{Summary, summed_of};
-use crate::survivors::Survivors;
+use crate::summary::{Summed, summed_of};
 use crate::widths::first_too_wide;
 use entry_format::Sealed;
 use evidence::entries_give_one_graph;
@@ -40,8 +36,7 @@ pub struct Live {
     rules: Vec<Rule>,
     /// The entries that were added, each once, in the order in which they came.
     added: Vec<Sealed>,
-    summary: Summary,
-    survivors: Survivors,
+    summed: Summed,
     /// Those with lower stamps than the last few.
     base: Base,
 }
@@ -62,15 +57,15 @@ impl Model for Live {
       machines = l.roster.machines;
       rules = l.rules.items;
       added = l.added.items;
-      summary = l.summary;
+      summary = l.summed.summary;
     } };
 
     ghost invariant = { λ l. IsKept (record {
       machines = l.roster.machines;
       rules = l.rules.items;
       added = l.added.items;
-      summary = l.summary;
-    }) (kept_of l.survivors)
+      summary = l.summed.summary;
+    }) (kept_of l.summed.survivors)
         × IsBase l.roster.machines l.rules.items l.added.items l.base };
 }
 
@@ -84,19 +79,17 @@ impl Live {
     {
         let roster = roster.copy(alloc)?;
         let read = rules.as_slice();
-        let summed = match summed_of(alloc, &roster, read, Vec::new(alloc)) {
-            Ok(summed) => summed,
-            Err(_) => return Err(AllocError),
-        };
-        match base_of(alloc, &roster, read, &[], 0) {
-            Ok(base) => Ok(Live {
-                roster,
-                rules,
-                added: Vec::new(alloc),
-                summary: summed.summary,
-                survivors: summed.survivors,
-                base,
-            }),
+        match summed_of(alloc, &roster, read, Vec::new(alloc)) {
+            Ok(summed) => {
+                let base = Base::empty(alloc, &roster, read)?;
+                Ok(Live {
+                    roster,
+                    rules,
+                    added: Vec::new(alloc),
+                    summed,
+                    base,
+                })
+            }
             Err(_) => Err(AllocError),
         }
     }
@@ -121,8 +114,7 @@ impl Live {
         }
     }
 
-    /// Adds an entry whose digest no added one has. What is known of the survivors serves where it
-    /// comes after all others, and what is known of the base where it comes after that.
+    /// Adds an entry whose digest no added one has.
     fn add_new(&mut self, alloc: Global, s: Sealed) -> Result<Fresh, LiveFault>
         requires machine { IsOfMachine self.old.machines s }
         requires room { HasRoomFor self.old.added s }
@@ -131,92 +123,21 @@ impl Live {
         ensures same { IsOfSameAudit self.old self.new }
         ensures kept { IsLive self.new }
     {
-        if s.entry().stamp < self.base.below {
-            return self.add_anew(alloc, s);
-        }
+        self.added.reserve(1)?;
         let rules = self.rules.as_slice();
         let added = self.added.as_slice();
-        let summary = &self.summary;
-        match growth_of(
+        match summed_with(
             alloc,
             &self.roster,
             rules,
             added,
-            summary,
-            &self.survivors,
+            &self.summed,
+            &mut self.base,
             &s,
         ) {
-            Ok(None) => self.add_late(alloc, s),
-            Ok(Some(growth)) => {
-                self.added.reserve(1)?;
-                self.survivors.reserve()?;
-                self.survivors.push(*s.digest(), growth.rows, growth.link);
-                self.summary.grow(growth.gaps, growth.verdicts);
-                self.added.push_reserved(s);
-                Ok(Fresh::New)
-            }
-            Err(Unjudged::TooWide { place }) => Err(LiveFault::TooWide(s, place)),
-            Err(Unjudged::Memory) => Err(LiveFault::Memory),
-        }
-    }
-
-    /// Adds an entry that isn't the last: the few that have higher stamps are put after it.
-    fn add_late(&mut self, alloc: Global, s: Sealed) -> Result<Fresh, LiveFault>
-        requires machine { IsOfMachine self.old.machines s }
-        requires room { HasRoomFor self.old.added s }
-        ensures answer { IsAddAnswer self.old s result }
-        ensures becomes { Becomes self.old s result self.new }
-        ensures same { IsOfSameAudit self.old self.new }
-        ensures kept { IsLive self.new }
-    {
-        self.added.reserve(1)?;
-        let rules = self.rules.as_slice();
-        let added = self.added.as_slice();
-        let stamp = s.entry().stamp;
-        if !raise_base(alloc, &self.roster, rules, added, stamp, &mut self.base)? {
-            return self.add_anew(alloc, s);
-        }
-        match summed_late(
-            alloc,
-            &self.roster,
-            rules,
-            added,
-            &self.summary,
-            &self.survivors,
-            &self.base,
-            &s,
-        ) {
-            Ok(Some(summed)) => {
-                self.added.push_reserved(s);
-                self.summary = summed.summary;
-                self.survivors = summed.survivors;
-                Ok(Fresh::New)
-            }
-            Ok(None) => self.add_anew(alloc, s),
-            Err(_) => Err(LiveFault::Memory),
-        }
-    }
-
-    /// Adds an entry of any kind: everything is found again.
-    fn add_anew(&mut self, alloc: Global, s: Sealed) -> Result<Fresh, LiveFault>
-        requires machine { IsOfMachine self.old.machines s }
-        requires room { HasRoomFor self.old.added s }
-        ensures answer { IsAddAnswer self.old s result }
-        ensures becomes { Becomes self.old s result self.new }
-        ensures same { IsOfSameAudit self.old self.new }
-        ensures kept { IsLive self.new }
-    {
-        self.added.reserve(1)?;
-        let rules = self.rules.as_slice();
-        let added = self.added.as_slice();
-        let stamp = s.entry().stamp;
-        lower_base(alloc, &self.roster, rules, added, stamp, &mut self.base)?;
-        let entries = borrowed_with(alloc, added, &s)?;
-        match summed_of(alloc, &self.roster, rules, entries) {
             Ok(summed) => {
                 self.added.push_reserved(s);
-                self.summary = summed.summary;
-                self.survivors = summed.survivors;
+                self.summed = summed;
                 Ok(Fresh::New)
             }
             Err(Unjudged::TooWide { place }) => Err(LiveFault::TooWide(s, place)),
@@ -233,7 +154,7 @@ impl Live {
             ¬ IsTooWideOver self.now.machines (map rule_tree rules.now) self.now.added place) }
     {
         entries_give_one_graph();
-        first_too_wide(rules, self.survivors.rows.as_slice())
+        first_too_wide(rules, self.summed.survivors.rows.as_slice())
     }
 
     /// How many entries survive: all that were added but the strays.
@@ -241,7 +162,7 @@ impl Live {
         ensures value { result ≡ self.now.summary.survivors }
         ensures kept { IsLive self.now }
     {
-        self.summary.survivors
+        self.summed.summary.survivors
     }
 
     /// The digests that a survivor names and none has, ascending.
@@ -249,7 +170,7 @@ impl Live {
         ensures value { result.now ≡ self.now.summary.gaps }
         ensures kept { IsLive self.now }
     {
-        self.summary.gaps.as_slice()
+        self.summed.summary.gaps.as_slice()
     }
 
     /// The digests of the entries that name one whose stamp isn't lower than their own, ascending.
@@ -257,7 +178,7 @@ impl Live {
         ensures value { result.now ≡ self.now.summary.strays }
         ensures kept { IsLive self.now }
     {
-        self.summary.strays.as_slice()
+        self.summed.summary.strays.as_slice()
     }
 
     /// Each maker and number of two or more survivors, ascending.
@@ -265,7 +186,7 @@ impl Live {
         ensures value { result.now ≡ self.now.summary.forks }
         ensures kept { IsLive self.now }
     {
-        self.summary.forks.as_slice()
+        self.summed.summary.forks.as_slice()
     }
 
     /// What is answered of the rules, one verdict for each, in their order.
@@ -273,6 +194,6 @@ impl Live {
         ensures value { result.now ≡ self.now.summary.verdicts }
         ensures kept { IsLive self.now }
     {
-        self.summary.verdicts.as_slice()
+        self.summed.summary.verdicts.as_slice()
     }
 }

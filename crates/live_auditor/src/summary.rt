@@ -4,7 +4,6 @@ ghost use Rattle.rule_language.specs.Forms.{rule_tree};
 ghost use Rattle.rule_engine.specs.Judged.{AreJudged, IsUnjudged};
 ghost use Rattle.auditor.specs.Nodes.{nodes_of};
 ghost use Rattle.survivor_rows.specs.Rows.{HaveMakers, row_of};
-ghost use Rattle.live_auditor.specs.inside.Grown.{said_with};
 ghost use Rattle.live_auditor.specs.inside.Kept.{IsSummed};
 ghost use Rattle.live_auditor.specs.inside.KeptOf.{IsSummedBy, kept_of};
 ghost use Rattle.live_auditor.specs.inside.Unsummed.{IsUnsummed};
@@ -57,16 +56,6 @@ impl Summary {
         ensures { result.now ≡ self.now.verdicts }
     {
         &self.verdicts
-    }
-
-    /// The summary after one survivor more, by these gaps and verdicts.
-    pub(crate) fn grow(&mut self, gaps: Vec<[u8; 32]>, verdicts: Vec<Verdict>)
-        requires { self.old.survivors ≤ 16384 }
-        ensures { self.new ≡ said_with self.old gaps.items verdicts.items }
-    {
-        self.survivors += 1;
-        self.gaps = gaps;
-        self.verdicts = verdicts;
     }
 }
 

@@ -1,12 +1,12 @@
 //! What is kept of the survivors, beside what is said of them.
-ghost use Rattle.std.specs.Prelude.{◌≡◌, ◌+◌, ◌<◌, ◌≤◌, ◌++◌, ◌∷◌, [], length, map, slice_get};
+ghost use Rattle.std.specs.Prelude.{◌≡◌, ◌<◌, ◌≤◌, ◌++◌, ◌∷◌, [], length, map, slice_get};
 ghost use Rattle.std.specs.Prelude.{IfOk, OnOk, Some};
 ghost use Rattle.entry_format.specs.SealedEntry.{SealedEntry};
 ghost use Rattle.entry_graph.specs.EntryGraph.{parents_of};
 ghost use Rattle.entry_order.specs.Ancestors.{Descends};
 ghost use Rattle.live_auditor.specs.inside.Grown.{kept_with};
 ghost use Rattle.live_auditor.specs.inside.Kept.{link_to};
-ghost use Rattle.live_auditor.specs.inside.KeptOf.{HasRoom, kept_of};
+ghost use Rattle.live_auditor.specs.inside.KeptOf.{kept_of};
 
 use crate::borrowed::Borrowed;
 use entry_graph::Graph;
@@ -15,12 +15,19 @@ use precedence::Arrows;
 use rule_language::Row;
 use std::alloc::{AllocError, Global};
 use std::marker::Model;
+use std::rc::Rc;
 
 /// Which survivors one names, by their numbers, and whether it names a gap too.
 #[derive(Drop)]
-pub(crate) struct Link {
+struct Named {
     parents: Vec<u32>,
     ragged: bool,
+}
+
+/// What a survivor names. Others may share it, so that its copies take no memory.
+#[derive(Drop)]
+pub(crate) struct Link {
+    named: Rc<Named>,
 }
 
 impl Model for Link {
@@ -28,42 +35,52 @@ impl Model for Link {
 
     ghost Value = { Links };
 
-    ghost view = { λ link. record { parents = link.parents.items; ragged = link.ragged } };
+    ghost view = { λ link. record {
+      parents = link.named.value.parents.items;
+      ragged = link.named.value.ragged;
+    } };
 }
 
 impl Link {
-    /// The link to these parents, which are copied.
-    fn copied(alloc: Global, parents: &[u32], ragged: bool) -> Result<Link, AllocError>
-        ensures { IfOk result (λ link. link ≡ record { parents = parents.now; ragged = ragged }) }
+    /// The link to these parents.
+    fn new(alloc: Global, parents: Vec<u32>, ragged: bool) -> Result<Link, AllocError>
+        ensures { IfOk result (λ link. link ≡ record { parents = parents.items; ragged = ragged }) }
     {
-        Ok(Link {
-            parents: Vec::from_slice(alloc, parents)?,
-            ragged,
-        })
+        let named = Rc::new(alloc, Named { parents, ragged })?;
+        Ok(Link { named })
+    }
+
+    /// The same link.
+    fn again(&self) -> Result<Link, AllocError>
+        ensures { IfOk result (λ link. link ≡ self.now) }
+    {
+        let named = self.named.clone()?;
+        Ok(Link { named })
     }
 
     /// The survivors that it leads to.
     fn parents(&self) -> &[u32]
         ensures { result.now ≡ self.now.parents }
     {
-        &self.parents
+        &self.named.parents
     }
 
     /// Whether it leads to a gap too.
     fn ragged(&self) -> bool
         ensures { result ≡ self.now.ragged }
     {
-        self.ragged
+        self.named.ragged
     }
 
     /// The link of what names these survivors, and these digests that none of them has.
-    pub(crate) fn to(parents: Vec<u32>, missing: &[[u8; 32]]) -> Link
-        ensures { result ≡ link_to parents.items missing.now }
+    pub(crate) fn to(
+        alloc: Global,
+        parents: Vec<u32>,
+        missing: &[[u8; 32]],
+    ) -> Result<Link, AllocError>
+        ensures { IfOk result (λ link. link ≡ link_to parents.items missing.now) }
     {
-        Link {
-            parents,
-            ragged: !missing.is_empty(),
-        }
+        Link::new(alloc, parents, !missing.is_empty())
     }
 }
 
@@ -116,25 +133,6 @@ impl Survivors {
         self.links.push(link)?;
         Ok(())
     }
-
-    /// Makes room for one more.
-    pub(crate) fn reserve(&mut self) -> Result<(), AllocError>
-        ensures same { kept_of self.new ≡ kept_of self.old }
-        ensures room { OnOk result (HasRoom self.new) }
-    {
-        self.digests.reserve(1)?;
-        self.links.reserve(1)
-    }
-
-    /// Puts one with this digest and link after the others. All have these rows.
-    pub(crate) fn push(&mut self, digest: [u8; 32], rows: Vec<Row>, link: Link)
-        requires { HasRoom self.old }
-        ensures { kept_of self.new ≡ kept_with (kept_of self.old) digest rows.items link }
-    {
-        self.digests.push_reserved(digest);
-        self.rows = rows;
-        self.links.push_reserved(link);
-    }
 }
 
 /// The digests of the survivors.
@@ -156,7 +154,8 @@ fn links_of(alloc: Global, graph: &Graph<Borrowed<'_>>) -> Result<Vec<Link>, All
 {
     let mut links = Vec::with_capacity(alloc, graph.count())?;
     for i in 0..graph.count() {
-        links.push(Link::copied(alloc, graph.parents(i), graph.ragged(i))?)?;
+        let parents = Vec::from_slice(alloc, graph.parents(i))?;
+        links.push(Link::new(alloc, parents, graph.ragged(i))?)?;
     }
     Ok(links)
 }
@@ -167,39 +166,37 @@ fn copies_of(alloc: Global, links: &[Link]) -> Result<Vec<Link>, AllocError>
 {
     let mut copies = Vec::with_capacity(alloc, links.len())?;
     for link in links {
-        copies.push(Link::copied(alloc, link.parents(), link.ragged())?)?;
+        copies.push(link.again()?)?;
     }
     Ok(copies)
 }
 
-/// The graph of survivors and others after them.
+/// The graph of survivors with these links.
 #[derive(Drop)]
 pub(crate) struct Grown<'a> {
     links: &'a [Link],
-    later: &'a [Link],
 }
 
 impl<'a> Model for Grown<'a> {
-    ghost use Rattle.std.specs.Prelude.{◌+◌, ◌≤◌, ◌++◌, List, length};
+    ghost use Rattle.std.specs.Prelude.{◌≤◌, List, length};
     ghost use Rattle.entry_graph.specs.EntryGraph.{Links, parents_of};
     ghost use Rattle.entry_order.specs.Ancestors.{Descends};
 
     ghost Value = { List Links };
 
-    ghost view = { λ g. g.links.now ++ g.later.now };
+    ghost view = { λ g. g.links.now };
 
-    ghost invariant = { λ g. Descends (parents_of (g.links.now ++ g.later.now))
-        × (length g.links.now + length g.later.now ≤ 16384) };
+    ghost invariant = { λ g. Descends (parents_of g.links.now) × (length g.links.now ≤ 16384) };
 }
 
 impl<'a> Grown<'a> {
-    /// The graph of survivors with these links and of those with the later links.
-    pub(crate) fn over(links: &'a [Link], later: &'a [Link]) -> Grown<'a>
-        requires falls { Descends (parents_of (links.now ++ later.now)) }
-        requires few { length links.now + length later.now ≤ 16384 }
-        ensures { result ≡ links.now ++ later.now }
+    /// The graph of survivors with these links.
+    pub(crate) fn over(links: &'a [Link]) -> Grown<'a>
+        requires falls { Descends (parents_of links.now) }
+        requires few { length links.now ≤ 16384 }
+        ensures { result ≡ links.now }
     {
-        Grown { links, later }
+        Grown { links }
     }
 
     /// The link of a survivor.
@@ -208,12 +205,16 @@ impl<'a> Grown<'a> {
         ensures value { slice_get self.now node ≡ Some result.now }
         ensures falls { Descends (parents_of self.now) }
     {
-        if node < self.links.len() {
-            &self.links[node]
-        } else {
-            &self.later[node - self.links.len()]
-        }
+        link_at(self.links, node)
     }
+}
+
+/// The link at a place.
+fn link_at(links: &[Link], place: usize) -> &Link
+    requires { place < length links.now }
+    ensures { slice_get links.now place ≡ Some result.now }
+{
+    &links[place]
 }
 
 impl<'a> Arrows for Grown<'a> {
@@ -222,7 +223,7 @@ impl<'a> Arrows for Grown<'a> {
     ghost graph = { nodes_by };
 
     fn count(&self) -> usize {
-        self.links.len() + self.later.len()
+        self.links.len()
     }
 
     fn parents(&self, node: usize) -> &[u32] {

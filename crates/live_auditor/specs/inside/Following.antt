@@ -1,5 +1,5 @@
--- Entries that are put after those of a base.
-use Rattle.std.specs.Prelude.{◌≡◌, ℕ, ◌+◌, ◌<◌, ◌≤◌, List, map, ◌++◌, ◌∷◌, []}
+-- Entries that are put after others.
+use Rattle.std.specs.Prelude.{◌≡◌, ℕ, ◌+◌, ◌<◌, ◌≤◌, List, ◌++◌, ◌∷◌, []}
 use Rattle.std.specs.List.{Contains}
 use Rattle.entry_format.specs.Nodes.{node_of_sealed}
 use Rattle.entry_format.specs.SealedEntry.{SealedEntry}
@@ -8,9 +8,8 @@ use Rattle.entry_order.specs.Ascending.{ascending}
 use Rattle.entry_order.specs.Naming.{Distinct}
 use Rattle.roster.specs.declared.post.Post.{Post}
 use Rattle.rule_language.specs.declared.row.Row.{Row}
-use Rattle.survivor_rows.specs.Rows.{row_of}
-use Rattle.live_auditor.specs.declared.base.Base.{Base}
 use Rattle.live_auditor.specs.declared.late.Tail.{Tail}
+use Rattle.live_auditor.specs.declared.summary.Summed.{Summed}
 use Rattle.live_auditor.specs.inside.Found.{IsApartBy}
 use Rattle.live_auditor.specs.inside.Grown.{kept_with}
 use Rattle.live_auditor.specs.inside.Kept.{IsGraphed, SurvivorsKept, link_to}
@@ -46,14 +45,9 @@ pub record IsFollowed (machines : List Post) (given : List SealedEntry) (first :
   pub links : List Links
   pub links_are : tail.survivors.links.items ≡ before.links ++ links
 
--- the tail has the survivors of the base and these, of whatever entries the base is
-abbrev pub FollowOf : List Post → Base → List SealedEntry → Tail → Type 0
-FollowOf machines base others tail =
-    (given : List SealedEntry) (first : EntryGraph SealedEntry) →
-    IsGraphed machines given first base.summed.summary.gaps (kept_of base.summed.survivors) →
-    CanFollow given others base.below → IsFollowed machines given first (kept_of base.summed.survivors) others tail
-
--- where these are their rows
-abbrev pub Follow : Base → List SealedEntry → List Row → Tail → Type 0
-Follow base others seen tail =
-    (machines : List Post) → seen ≡ map (row_of machines) others → FollowOf machines base others tail
+-- the tail has the first survivors and these, of whatever entries the first are
+abbrev pub FollowOf : List Post → ℕ → Summed → List SealedEntry → Tail → Type 0
+FollowOf machines below first others tail =
+    (given : List SealedEntry) (graph : EntryGraph SealedEntry) →
+    IsGraphed machines given graph first.summary.gaps (kept_of first.survivors) → CanFollow given others below →
+    IsFollowed machines given graph (kept_of first.survivors) others tail

@@ -1,7 +1,7 @@
 -- What shows that an entry is appended, by what is kept of the survivors.
-use Rattle.std.specs.Prelude.{◌≡◌, ℕ, ◌<◌, ◌&&◌, ◌==◌, ◌⊎◌, nat_lt, false, true, List, length, Some}
+use Rattle.std.specs.Prelude.{◌≡◌, ℕ, ◌<◌, ◌&&◌, ◌==◌, ◌⊎◌, false, List, length, Some}
 use Rattle.std.specs.Prelude.{slice_get}
-use Rattle.std.specs.List.{Contains, list_all, list_any}
+use Rattle.std.specs.List.{Contains, list_any}
 use Rattle.std.specs.Str.{bytes_eq}
 use Rattle.entry_format.specs.SealedEntry.{SealedEntry}
 use Rattle.rule_language.specs.declared.row.Row.{Row}
@@ -24,9 +24,3 @@ pub record IsApartBy (gaps digests : List (List ℕ)) (rows : List Row) (e : Sea
   pub no_fork : list_any
       (λ (row : Row). (row.maker == e.entry.maker) && (row.number == e.entry.number)) rows ≡ false
   pub finds : FindsNames digests e.entry.names parents missing
-
--- it has the highest stamp too
-pub record IsAppendedBy (added : List SealedEntry) (gaps digests : List (List ℕ)) (rows : List Row)
-    (e : SealedEntry) (parents : List ℕ) (missing : List (List ℕ)) : Type 0 where
-  pub latest : list_all (λ (f : SealedEntry). nat_lt f.entry.stamp e.entry.stamp) added ≡ true
-  pub apart : IsApartBy gaps digests rows e parents missing

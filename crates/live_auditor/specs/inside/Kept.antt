@@ -1,5 +1,5 @@
 -- What is kept of the survivors, beside what is said of them.
-use Rattle.std.specs.Prelude.{◌≡◌, ℕ, ◌==◌, not, List, length, map}
+use Rattle.std.specs.Prelude.{◌≡◌, ℕ, ◌≤◌, ◌==◌, not, All, List, length, map}
 use Rattle.entry_format.specs.Nodes.{node_of_sealed}
 use Rattle.entry_order.specs.Naming.{Distinct}
 use Rattle.entry_format.specs.SealedEntry.{SealedEntry}
@@ -10,7 +10,7 @@ use Rattle.rule_language.specs.declared.formula.Rule.{Rule}
 use Rattle.rule_language.specs.declared.row.Row.{Row}
 use Rattle.survivor_rows.specs.Rows.{row_of}
 use Rattle.rule_language.specs.Trees.{RuleTree}
-use Rattle.live_auditor.specs.Live.{LiveState, IsLive}
+use Rattle.live_auditor.specs.Live.{LiveState, IsLive, IsOfMachine, max_added}
 use Rattle.live_auditor.specs.Summary.{Summary, After}
 
 -- the digests of the survivors, their rows, and what each names
@@ -39,6 +39,12 @@ pub record IsSummed (machines : List Post) (rules : List RuleTree) (entries : Li
     (summary : Summary) (kept : SurvivorsKept) : Type 0 where
   pub after : After machines rules entries summary
   pub survivors : AreSurvivorsOf machines after.graph kept
+
+-- at most 1,024 entries, of the machines; no two have one digest
+pub record AreGiven (machines : List Post) (entries : List SealedEntry) : Type 0 where
+  pub of_machines : All (IsOfMachine machines) entries
+  pub few : length entries ≤ max_added
+  pub apart : Distinct node_of_sealed entries
 
 -- an audit of these
 abbrev pub live_of : List Post → List Rule → List SealedEntry → Summary → LiveState

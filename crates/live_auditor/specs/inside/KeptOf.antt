@@ -1,5 +1,5 @@
 -- What is kept of the survivors, as the code has it.
-use Rattle.std.specs.Prelude.{◌≡◌, ◌<◌, List, length, map, vec_len, vec_capacity}
+use Rattle.std.specs.Prelude.{◌≡◌, List, length, map}
 use Rattle.entry_format.specs.SealedEntry.{SealedEntry}
 use Rattle.entry_graph.specs.EntryGraph.{EntryGraph}
 use Rattle.roster.specs.declared.post.Post.{Post}
@@ -18,12 +18,6 @@ kept_of survivors = record {
   rows = survivors.rows.items;
   links = survivors.links.items;
 }
-
--- there is room for one more
-abbrev pub HasRoom : Survivors → Type 0
-HasRoom survivors =
-    (vec_len survivors.digests < vec_capacity survivors.digests)
-    × (vec_len survivors.links < vec_capacity survivors.links)
 
 -- what is said and kept is read off this graph
 pub record IsSummedBy (machines : List Post) (rules : List RuleTree)

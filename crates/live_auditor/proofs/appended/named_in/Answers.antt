@@ -1,7 +1,7 @@
 use Rattle.live_auditor.proofs.Imports.{◌∙◌, ap}
 use Rattle.live_auditor.proofs.Finds.{finds_missing, finds_place}
-use Rattle.live_auditor.proofs.appended.named_in.Goals as goal
 use Rattle.live_auditor.proofs.appended.named_in.Goals.{in-Some+in_ok-push-in-Some, in-None+in_ok-push-in-None}
+use Rattle.live_auditor.proofs.appended.named_in.Goals as goal
 
 pub loop-name-preserved : goal.loop-name-preserved
 loop-name-preserved c =

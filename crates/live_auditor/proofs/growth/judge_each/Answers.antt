@@ -1,6 +1,5 @@
-use Rattle.live_auditor.proofs.Imports.{◌+◌, List, map, take, arith, sym, subst, length-map, known_before}
-use Rattle.live_auditor.proofs.Imports.{known_whole, rule_tree, Verdict, AreJudged, judged_more, first_too_wide}
-use Rattle.live_auditor.proofs.Imports.{wide_by}
+use Rattle.live_auditor.proofs.Imports.{◌+◌, List, map, take, arith, sym, subst, length-map, known_before, known_whole}
+use Rattle.live_auditor.proofs.Imports.{rule_tree, Verdict, AreJudged, judged_more}
 use Rattle.live_auditor.proofs.Judged.{judged_at, one_each}
 use Rattle.live_auditor.proofs.growth.judge_each.Goals as goal
 
@@ -17,13 +16,6 @@ judge_grown-requires-clause-before c =
     judged_at (take c.args.count c.args.judge.now.rows) (known_before known) (known_whole known) c.args.rules.now
     c.args.before.now c.loop-place.place c.index-rules-place.result c.index-before-place.result c.requires.before
     c.loop-place-test.true (sym c.index-rules-place.is) (sym c.index-before-place.is)
-
-pub returns-in-Err-TooWide-clause-err : goal.returns-in-Err-TooWide-clause-err
-returns-in-Err-TooWide-clause-err c = λ graph known.
-    first_too_wide c.args.judge.now.rows graph c.args.rules.now c.loop-place.place c.index-rules-place.result
-    c.loop-place.verdicts.items c.loop-place-test.true c.index-rules-place.is (c.loop-place.invariant graph known)
-    (wide_by c.args.judge.now.rows graph (rule_tree c.index-rules-place.result) c.in-Err-TooWide.field-0
-    (c.in-Err-TooWide.ensures graph known) c.in-Err-TooWide.field-0-is)
 
 pub loop-place-preserved : goal.loop-place-preserved
 loop-place-preserved c = λ graph known.

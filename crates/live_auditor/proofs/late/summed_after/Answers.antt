@@ -1,27 +1,42 @@
-use Rattle.std.proofs.Common.{◌≡◌}
-use Rattle.live_auditor.proofs.Imports.{◌∙◌, ℕ, List, ◌++◌, ap, length, map, sym, subst, take, Links, Row, Verdict}
-use Rattle.live_auditor.proofs.Imports.{parents_of, Descends, AreJudged, nodes_by, rule_tree}
+use Rattle.std.proofs.Common.{Option}
+use Rattle.live_auditor.proofs.Imports.{List, map, subst, sym, IfSome, SealedEntry, rule_tree, HaveMakers, IsOfMachine}
+use Rattle.std.specs.Prelude.{nat_le}
+use Rattle.std.proofs.lemmas.List.Elements.{All-filter}
+use Rattle.std.proofs.lemmas.List.Sorted.{All-permutation}
+use Rattle.live_auditor.specs.declared.late.Tail.{Tail}
+use Rattle.live_auditor.specs.inside.Following.{FollowOf}
+use Rattle.live_auditor.specs.inside.Stamps.{from_stamp}
+use Rattle.live_auditor.proofs.Additions.{have_makers}
+use Rattle.live_auditor.proofs.AfterBase.{tail_growth, tail_summed, three_said}
 use Rattle.live_auditor.proofs.late.summed_after.Goals as goal
 
-pub verdicts_by-requires-clause-falls : goal.verdicts_by-requires-clause-falls
-verdicts_by-requires-clause-falls c =
-    subst (λ (links : List Links). Descends (parents_of links))
-    (sym c.as_slice.ensures.value ∙ c.split_at.ensures.by_index.0) c.requires.falls
+pub tail_of-requires : goal.tail_of-requires
+tail_of-requires c =
+    let machines = c.args.roster.now.machines in
+    let entries = c.args.entries.now in
+    subst (HaveMakers machines) (sym c.as_slice.ensures.value)
+    (have_makers machines c.in_ok-later.later.items (All-permutation (IsOfMachine machines)
+    (from_stamp c.args.below entries) c.in_ok-later.later.items c.in_ok-later.ensures
+    (All-filter (λ (e : SealedEntry). nat_le c.args.below e.entry.stamp) (IsOfMachine machines) entries
+    c.requires.given.of_machines)))
 
-pub verdicts_by-requires-clause-before : goal.verdicts_by-requires-clause-before
-verdicts_by-requires-clause-before c =
-    let trees = map rule_tree c.args.rules.now in
-    let count = length c.args.base.now.summed.survivors.links.items in
-    let counted = ap length c.as_slice-count.ensures.value in
-    let long : length c.split_at.result.0.now ≡ count = c.split_at.ensures.front_len ∙ counted in
-    let links : c.split_at.result.0.now ≡ take count c.args.tail.survivors.links.items =
-    c.split_at.ensures.front ∙ ap (λ (k : ℕ). take k c.as_slice.result.now) counted
-    ∙ ap (take count) c.as_slice.ensures.value in
-    let rows : take (length c.split_at.result.0.now) c.as_slice-rows.result.now
-    ≡ take count c.args.tail.survivors.rows.items =
-    ap (λ (k : ℕ). take k c.as_slice-rows.result.now) long ∙ ap (take count) c.as_slice-rows.ensures.value in
-    subst (λ (rs : List Row). AreJudged rs (nodes_by c.split_at.result.0.now) trees c.verdicts.result.now) (sym rows)
-    (subst (λ (ls : List Links).
-    AreJudged (take count c.args.tail.survivors.rows.items) (nodes_by ls) trees c.verdicts.result.now) (sym links)
-    (subst (λ (vs : List Verdict). AreJudged (take count c.args.tail.survivors.rows.items)
-    (nodes_by (take count c.args.tail.survivors.links.items)) trees vs) (sym c.verdicts.ensures) c.requires.before))
+pub judged_after-requires : goal.judged_after-requires
+judged_after-requires c =
+    let machines = c.args.roster.now.machines in
+    let found = subst (λ (o : Option Tail). IfSome o (FollowOf machines c.args.below c.args.first.now
+    c.as_slice.result.now)) c.in-Some.is c.in_ok-tail.ensures in
+    let follow = subst (λ (es : List SealedEntry). FollowOf machines c.args.below c.args.first.now es c.in-Some.tail)
+    c.as_slice.ensures.value found in
+    tail_growth machines (map rule_tree c.args.rules.now) c.args.entries.now c.args.below c.requires.given
+    c.args.first.now c.requires.first c.in_ok-later.later.items c.in_ok-later.ensures c.in-Some.tail follow
+
+pub returns-in-Some : goal.returns-in-Some
+returns-in-Some c =
+    let machines = c.args.roster.now.machines in
+    let found = subst (λ (o : Option Tail). IfSome o (FollowOf machines c.args.below c.args.first.now
+    c.as_slice.result.now)) c.in-Some.is c.in_ok-tail.ensures in
+    let follow = subst (λ (es : List SealedEntry). FollowOf machines c.args.below c.args.first.now es c.in-Some.tail)
+    c.as_slice.ensures.value found in
+    three_said c.judged_after.result (tail_summed machines (map rule_tree c.args.rules.now) c.args.entries.now
+    c.args.below c.requires.given c.args.first.now c.requires.first c.in_ok-later.later.items c.in_ok-later.ensures
+    c.in-Some.tail follow) c.judged_after.ensures.said c.judged_after.ensures.judged c.judged_after.ensures.kept

@@ -1,9 +1,9 @@
-use Rattle.live_auditor.proofs.Imports.{ℕ, List, map, subst, sym, IfSome, Row, rule_tree, IsFirstTooWide}
-use Rattle.live_auditor.proofs.Imports.{IsTooWideOver, LiveState, kept_of}
-use Rattle.live_auditor.proofs.Wide.{narrow_kept, wide_kept}
+use Rattle.live_auditor.proofs.Imports.{ℕ, List, map, subst, sym, IfSome, Row, rule_tree, IsFirstTooWide, IsTooWideOver}
+use Rattle.live_auditor.proofs.Imports.{LiveState, kept_of}
+use Rattle.live_auditor.proofs.Wide.{narrow_kept, wide_kept, if_none_weaker}
 use Rattle.std.specs.Prelude.{IfNone}
+use Rattle.std.proofs.lemmas.Option.{IfSome_then}
 use Rattle.live_auditor.proofs.live.Live.first_too_wide.Goals as goal
-use Rattle.live_auditor.proofs.Wide.{if_none_weaker, if_some_weaker}
 
 -- over the rows that are kept is over the survivors
 pub returns-clause-some : goal.returns-clause-some
@@ -11,9 +11,9 @@ returns-clause-some c =
     let trees = map rule_tree c.args.rules.now in
     let found = subst (λ (rows : List Row). IfSome c.first_too_wide.result (IsFirstTooWide rows trees))
     c.as_slice.ensures.value c.first_too_wide.ensures.some in
-    if_some_weaker c.first_too_wide.result (λ place wide.
+    IfSome_then c.first_too_wide.result found (λ place wide.
     subst (λ (l : LiveState). IsTooWideOver l.machines trees l.added place) c.self.view_is
-    (wide_kept _ (kept_of c.self.inside.survivors) c.self.invariant.0 trees place wide)) found
+    (wide_kept _ (kept_of c.self.inside.summed.survivors) c.self.invariant.0 trees place wide))
 
 pub returns-clause-none : goal.returns-clause-none
 returns-clause-none c =
@@ -22,5 +22,5 @@ returns-clause-none c =
     IfNone c.first_too_wide.result ((place : ℕ) → IsFirstTooWide rows trees place → ⊥))
     c.as_slice.ensures.value c.first_too_wide.ensures.none in
     if_none_weaker c.first_too_wide.result (λ never place wide.
-    narrow_kept _ (kept_of c.self.inside.survivors) c.self.invariant.0 trees c.entries_give_one_graph.ensures never place
+    narrow_kept _ (kept_of c.self.inside.summed.survivors) c.self.invariant.0 trees c.entries_give_one_graph.ensures never place
     (subst (λ (l : LiveState). IsTooWideOver l.machines trees l.added place) (sym c.self.view_is) wide)) none

@@ -5,13 +5,13 @@ use Rattle.live_auditor.proofs.live.Live.make.Goals as goal
 
 pub invariant_of-result : goal.invariant_of-result
 invariant_of-result c =
-    let machines = c.in_ok-roster.roster.machines in (
+    let machines = c.in_ok-roster.roster.machines in
+    let base = c.in_ok-base-in-Ok.base in (
       first_kept machines c.args.rules.items (map rule_tree c.as_slice-read.result.now) c.new.result.items
-          c.new-in-Ok-base_of.result.items c.in-Ok.summed.summary (kept_of c.in-Ok.summed.survivors)
-          (ap (map rule_tree) c.as_slice-read.ensures.value) c.new.ensures.items c.new-in-Ok-base_of.ensures.items
+          c.new-in-Ok.result.items c.in-Ok.summed.summary (kept_of c.in-Ok.summed.survivors)
+          (ap (map rule_tree) c.as_slice-read.ensures.value) c.new.ensures.items c.new-in-Ok.ensures.items
           c.in-Ok.ensures.ok,
-      subst (λ (es : List SealedEntry). IsBase machines c.args.rules.items es c.in-Ok-base_of.base)
-          (sym c.new-in-Ok-base_of.ensures.items)
-          (subst (λ (rs : List Rule). IsBase machines rs [] c.in-Ok-base_of.base) c.as_slice-read.ensures.value
-          c.in-Ok-base_of.ensures.ok),
+      subst (λ (es : List SealedEntry). IsBase machines c.args.rules.items es base) (sym c.new-in-Ok.ensures.items)
+          (subst (λ (rs : List Rule). IsBase machines rs [] base) c.as_slice-read.ensures.value
+          c.in_ok-base-in-Ok.ensures.ok),
     )

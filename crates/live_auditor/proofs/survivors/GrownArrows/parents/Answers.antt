@@ -1,6 +1,5 @@
 use Rattle.std.proofs.Common.{◌≡◌}
-use Rattle.live_auditor.proofs.Imports.{◌∙◌, ap, get_or, subst, sym, Contains, Contains-get_or, parents_in}
-use Rattle.live_auditor.proofs.Imports.{parents_of}
+use Rattle.live_auditor.proofs.Imports.{◌∙◌, ap, get_or, subst, sym, Contains, Contains-get_or, parents_in, parents_of}
 use Rattle.live_auditor.proofs.survivors.GrownArrows.parents.Goals as goal
 
 pub returns-clause-below : goal.returns-clause-below
