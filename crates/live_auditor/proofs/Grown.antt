@@ -25,7 +25,8 @@ none_is_empty [] none = refl
 none_is_empty (d ∷ ds) none = absurd (none d (Contains-head d ds))
 
 module _ {T : Type 0} (node : T → Node) (given : List T) (graph : EntryGraph T)
-    (is : IsGraphOfGiven node given graph) (e : T) (new : IsNew node given e) (appended : IsAppended node given graph e) where
+    (is : IsGraphOfGiven node given graph) (e : T) (new : IsNew node given e)
+    (appended : IsAppended node given graph e) where
   -- the survivors
   abbrev S : List T
   S = graph.survivors

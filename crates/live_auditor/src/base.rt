@@ -150,8 +150,8 @@ fn is_latest(added: &[Sealed], stamp: u32) -> bool
     added.iter().all(|f| f.entry().stamp < stamp)
 }
 
-/// What is said of the entries and this one: by what is said of them where it comes last, and by the
-/// base otherwise.
+/// What is said of the entries and this one: by what is said of them where it comes last, and by
+/// the base otherwise.
 pub(crate) fn summed_with(
     alloc: Global,
     roster: &Roster,

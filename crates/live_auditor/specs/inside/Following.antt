@@ -49,5 +49,6 @@ pub record IsFollowed (machines : List Post) (given : List SealedEntry) (first :
 abbrev pub FollowOf : List Post → ℕ → Summed → List SealedEntry → Tail → Type 0
 FollowOf machines below first others tail =
     (given : List SealedEntry) (graph : EntryGraph SealedEntry) →
-    IsGraphed machines given graph first.summary.gaps (kept_of first.survivors) → CanFollow given others below →
+    IsGraphed machines given graph first.summary.gaps (kept_of first.survivors) →
+    CanFollow given others below →
     IsFollowed machines given graph (kept_of first.survivors) others tail

@@ -15,7 +15,8 @@ loop-place-preserved c =
     let low : c.loop-place.place - 1 < length c.args.digests.now =
     omega (arith, c.loop-place-test.true, c.loop-place.auto.place) in
     looked_at c.args.digests.now c.args.digest.now c.loop-place.place _
-    (slice_get-get_or c.args.digests.now (c.loop-place.place - 1) _ low) (sym c.same_digest.ensures ∙ c.if-same_digest.false)
+    (slice_get-get_or c.args.digests.now (c.loop-place.place - 1) _ low)
+    (sym c.same_digest.ensures ∙ c.if-same_digest.false)
     c.loop-place.invariant
 
 pub returns-clause-none : goal.returns-clause-none

@@ -26,4 +26,5 @@ pub returns : goal.returns
 returns c = λ given graph is can.
     subst (λ (es : List SealedEntry).
     IsFollowed c.args.roster.now.machines given graph (kept_of c.args.first.now.survivors) es c.loop-entry.tail)
-    (take_all c.loop-entry.entry-index c.args.later.now c.loop-entry-test.false) (c.loop-entry.invariant given graph is can)
+    (take_all c.loop-entry.entry-index c.args.later.now c.loop-entry-test.false)
+    (c.loop-entry.invariant given graph is can)

@@ -22,5 +22,6 @@ returns-clause-none c =
     IfNone c.first_too_wide.result ((place : ℕ) → IsFirstTooWide rows trees place → ⊥))
     c.as_slice.ensures.value c.first_too_wide.ensures.none in
     if_none_weaker c.first_too_wide.result (λ never place wide.
-    narrow_kept _ (kept_of c.self.inside.summed.survivors) c.self.invariant.0 trees c.entries_give_one_graph.ensures never place
+    narrow_kept _ (kept_of c.self.inside.summed.survivors) c.self.invariant.0 trees
+    c.entries_give_one_graph.ensures never place
     (subst (λ (l : LiveState). IsTooWideOver l.machines trees l.added place) (sym c.self.view_is) wide)) none
