@@ -1,25 +1,18 @@
 -- A check by the proof that `prove` writes agrees with an audit.
-use Rattle.std.proofs.Common.{length, Option, Some}
-use Rattle.log_commands.proofs.Imports.{◌≡◌, ◌∙◌, ℕ, ◌≤◌, List, [], ◌∷◌, ◌++◌, map, inl, inr, refl, sym, ap, subst}
-use Rattle.log_commands.proofs.Imports.{Ok, Err, length-map, Post}
-use Rattle.log_commands.proofs.Imports.{SealedEntry, EntryGraph, parents_of, ragged_of, LogRead, Row}
-use Rattle.log_commands.proofs.Imports.{standard_rules, RuleTree, three_in, IsJudged, verdict_of, IsCheckAnswer}
-use Rattle.log_commands.proofs.Imports.{IsCanonicalText, IsCanonicalProof, three_by, Line, canonical_full}
-use Rattle.log_commands.proofs.Imports.{full_proofs_say_all, RosterRead, Refusal, absent, refused}
-use Rattle.log_commands.proofs.Imports.{entries_of, GivesGraph, SameLogs, SameGraph, same_entries}
-use Rattle.log_commands.proofs.Imports.{WithGraph, WithRules, GivesReport, nodes_of}
-use Rattle.log_commands.proofs.Imports.{AreJudged, AuditReport, report_on, row_of, RuleSource, standard, in_file}
-use Rattle.log_commands.proofs.Imports.{files_read, Answer, refusal_answer, source_named, ProofMade, ProvesFiles}
-use Rattle.log_commands.proofs.Imports.{GivesMade, proof_answer, max_proof, CheckReport}
-use Rattle.log_commands.proofs.Imports.{AreChecked, ChecksLogs, ChecksFiles, GivesCheck, IsCheckOver, check_answer}
-use Rattle.log_commands.proofs.Imports.{without_entries, ChecksAgreeWithAudits}
-use Rattle.rule_engine.specs.declared.verdict.Verdict.{Verdict as AuditVerdict}
+use Rattle.log_commands.proofs.Imports
+use Imports.{[], absent, Answer, ap, AreChecked, AreJudged, AuditReport, AuditVerdict, canonical_full, check_answer}
+use Imports.{CheckReport, ChecksAgreeWithAudits, ChecksFiles, ChecksLogs, entries_of, EntryGraph, Err, files_read}
+use Imports.{full_proofs_say_all, GivesCheck, GivesGraph, GivesMade, GivesReport, inl, inr, IsCanonicalProof}
+use Imports.{IsCanonicalText, IsCheckAnswer, IsCheckOver, IsJudged, length, length-map, Line, List, LogRead, map}
+use Imports.{max_proof, nodes_of, Ok, Option, parents_of, Post, ProofMade, ProvesFiles, ragged_of, refl, Refusal}
+use Imports.{refusal_answer, refused, RosterRead, Row, row_of, RuleSource, RuleTree, same_entries, SameGraph, SameLogs}
+use Imports.{SealedEntry, Some, source_named, subst, sym, three_by, three_in, verdict_of, WithGraph, without_entries}
+use Imports.{WithRules, ℕ, ◌++◌, ◌∙◌, ◌∷◌, ◌≡◌, ◌≤◌}
+use Rattle.log_commands.proofs.FilesBegun.{begun_by, same_found, whole_by}
+use Rattle.log_commands.proofs.OneProof.{one_check, ProofOne, SameCheck}
+use Rattle.log_commands.proofs.{OneOrderAnswer.OrderOne, SameNodes.same_nodes, SoundReports.given_is_sound}
 use Rattle.rule_engine.specs.declared.verdict.Verdict.TheVariants as audited
-use Rattle.audit_proof.specs.declared.fault.Verdict.{Verdict}
-use Rattle.log_commands.proofs.OneOrderAnswer.{OrderOne}
-use Rattle.log_commands.proofs.OneProof.{ProofOne, SameCheck, one_check}
-use Rattle.log_commands.proofs.SameNodes.{same_nodes}
-use Rattle.log_commands.proofs.SoundReports.{given_is_sound}
+use Rattle.log_commands.specs.Prove.{proof_answer}
 
 -- ---- a rule's verdict
 
@@ -68,24 +61,11 @@ module _ (order : OrderOne) (one : ProofOne) (proof : List ℕ) (names : List (L
       WithGraph machines source rules names logs graph (Ok report) →
       ChecksLogs machines source rules proof (Some made.text) logs (Ok (check_of report))
   graph_gives machines source rules logs graph gives (lines, canonical, text) fits (inl (vs, judged, e)) =
-      let expected : AuditReport = report_on machines names logs graph rules vs in
-      let same : report ≡ expected = cc in
-      let rows = map (row_of machines) graph.survivors in
-      subst (λ r. ChecksLogs machines source rules proof (Some made.text) logs (Ok (check_of r))) (sym same)
-      (inl (
-        graph,
-        gives,
-        inl (
-          lines,
-          (fits, (text, canonical.proof)),
-          inl (
-            map without_entries vs,
-            all_checked rows graph lines (length-map graph.survivors (row_of machines)) (entries_of logs) gives
-                canonical rules vs judged,
-            refl,
-          ),
-        ),
-      ))
+      let checked = all_checked _ graph lines (length-map graph.survivors (row_of machines)) (entries_of logs) gives
+      canonical rules vs judged in
+      subst (λ r. ChecksLogs machines source rules proof (Some made.text) logs (Ok (check_of r)))
+      (sym (same_found report _ e))
+      (inl (graph, gives, inl (lines, (fits, (text, canonical.proof)), inl (map without_entries vs, checked, refl))))
   graph_gives machines source rules logs graph gives canonical fits (inr (r, bad, e)) = cc
 
   -- by the files of logs, under one roster
@@ -117,33 +97,16 @@ module _ (order : OrderOne) (one : ProofOne) (proof : List ℕ) (names : List (L
       GivesReport roster source names (files_read roster_file source rules_file files) (Ok report) →
       GivesCheck roster source proof names (files_read roster_file source rules_file (files ++ Some made.text ∷ []))
       (Ok (check_of report))
-  all_give roster standard roster_file rules_file files (inl (read, found, proves)) (inl (other, also, with)) =
-      let same : Ok read ≡ Ok other = order.roster roster roster_file (Ok read) (Ok other) found also in
-      let reads : read ≡ other = cc in
-      inl (
-        other,
-        also,
-        files_give other standard standard_rules files
-            (subst (λ (r : RosterRead). ProvesFiles r proof names files (Ok made)) reads proves) with,
-      )
-  all_give roster (in_file name) roster_file rules_file files (inl (read, found, proves))
-      (inl (other, also, inl (rules, gives, with))) =
-      let same : Ok read ≡ Ok other = order.roster roster roster_file (Ok read) (Ok other) found also in
-      let reads : read ≡ other = cc in
-      inl (
-        other,
-        also,
-        inl (
-          rules,
-          gives,
-          files_give other (in_file name) rules files
-              (subst (λ (r : RosterRead). ProvesFiles r proof names files (Ok made)) reads proves) with,
-        ),
-      )
-  all_give roster (in_file name) roster_file rules_file files (inl proved) (inl (other, also, inr (r, bad, e))) = cc
-  all_give roster standard roster_file rules_file files (inl proved) (inr (r, bad, e)) = cc
-  all_give roster (in_file name) roster_file rules_file files (inl proved) (inr (r, bad, e)) = cc
-  all_give roster source roster_file rules_file files (inr (r, bad, e)) with = cc
+  all_give roster source roster_file rules_file files (inl (read, found, proves)) audits =
+      let (b, with) = begun_by (λ read rules rest. WithRules read source rules names rest) roster roster_file rules_file
+      files source report audits in
+      let same : Ok read ≡ Ok b.read = order.roster roster roster_file (Ok read) (Ok b.read) found b.given in
+      let reads : read ≡ b.read = cc in
+      whole_by (λ read rules rest. ChecksFiles read source rules proof names rest) roster roster_file rules_file
+      (files ++ Some made.text ∷ []) source b (Ok (check_of report))
+      (files_give b.read source b.rules files
+      (subst (λ (r : RosterRead). ProvesFiles r proof names files (Ok made)) reads proves) with)
+  all_give roster source roster_file rules_file files (inr (r, bad, e)) audits = cc
 
 -- ---- the law
 
@@ -164,13 +127,12 @@ checks_agree order one roster rules proof logs roster_file rules_file log_files 
     absurd (no_refusal refusal proof text (sym (ap (λ (a : Answer). a.files) e) ∙ writes))
 checks_agree order one roster rules proof logs roster_file rules_file log_files text proved checked report
     (inr (made, gives, e)) writes audits checks =
-    let same : made.text ≡ text = written_text proof text made (sym (ap (λ (a : Answer). a.files) e) ∙ writes) in
     let source = source_named rules in
+    let same : made.text ≡ text = written_text proof text made (sym (ap (λ (a : Answer). a.files) e) ∙ writes) in
     let found = all_give order one proof logs made report roster source roster_file rules_file log_files gives audits in
-    let files : List (Option (List ℕ)) = files_read roster_file source rules_file (log_files ++ Some text ∷ []) in
     let here = subst (λ (t : List ℕ). GivesCheck roster source proof logs
     (files_read roster_file source rules_file (log_files ++ Some t ∷ [])) (Ok (check_of report))) same found in
-    (by files here checks, given_is_sound roster source logs (files_read roster_file source rules_file log_files) report audits)
+    (by _ here checks, given_is_sound roster source logs _ report audits)
   where
     -- by what the check answers over files that give this report
     by : (files : List (Option (List ℕ))) →
@@ -183,5 +145,4 @@ checks_agree order one roster rules proof logs roster_file rules_file log_files 
     by files found (inr (other, gives, is)) =
         let same : SameCheck other (check_of report) =
         one_check order one roster (source_named rules) proof logs files (Ok other) (Ok (check_of report)) gives found in
-        is.told ∙ ap (λ (rs : List RuleTree). check_answer rs other.verdicts) same.rules
-        ∙ ap (λ (vs : List Verdict). check_answer report.rules vs) same.verdicts
+        is.told ∙ (λ i. check_answer (same.rules i) (same.verdicts i))

@@ -1,28 +1,22 @@
 -- The command `check`.
-use Rattle.log_commands.proofs.Imports.{◌≢◌, ◌∙◌, ℕ, List, [], ◌∷◌, inl, inr, refl, sym, ap, arith}
-use Rattle.log_commands.proofs.Imports.{Ok, Err, All-from_recursion, RuleTree, Status}
-use Rattle.log_commands.proofs.Imports.{source_named, CheckReport, GivesCheck, IsCheckOf}
-use Rattle.log_commands.proofs.Imports.{verdict_on_all, checked_status, check_answer, check_parts}
-use Rattle.log_commands.proofs.Imports.{IsCarriedOut}
-use Rattle.std.specs.List.{Contains}
-use Rattle.audit_proof.specs.declared.fault.Verdict.{Verdict}
-use Rattle.audit_proof.specs.declared.fault.Verdict.TheVariants.{Kept, Broken, Unsettled}
+use Rattle.log_commands.proofs.Imports.{[], All-from_recursion, arith, Broken, carried_out_as, check_answer}
+use Rattle.log_commands.proofs.Imports.{check_parts, checked_status, CheckReport, Contains, contains_as, Err}
+use Rattle.log_commands.proofs.Imports.{HasOneAnswer, HasStatuses, inl, inr, IsCarriedOut, IsCompleted, IsOfCommands}
+use Rattle.log_commands.proofs.Imports.{List, of_read, Ok, refl, same_or, source_named, Status, sym, Unsettled}
+use Rattle.log_commands.proofs.Imports.{verdict_on_all, ℕ, ◌∙◌, ◌∷◌, ◌≢◌}
+use Rattle.audit_proof.specs.{declared.fault.Verdict.Verdict, declared.fault.Verdict.TheVariants.Kept}
+use Rattle.log_commands.proofs.OneProof.{one_check, ProofOne, SameCheck}
+use Rattle.log_commands.proofs.{OneOrderAnswer.OrderOne}
 use Rattle.command_line.specs.declared.status.Status.TheVariants as status
-use Rattle.command_line.proofs.CommandProofs.{IsOfCommands, HasStatuses, IsCompleted, HasOneAnswer, contains_as}
-use Rattle.command_line.proofs.CommandProofs.{carried_out_as, of_read}
-use Rattle.log_commands.proofs.OneOrderAnswer.{OrderOne}
-use Rattle.log_commands.proofs.OneProof.{ProofOne, SameCheck, one_check}
-use Rattle.command_line.proofs.SameOr.{same_or}
+use Rattle.log_commands.specs.Check.{IsCheckOf}
+use Rattle.log_commands.specs.Check.{GivesCheck}
 
 -- over files it has one answer
 pub check_one : OrderOne → ProofOne → (roster rules proof : List ℕ) (logs : List (List ℕ)) →
     HasOneAnswer (check_parts roster rules proof logs)
 check_one order one roster rules proof logs files a b =
-    same_or SameCheck (GivesCheck roster (source_named rules) proof logs files) IsCheckOf a b
-    (one_check order one roster (source_named rules) proof logs files)
-    (λ f g gives same x y.
-    x.told ∙ ap (λ (rs : List RuleTree). check_answer rs f.verdicts) same.rules
-    ∙ ap (λ (vs : List Verdict). check_answer g.rules vs) same.verdicts ∙ sym y.told)
+    same_or SameCheck _ IsCheckOf a b (one_check order one roster (source_named rules) proof logs files)
+    (λ f g gives same x y. x.told ∙ (λ i. check_answer (same.rules i) (same.verdicts i)) ∙ sym y.told)
 
 -- each verdict has a status of a command that was carried out
 verdict_done : (verdict : Verdict) → IsCarriedOut (checked_status verdict)
@@ -53,8 +47,7 @@ check_has_statuses roster rules proof logs = record {
   own = λ files answer is.
       of_read own_statuses (3, omega arith, refl) (4, omega arith, refl)
       (GivesCheck roster (source_named rules) proof logs files) IsCheckOf answer
-      (λ (report : CheckReport) right.
-      contains_as own_statuses answer (check_answer report.rules report.verdicts) right.told
+      (λ (report : CheckReport) right. contains_as own_statuses answer _ right.told
       (verdict_has (verdict_on_all report.verdicts))) is;
   some = All-from_recursion IsOfCommands own_statuses (tt, (tt, (tt, (tt, (tt, tt)))));
 }

@@ -1,36 +1,18 @@
 -- A check by any proof says no more than an audit.
-use Rattle.std.proofs.Common.{Bool, length, Option, Some}
-use Rattle.std.specs.List.{AllZip}
-use Rattle.log_commands.proofs.Imports.{◌≡◌, ◌∙◌, ℕ, ◌<◌, List, [], ◌∷◌, ◌++◌, map, inl, inr, refl, sym, ap, subst}
-use Rattle.log_commands.proofs.Imports.{Ok, None, length-map, Post, SealedEntry, EntryGraph}
-use Rattle.log_commands.proofs.Imports.{parents_of, ragged_of, LogRead, Row, Graph, standard_rules, RuleTree}
-use Rattle.log_commands.proofs.Imports.{IsJudged, verdict_of, IsCheckAnswer, three_by, Line, IsProofOf}
-use Rattle.log_commands.proofs.Imports.{RosterRead, entries_of, GivesGraph, SameLogs, SameGraph}
-use Rattle.log_commands.proofs.Imports.{same_entries, WithGraph, WithRules, GivesReport, nodes_of, AreJudged}
-use Rattle.log_commands.proofs.Imports.{AuditReport, report_on, row_of, RuleSource, standard, in_file, files_read}
-use Rattle.log_commands.proofs.Imports.{source_named, GivesProof, CheckReport, AreChecked, ChecksLogs}
-use Rattle.log_commands.proofs.Imports.{ChecksFiles, GivesCheck, IsOfReport}
-use Rattle.log_commands.proofs.Imports.{refusal_answer, check_answer, Three}
-use Rattle.entry_order.specs.Ancestors.{Descends}
-use Rattle.entry_order.specs.Ancestors.{before, is_whole}
-use Rattle.rule_meaning.specs.Knowledge.{IsLessKnown}
-use Rattle.rule_meaning.specs.Values.{three}
-use Rattle.rule_language.specs.Trees.{Trees}
-use Rattle.evidence.specs.Logs.{GivesLogs}
-use Rattle.auditor.specs.Audits.{AndThen}
-use Rattle.rule_engine.proofs.Graphs.{same_answer}
-use Rattle.rule_engine.specs.Verdicts.{IsVerdict}
-use Rattle.rule_engine.specs.declared.verdict.Verdict.{Verdict as AuditVerdict}
-use Rattle.rule_engine.specs.declared.verdict.Verdict.TheVariants as audited
+use Rattle.log_commands.proofs.Imports
+use Imports.{[], AllZip, AndThen, ap, AreChecked, AreJudged, AuditReport, AuditVerdict, before, Bool, check_answer}
+use Imports.{CheckReport, ChecksFiles, ChecksLogs, ChecksSayNoMore, Descends, entries_of, EntryGraph, files_read}
+use Imports.{GivesCheck, GivesGraph, GivesLogs, GivesReport, inl, inr, is_whole, IsCheckAnswer, IsJudged, IsLessKnown}
+use Imports.{IsOfReport, IsProofOf, IsVerdict, length, length-map, Line, List, LogRead, map, nodes_of, Ok, Option}
+use Imports.{orders_agree, parents_of, Post, proofs_say_no_more, ragged_of, refl, refusal_answer, RosterRead, Row}
+use Imports.{row_of, RulesAreReadInOneWay, RuleSource, RuleTree, same_answer, same_entries, SameGraph, SameLogs}
+use Imports.{SaysNoMore, SealedEntry, source_named, status_is, subst, sym, Three, three, three_by, Trees, verdict_of}
+use Imports.{WithGraph, WithRules, ℕ, ◌++◌, ◌<◌, ◌∙◌, ◌∷◌, ◌≡◌}
 use Rattle.audit_proof.specs.declared.fault.Verdict.{Verdict}
-use Rattle.audit_proof.proofs.Trusted.{proofs_say_no_more}
-use Rattle.auditor.proofs.OneStep.{RulesAreReadInOneWay, one_rules}
-use Rattle.auditor.proofs.OneVerdict.{orders_agree}
-use Rattle.log_commands.specs.CheckAgrees.{ChecksSayNoMore, SaysNoMore}
-use Rattle.command_line.proofs.CommandProofs.{status_is}
-use Rattle.log_commands.proofs.OneOrderAnswer.{OrderOne}
-use Rattle.log_commands.proofs.OneProof.{same_ends}
-use Rattle.log_commands.proofs.WatchAgreement.{not_of_report}
+use Rattle.log_commands.proofs.FilesBegun.{begun_by, one_begun, same_found}
+use Rattle.log_commands.proofs.{CheckSound.proof_of, OneOrderAnswer.OrderOne, OneProof.ones_of, OneProof.same_ends}
+use Rattle.log_commands.proofs.{HonestAudits.no_report}
+use Rattle.rule_engine.specs.declared.verdict.Verdict.TheVariants as audited
 
 -- where a value is the one of which an audit has its verdict, or unknown, a check says no more
 less_said : (rows : List Row) (order : ℕ → ℕ → Three) (wholes : ℕ → Bool) (tree : Trees) (v : AuditVerdict)
@@ -78,12 +60,6 @@ record IsNoMoreThan (report : AuditReport) (checked : CheckReport) : Type 0 wher
   rules : checked.rules ≡ report.rules
   less : AllZip SaysNoMore report.verdicts checked.verdicts
 
--- what is read of a file is a proof
-proof_there : (proof : List ℕ) (graph : Graph) (file : Option (List ℕ)) (lines : List Line) →
-    GivesProof proof graph file (Ok lines) → IsProofOf graph lines
-proof_there proof graph None lines e = cc
-proof_there proof graph (Some bytes) lines gives = gives.1.1
-
 module _ (order : OrderOne) (rules_one : RulesAreReadInOneWay) (proof : List ℕ) (names : List (List ℕ))
     (report : AuditReport) (checked : CheckReport) where
   -- by logs that say the same
@@ -93,29 +69,19 @@ module _ (order : OrderOne) (rules_one : RulesAreReadInOneWay) (proof : List ℕ
       ChecksLogs machines source rules proof file others (Ok checked) → IsNoMoreThan report checked
   by_logs machines source rules file logs others alike (inl (graph, gives, inl (vs, judged, e)))
       (inl (other, graphed, inl (lines, read, inl (cs, are, f)))) =
-      let entries : entries_of logs ≡ entries_of others = same_entries logs others alike in
-      let moved = subst (λ (es : List SealedEntry). GivesGraph es (Ok graph)) entries gives in
+      let moved = subst (λ (es : List SealedEntry). GivesGraph es (Ok graph)) (same_entries logs others alike) gives in
       let same : SameGraph graph other = order.graph (entries_of others) (Ok graph) (Ok other) moved graphed in
-      let rows = map (row_of machines) graph.survivors in
-      let here : AreChecked rows (nodes_of other) lines rules cs =
-      subst (λ (S : List SealedEntry). AreChecked (map (row_of machines) S) (nodes_of other) lines rules cs)
+      let here = subst (λ (S : List SealedEntry). AreChecked (map (row_of machines) S) (nodes_of other) lines rules cs)
       (sym same.survivors) are in
-      let less = all_no_more rows graph other gives.2.kept.linked.arrows.descends
+      let less = all_no_more (map (row_of machines) graph.survivors) graph other gives.2.kept.linked.arrows.descends
       graphed.2.kept.linked.arrows.descends same (length-map graph.survivors (row_of machines)) lines
-      (proof_there proof (nodes_of other) file lines read) rules vs cs judged here in
-      let made : AuditReport = report_on machines names logs graph rules vs in
-      let is : report ≡ made = cc in
-      let ends : CheckReport = record { machines = machines; survivors = other.survivors; rules = rules; verdicts = cs } in
-      let also : checked ≡ ends = cc in
-      subst (λ (c : CheckReport). IsNoMoreThan report c) (sym also)
-      (subst (λ (r : AuditReport). IsNoMoreThan r ends) (sym is) (record { rules = refl; less = less }))
+      (proof_of proof other file lines read) rules vs cs judged here in
+      coe 1 0 (i. IsNoMoreThan (same_found report _ e i) (same_found checked _ f i)) (record { rules = refl; less = less })
   by_logs machines source rules file logs others alike (inl (graph, gives, inr (r, bad, e))) checks = cc
   by_logs machines source rules file logs others alike (inr (r, bad, e)) checks = cc
-  by_logs machines source rules file logs others alike (inl (graph, gives, inl vs)) (inl (other, graphed, inl (lines, read, inr (r, bad, e)))) =
-      cc
-  by_logs machines source rules file logs others alike (inl (graph, gives, inl vs)) (inl (other, graphed, inr (r, bad, e))) =
-      cc
-  by_logs machines source rules file logs others alike (inl (graph, gives, inl vs)) (inr (r, bad, e)) = cc
+  by_logs machines source rules file logs others alike x (inl (other, graphed, inl (lines, read, inr (r, bad, e)))) = cc
+  by_logs machines source rules file logs others alike x (inl (other, graphed, inr (r, bad, e))) = cc
+  by_logs machines source rules file logs others alike x (inr (r, bad, e)) = cc
 
   -- by the files of logs, under one roster
   by_files : (read : RosterRead) (source : RuleSource) (rules : List RuleTree) (files : List (Option (List ℕ)))
@@ -136,34 +102,21 @@ module _ (order : OrderOne) (rules_one : RulesAreReadInOneWay) (proof : List ℕ
       GivesReport roster source names (files_read roster_file source rules_file files) (Ok report) →
       GivesCheck roster source proof names (files_read roster_file source rules_file (files ++ last ∷ []))
       (Ok checked) → IsNoMoreThan report checked
-  by_all roster standard roster_file rules_file files last (inl (read, found, with)) (inl (other, also, checks)) =
-      let same : Ok read ≡ Ok other = order.roster roster roster_file (Ok read) (Ok other) found also in
-      let reads : read ≡ other = cc in
-      by_files other standard standard_rules files last
-      (subst (λ (r : RosterRead). WithRules r standard standard_rules names files (Ok report)) reads with) checks
-  by_all roster standard roster_file rules_file files last (inr (r, bad, e)) checks = cc
-  by_all roster standard roster_file rules_file files last (inl with) (inr (r, bad, e)) = cc
-  by_all roster (in_file name) roster_file rules_file files last (inl (read, found, inl (rules, gives, with)))
-      (inl (other, also, inl (again, reads_rules, checks))) =
-      let same : Ok read ≡ Ok other = order.roster roster roster_file (Ok read) (Ok other) found also in
-      let reads : read ≡ other = cc in
-      let one : rules ≡ again = one_rules rules_one name rules_file (Ok rules) (Ok again) gives reads_rules in
-      by_files other (in_file name) again files last
-      (subst (λ (rs : List RuleTree). WithRules other (in_file name) rs names files (Ok report)) one
-      (subst (λ (r : RosterRead). WithRules r (in_file name) rules names files (Ok report)) reads with))
-      checks
-  by_all roster (in_file name) roster_file rules_file files last (inl (read, found, inr (r, bad, e))) checks = cc
-  by_all roster (in_file name) roster_file rules_file files last (inl (read, found, inl with))
-      (inl (other, also, inr (r, bad, e))) = cc
-  by_all roster (in_file name) roster_file rules_file files last (inr (r, bad, e)) checks = cc
-  by_all roster (in_file name) roster_file rules_file files last (inl with) (inr (r, bad, e)) = cc
+  by_all roster source roster_file rules_file files last audits checks =
+      let (b, with) = begun_by (λ read rules rest. WithRules read source rules names rest) roster roster_file rules_file
+      files source report audits in
+      let (c, found) = begun_by (λ read rules rest. ChecksFiles read source rules proof names rest) roster roster_file
+      rules_file (files ++ last ∷ []) source checked checks in
+      let (read, rules) = one_begun (ones_of order rules_one) roster source roster_file rules_file b c in
+      by_files c.read source c.rules files last
+      (coe 0 1 (i. WithRules (read i) source (rules i) names files (Ok report)) with) found
 
 -- ---- the law
 
 pub checks_say_no_more : OrderOne → RulesAreReadInOneWay → ChecksSayNoMore
 checks_say_no_more order rules_one roster rules proof logs roster_file rules_file proof_file log_files checked report
     gives (inl (refusal, refuses, e)) is =
-    absurd (not_of_report refusal (subst IsOfReport (status_is checked (refusal_answer refusal) e) is))
+    absurd (no_report refusal (subst IsOfReport (status_is checked (refusal_answer refusal) e) is))
 checks_say_no_more order rules_one roster rules proof logs roster_file rules_file proof_file log_files checked report
     gives (inr (found, checks, right)) is =
     let no_more = by_all order rules_one proof logs report found roster (source_named rules) roster_file rules_file

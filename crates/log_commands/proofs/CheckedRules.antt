@@ -1,12 +1,10 @@
 -- Rules checked one after another.
-use Rattle.std.proofs.Common.{length}
-use Rattle.std.proofs.Common.{Some}
-use Rattle.log_commands.proofs.Imports.{◌≡◌, ◌∙◌, ℕ, zero, suc, ◌+◌, ◌<◌, List, [], ◌∷◌, ◌++◌, take, get_or, map}
-use Rattle.log_commands.proofs.Imports.{ap, sym, subst, arith, slice_get, Ok, Err, all_zipped_more, take_more}
-use Rattle.log_commands.proofs.Imports.{map-append, Graph, Rule, Row, RuleTree, rule_tree, CheckFault}
-use Rattle.log_commands.proofs.Imports.{IsCheckAnswer, Line, IsFirstTooWide, AreChecked}
-use Rattle.audit_proof.specs.declared.fault.CheckFault.TheVariants.{TooWide}
-use Rattle.audit_proof.specs.declared.fault.Verdict.{Verdict}
+use Rattle.log_commands.proofs.Imports.{[], all_zipped_more, ap, AreChecked, arith, CheckFault, Err, get_or, Graph}
+use Rattle.log_commands.proofs.Imports.{IsCheckAnswer, IsFirstTooWide, length, Line, List, map, map-append, Ok}
+use Rattle.log_commands.proofs.Imports.{option_map, Row, Rule, rule_tree, RuleTree, slice_get, slice_get-get_or}
+use Rattle.log_commands.proofs.Imports.{slice_get-map, Some, subst, suc, sym, take, take_more, zero, ℕ, ◌++◌, ◌+◌, ◌<◌}
+use Rattle.log_commands.proofs.Imports.{◌∙◌, ◌∷◌, ◌≡◌}
+use Rattle.audit_proof.specs.{declared.fault.CheckFault.TheVariants.TooWide, declared.fault.Verdict.Verdict}
 use Rattle.log_commands.proofs.OneProof.{checked_is_narrow}
 
 -- the first rules and one more
@@ -25,10 +23,8 @@ module _ (rows : List Row) (graph : Graph) (lines : List Line) (rules : List Rul
       IsCheckAnswer rows graph.ragged lines (rule_tree rule).body (Ok verdict) →
       AreChecked rows graph lines (map rule_tree (take (i + 1) rules)) (verdicts ++ verdict ∷ [])
   checked_more verdict checked =
-      let P : List RuleTree → Type 0 = λ trees. AreChecked rows graph lines trees (verdicts ++ verdict ∷ []) in
-      subst P (trees_more rules i rule within is)
-      (all_zipped_more (λ (r : RuleTree) (v : Verdict). IsCheckAnswer rows graph.ragged lines r.body (Ok v))
-      (map rule_tree (take i rules)) verdicts (rule_tree rule) verdict so_far checked)
+      subst (λ trees. AreChecked rows graph lines trees (verdicts ++ verdict ∷ [])) (trees_more rules i rule within is)
+      (all_zipped_more _ (map rule_tree (take i rules)) verdicts (rule_tree rule) verdict so_far checked)
 
   -- the rule after those that were checked is the first that is too wide
   pub first_too_wide : (fault : CheckFault) → fault ≡ TooWide →
@@ -36,20 +32,14 @@ module _ (rows : List Row) (graph : Graph) (lines : List Line) (rules : List Rul
       IsFirstTooWide rows (map rule_tree rules) i
   first_too_wide fault at answer = record {
     rule = rule_tree rule;
-    stands = stands rules i rule within is;
+    stands = slice_get-map rule_tree rules i
+        ∙ ap (option_map rule_tree) (slice_get-get_or rules i rule within ∙ ap Some (sym is));
     too_wide = subst (λ (f : CheckFault). IsCheckAnswer rows graph.ragged lines (rule_tree rule).body (Err f)) at answer;
     first = λ k tree below there.
         checked_is_narrow rows graph lines (map rule_tree (take i rules)) verdicts k tree so_far
         (early rules i k tree below there);
   }
     where
-      -- the tree of the rule at a place is at the same place among the trees
-      stands : (list : List Rule) (n : ℕ) (one : Rule) → n < length list → one ≡ get_or list n one →
-          slice_get (map rule_tree list) n ≡ Some (rule_tree one)
-      stands [] n one below same = absurd (omega arith)
-      stands (r ∷ list) zero one below same = ap (λ (q : Rule). Some (rule_tree q)) (sym same)
-      stands (r ∷ list) (suc n) one below same = stands list n one (omega arith) same
-
       -- a rule at a place below i is one of the first i
       early : (list : List Rule) (n k : ℕ) (tree : RuleTree) → k < n → slice_get (map rule_tree list) k ≡ Some tree →
           slice_get (map rule_tree (take n list)) k ≡ Some tree

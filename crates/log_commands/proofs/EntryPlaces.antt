@@ -1,13 +1,10 @@
 -- Looking for an entry among survivors.
-use Rattle.std.proofs.Common.{Option, Some, Bool, true, length}
-use Rattle.log_commands.proofs.Imports.{◌≡◌, ◌≢◌, ◌∙◌, ℕ, ◌+◌, ◌<◌, ◌≤◌, List, None, get_or, refl, sym, ap, subst}
-use Rattle.log_commands.proofs.Imports.{arith, slice_get, IsTrue, nat_lt, bytes_eq, slice_cmp, nat_cmp}
-use Rattle.log_commands.proofs.Imports.{ordering_reverse, is_lt, Ordering, Less, Equal, Greater, ltb-true}
-use Rattle.log_commands.proofs.Imports.{bytes_eq-Decides, nat_list_cmp_total, slice_get-get_or, slice_get_within}
-use Rattle.log_commands.proofs.Imports.{below_more, Post, SealedEntry, IsNumbered, IsNamedBy, by_number, IsPlaceOf}
-use Rattle.log_commands.proofs.Imports.{IsLowerAt, member_at, one_at}
-use Rattle.std.specs.Prelude.{◌↔◌}
-use Rattle.std.specs.List.{Contains}
+use Rattle.log_commands.proofs.Imports.{ap, arith, below_more, Bool, by_number, bytes_eq, bytes_eq-Decides, Equal}
+use Rattle.log_commands.proofs.Imports.{get_or, Greater, is_lt, IsLowerAt, IsNamedBy, IsNumbered, IsPlaceOf, IsTrue}
+use Rattle.log_commands.proofs.Imports.{length, Less, List, ltb-true, member_at, nat_cmp, nat_list_cmp_total, nat_lt}
+use Rattle.log_commands.proofs.Imports.{None, one_at, Option, Ordering, ordering_reverse, Post, refl, SealedEntry}
+use Rattle.log_commands.proofs.Imports.{slice_cmp, slice_get, slice_get-get_or, slice_get_within, Some, subst, sym}
+use Rattle.log_commands.proofs.Imports.{true, ℕ, ◌+◌, ◌<◌, ◌↔◌, ◌∙◌, ◌≡◌, ◌≤◌}
 
 -- e has a lower digest than f
 abbrev pub IsUnder : SealedEntry → SealedEntry → Type 0
@@ -43,69 +40,36 @@ module _ (P : SealedEntry → Type 0) (S : List SealedEntry) where
       (e : SealedEntry) × (slice_get S place ≡ Some e) × P e
       × ((i : ℕ) → i < at → (f : SealedEntry) → slice_get S i ≡ Some f → P f → ¬ IsUnder f e)
 
-  -- the place of the entry with the least digest is a place of S
-  pub least_within : (at place : ℕ) → LeastBefore at (Some place) → place < length S
-  least_within at place (e, is, holds, least) = slice_get_within S place e is
-
   -- the entry at this place has a lower digest
   pub least_here : (at : ℕ) (least : Option ℕ) (e : SealedEntry) → slice_get S at ≡ Some e → P e →
       IsLowerAt S at least → LeastBefore at least → LeastBefore (at + 1) (Some at)
-  least_here at None e is holds lower before = (
-    e,
-    is,
-    holds,
-    below_more (λ i. (f : SealedEntry) → slice_get S i ≡ Some f → P f → ¬ IsUnder f e) at
-        (λ i low f same has. absurd (before i low f same has))
-        (λ f same has under. not_under_itself e (subst (λ g. IsUnder g e) (sym (one_at S at e f is same)) under)),
-  )
-  least_here at (Some place) e is holds (g, h, at_g, at_h, lower) (k, at_k, has_k, least) = (
-    e,
-    is,
-    holds,
-    below_more (λ i. (f : SealedEntry) → slice_get S i ≡ Some f → P f → ¬ IsUnder f e) at
-        (λ i low f same has under. least i low f same has
-        (nat_list_cmp_total.trans f.digest e.digest k.digest under
-        (subst (λ u. IsUnder e u) (one_at S place h k at_h at_k)
-        (subst (λ u. IsUnder u h) (one_at S at g e at_g is) lower))))
-        (λ f same has under. not_under_itself e (subst (λ u. IsUnder u e) (sym (one_at S at e f is same)) under)),
-  )
+  least_here at least e is holds lower before =
+      (e, is, holds, below_more _ at (by least lower before) (λ f same has under.
+          not_under_itself e (subst (λ u. IsUnder u e) (sym (one_at S at e f is same)) under)))
+    where
+      -- it has a lower one than those before it
+      by : (least : Option ℕ) → IsLowerAt S at least → LeastBefore at least → (i : ℕ) → i < at → (f : SealedEntry) →
+          slice_get S i ≡ Some f → P f → ¬ IsUnder f e
+      by None lower before i low f same has under = before i low f same has
+      by (Some place) (g, h, at_g, at_h, lower) (k, at_k, has_k, least) i low f same has under =
+          least i low f same has (nat_list_cmp_total.trans f.digest e.digest k.digest under
+          (coe 0 1 (j. IsUnder (one_at S at g e at_g is j) (one_at S place h k at_h at_k j)) lower))
 
   -- the entry at this place is none of them
   pub least_passes : (at : ℕ) (least : Option ℕ) (e : SealedEntry) → slice_get S at ≡ Some e → ¬ P e →
       LeastBefore at least → LeastBefore (at + 1) least
   least_passes at None e is not_this before = none_more at e is not_this before
-  least_passes at (Some place) e is not_this (k, at_k, has_k, least) = (
-    k,
-    at_k,
-    has_k,
-    below_more (λ i. (f : SealedEntry) → slice_get S i ≡ Some f → P f → ¬ IsUnder f k) at least
-        (λ f same has. absurd (not_this (subst P (sym (one_at S at e f is same)) has))),
-  )
+  least_passes at (Some place) e is not_this (k, at_k, has_k, least) =
+      (k, at_k, has_k, below_more _ at least
+          (λ f same has. absurd (not_this (subst P (sym (one_at S at e f is same)) has))))
 
   -- the entry with the least digest stays that where the one at this place doesn't have a lower
   -- digest
   pub least_stays : (at : ℕ) (least : Option ℕ) (e : SealedEntry) → slice_get S at ≡ Some e → ¬ IsLowerAt S at least →
       LeastBefore at least → LeastBefore (at + 1) least
   least_stays at None e is not_lower before = absurd (not_lower tt)
-  least_stays at (Some place) e is not_lower (k, at_k, has_k, least) = (
-    k,
-    at_k,
-    has_k,
-    below_more (λ i. (f : SealedEntry) → slice_get S i ≡ Some f → P f → ¬ IsUnder f k) at least
-        (λ f same has under. not_lower (f, k, same, at_k, under)),
-  )
-
-  -- all entries were checked
-  pub least_of_all : (at : ℕ) (place : ℕ) → length S ≤ at → LeastBefore at (Some place) →
-      (e : SealedEntry) × (slice_get S place ≡ Some e) × P e
-      × ((f : SealedEntry) → Contains S f → P f → slice_cmp nat_cmp f.digest e.digest ≢ Less)
-  least_of_all at place past (e, is, holds, least) = (
-    e,
-    is,
-    holds,
-    λ f (k, within, same) has under.
-        least k (omega arith) f (slice_get-get_or S k f within ∙ ap Some same) has under,
-  )
+  least_stays at (Some place) e is not_lower (k, at_k, has_k, least) =
+      (k, at_k, has_k, below_more _ at least (λ f same has under. not_lower (f, k, same, at_k, under)))
 
 -- whether the machine at a place has a name
 pub named_at : (posts machines : List Post) (place : ℕ) (post : Post) (shown machine : List ℕ) (answer : Bool) →
@@ -160,6 +124,6 @@ pub number_found : (machines : List Post) (machine : List ℕ) (number : ℕ) (S
     IsPlaceOf (IsNamedBy machines S (by_number machine number)) S least
 number_found machines machine number S at None past before =
     λ f has (also, numbered, low). none_at_all (IsNumbered machines machine number) S at past before f has numbered
-number_found machines machine number S at (Some place) past before =
-    let (e, is, numbered, least) = least_of_all (IsNumbered machines machine number) S at place past before in
-    (e, is, (member_at S place e is, numbered, least))
+number_found machines machine number S at (Some place) past (e, is, numbered, least) =
+    (e, is, (member_at S place e is, numbered, λ f (k, within, same) has.
+        least k (omega arith) f (slice_get-get_or S k f within ∙ ap Some same) has))

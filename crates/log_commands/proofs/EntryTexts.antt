@@ -1,14 +1,11 @@
 -- Words with a dot.
-use Rattle.std.proofs.Common.{Some}
-use Rattle.log_commands.proofs.Imports.{◌≡◌, ◌≢◌, ℕ, ◌<◌, ◌+◌, List, [], ◌∷◌, ◌++◌, None, take, drop, suc, inl}
-use Rattle.log_commands.proofs.Imports.{inr, refl, sym, ap, subst, ◌∙◌, ◌/◌, ◌%◌, arith, append_assoc, ◌==◌}
-use Rattle.log_commands.proofs.Imports.{slice_index, list_all, decimal, and_parts, and_from, agree_below_at}
-use Rattle.log_commands.proofs.Imports.{true≢false, decimal_injective, encode_with, encode_lower, lower_digits}
-use Rattle.log_commands.proofs.Imports.{decode_of, IsBytes, decode_of-same, decode_of-encode_lower, IsDigestText}
-use Rattle.log_commands.proofs.Imports.{IsNameByte, IsName, Post, SealedEntry, EntryName, by_digest, by_number}
-use Rattle.log_commands.proofs.Imports.{IsSpelt, IsNamedBy, MeansEntry, IsFirstDot, IsPlaceOf, member_at}
-use Rattle.std.specs.Prelude.{All, Bool, true, not, Option}
-use Rattle.std.specs.List.{Contains}
+use Rattle.log_commands.proofs.Imports
+use Imports.{[], agree_below_at, All, and_from, and_parts, ap, append_assoc, arith, Bool, by_digest, by_number}
+use Imports.{Contains, decimal, decimal_injective, decode_of, decode_of-encode_lower, decode_of-same, drop}
+use Imports.{encode_lower, encode_with, EntryName, inl, inr, IsBytes, IsDigestText, IsFirstDot, IsName, IsNameByte}
+use Imports.{IsNamedBy, IsPlaceOf, IsSpelt, List, list_all, lower_digits, MeansEntry, member_at, None, not, Option}
+use Imports.{Post, refl, SealedEntry, slice_index, Some, subst, suc, sym, take, true, true≢false, ℕ, ◌%◌, ◌++◌, ◌+◌}
+use Imports.{◌/◌, ◌<◌, ◌==◌, ◌∙◌, ◌∷◌, ◌≡◌, ◌≢◌}
 
 -- in front of the first dot is one text, and after it one
 one_split : (a b c d : List ℕ) → All (λ byte. byte ≢ 46) a → All (λ byte. byte ≢ 46) c → a ++ 46 ∷ b ≡ c ++ 46 ∷ d →

@@ -1,20 +1,15 @@
 -- The command `gaps`.
-use Rattle.std.proofs.Common.{◌⊎◌, Option, Some, length}
-use Rattle.log_commands.proofs.Imports.{◌≡◌, ◌≢◌, ◌∙◌, ℕ, ◌<◌, ◌≤◌, inl, inr, List, ◌++◌, [], ◌∷◌, None, ap, sym}
-use Rattle.log_commands.proofs.Imports.{subst}
-use Rattle.log_commands.proofs.Imports.{arith, refl, All-from_recursion, node_of, Plain, EntryFault, End, PlainLog}
-use Rattle.log_commands.proofs.Imports.{LogFault, TooLong, Header, HasHeader, Says, max_bytes, IsLogOf}
-use Rattle.log_commands.proofs.Imports.{IsLogRefused, StoreGhosts, OnReadFile, read_weaker, one_read}
-use Rattle.log_commands.proofs.Imports.{refused_lines, end_line}
-use Rattle.log_commands.proofs.Imports.{gap_lines, Status, Answer, absent_answer, refused_answer, gaps_log_lines}
-use Rattle.log_commands.proofs.Imports.{findings_answer, status_of, IsRefusal, IsGapsAnswer, gaps_parts}
-use Rattle.log_commands.proofs.Imports.{IsAnswerAsRead, IsCarriedOut}
-use Rattle.std.specs.Prelude.{codes}
-use Rattle.std.specs.List.{Contains}
-use Rattle.entry_order.specs.Survivors.{gaps as gaps_of}
-use Rattle.log_files.specs.declared.plain_log.LogFault.TheVariants.{Absent, ReadFault, Memory}
-use Rattle.command_line.proofs.CommandProofs.{IsOfCommands, HasStatuses, IsCompleted, HasOneAnswer, contains_as}
-use Rattle.command_line.proofs.CommandProofs.{carried_out_as}
+use Rattle.log_commands.proofs.Imports
+use Imports.{[], absent_answer, All-from_recursion, Answer, ap, arith, carried_out_as, codes, Contains, contains_as}
+use Imports.{findings_answer, gaps_log_lines, gaps_of, gaps_parts, HasOneAnswer, HasStatuses, Header, inl, inr}
+use Imports.{IsAnswerAsRead, IsCarriedOut, IsCompleted, IsGapsAnswer, IsOfCommands, IsRefusal, length, List, node_of}
+use Imports.{None, one_read, OnReadFile, Option, read_weaker, refl, refused_answer, Some, Status, status_of}
+use Imports.{StoreGhosts, subst, sym, TooLong, ℕ, ◌++◌, ◌<◌, ◌∙◌, ◌∷◌, ◌≡◌, ◌≢◌, ◌≤◌, ◌⊎◌}
+use Rattle.log_files.specs.Lines.{end_line, gap_lines, refused_lines}
+use Rattle.log_files.specs.LogFile.{IsLogOf, IsLogRefused, max_bytes}
+use Rattle.log_files.specs.declared.plain_log.LogFault.TheVariants.{Absent, Memory, ReadFault}
+use Rattle.log_files.specs.{LogText.HasHeader, LogText.Says, declared.plain_log.LogFault.LogFault}
+use Rattle.log_files.specs.{declared.plain_log.PlainLog.PlainLog}
 
 -- bytes say at most one log, and only where they have a header
 pub record SayOne : Type 0 where
@@ -34,12 +29,7 @@ same_lines : (name : List ℕ) (log other : PlainLog) → log.kept.items ≡ oth
     → log.refused.items ≡ other.refused.items
     → log.end ≡ other.end → gaps_log_lines name log ≡ gaps_log_lines name other
 same_lines name log other kept refused end =
-    ap (λ (r : List (ℕ × EntryFault)). refused_lines name r ++ end_line name log.end ++ gap_lines
-    (gaps_of node_of log.kept.items)) refused
-    ∙ ap (λ (e : End). refused_lines name other.refused.items ++ end_line name e ++ gap_lines
-    (gaps_of node_of log.kept.items)) end
-    ∙ ap (λ (k : List Plain). refused_lines name other.refused.items ++ end_line name other.end ++ gap_lines
-    (gaps_of node_of k)) kept
+    λ i. refused_lines name (refused i) ++ end_line name (end i) ++ gap_lines (gaps_of node_of (kept i))
 
 -- what an answer of `gaps` is, where there is a file
 abbrev pub Cases : List ℕ → List ℕ → Answer → Type 0
@@ -139,25 +129,17 @@ of_lines : (log lines : List ℕ) → Has log (status_of lines)
 of_lines log [] = (0, omega arith, refl)
 of_lines log (byte ∷ bytes) = (1, omega arith, refl)
 
--- that of a refused log
-of_log_refusal : (log : List ℕ) (fault : LogFault) (answer : Answer) → IsRefusal log fault answer →
-    Has log answer.status
-of_log_refusal log Absent answer e =
-    contains_as (gaps_parts log).statuses answer (absent_answer log) e (3, omega arith, refl)
-of_log_refusal log TooLong answer e =
-    contains_as (gaps_parts log).statuses answer (refused_answer log 0 (codes "TooLong")) e (2, omega arith, refl)
-of_log_refusal log Header answer e =
-    contains_as (gaps_parts log).statuses answer (refused_answer log 0 (codes "Header")) e (2, omega arith, refl)
-of_log_refusal log ReadFault answer e = absurd e
-of_log_refusal log Memory answer e = absurd e
-
 -- so those of the command
 of_file : (log : List ℕ) (file : Option (List ℕ)) (answer : Answer) → IsGapsAnswer log file answer →
     Has log answer.status
-of_file log file answer (inl (read, is, e)) =
-    contains_as (gaps_parts log).statuses answer (findings_answer (gaps_log_lines log read)) e
-    (of_lines log (gaps_log_lines log read))
-of_file log file answer (inr (fault, is, refusal)) = of_log_refusal log fault answer refusal
+of_file log None answer is = contains_as (gaps_parts log).statuses answer _ (no_file log answer is) (3, omega arith, refl)
+of_file log (Some bytes) answer is = by (cases log bytes answer is)
+  where
+    by : Cases log bytes answer → Has log answer.status
+    by (inl (long, e)) = contains_as (gaps_parts log).statuses answer _ e (2, omega arith, refl)
+    by (inr (inl (short, none, e))) = contains_as (gaps_parts log).statuses answer _ e (2, omega arith, refl)
+    by (inr (inr (read, short, says, e))) = contains_as (gaps_parts log).statuses answer _ e
+        (of_lines log (gaps_log_lines log read))
 
 of_files : (log : List ℕ) (files : List (Option (List ℕ))) (answer : Answer) →
     (gaps_parts log).IsAnswer files answer → Has log answer.status
@@ -172,13 +154,18 @@ gaps_has_statuses log = record {
 }
 
 module _ {S : Type 0} (of : StoreGhosts S) (log : List ℕ) (old new : S) where
+  -- what is right for each file that is so, is an answer of `gaps`
+  right_for : (IsSo : Option (List ℕ) → Type 0) (answer : Answer) →
+      ((file : Option (List ℕ)) → IsSo file → IsGapsAnswer log file answer) →
+      OnReadFile of log max_bytes IsSo old new → IsAnswerAsRead of (gaps_parts log) old answer new
+  right_for IsSo answer right said =
+      (one_read of log max_bytes (λ file. IsGapsAnswer log file answer) old new
+      (read_weaker of log max_bytes IsSo (λ file. IsGapsAnswer log file answer) old new right said)).0
+
   -- the lines on a log that was read are an answer of `gaps`
   pub gaps_findings : (plain : PlainLog) (answer : Answer) → answer ≡ findings_answer (gaps_log_lines log plain)
       → OnReadFile of log max_bytes (IsLogOf plain) old new → IsAnswerAsRead of (gaps_parts log) old answer new
-  gaps_findings plain answer e said =
-      (one_read of log max_bytes (λ file. IsGapsAnswer log file answer) old new
-      (read_weaker of log max_bytes (IsLogOf plain) (λ file. IsGapsAnswer log file answer) old new
-      (λ file is. inl (plain, is, e)) said)).0
+  gaps_findings plain answer e said = right_for (IsLogOf plain) answer (λ file is. inl (plain, is, e)) said
 
   -- the refusal of a log is an answer of `gaps`
   pub gaps_refusal : (fault given : LogFault) (answer : Answer) → given ≡ fault → fault ≢ Memory
@@ -186,8 +173,5 @@ module _ {S : Type 0} (of : StoreGhosts S) (log : List ℕ) (old new : S) where
       → (given ≢ Memory → OnReadFile of log max_bytes (IsLogRefused given) old new)
       → IsAnswerAsRead of (gaps_parts log) old answer new
   gaps_refusal fault given answer same known is said =
-      let P : LogFault → Type 0 = λ f. OnReadFile of log max_bytes (IsLogRefused f) old new in
-      (one_read of log max_bytes (λ file. IsGapsAnswer log file answer) old new
-      (read_weaker of log max_bytes (IsLogRefused fault) (λ file. IsGapsAnswer log file answer) old new
-      (λ file refused. inr (fault, refused, is))
-      (subst P same (said (λ e. known (sym same ∙ e)))))).0
+      right_for (IsLogRefused fault) answer (λ file refused. inr (fault, refused, is))
+      (subst (λ f. OnReadFile of log max_bytes (IsLogRefused f) old new) same (said (λ e. known (sym same ∙ e))))

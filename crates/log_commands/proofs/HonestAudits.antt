@@ -1,21 +1,16 @@
 -- What `audit` answers over what is left of an honest place's logs.
-use Rattle.log_commands.proofs.Imports.{◌≡◌, ◌∙◌, ℕ, List, ◌∷◌, inl, inr, refl, ap, subst, Result, Ok, Err}
-use Rattle.log_commands.proofs.Imports.{node_of_sealed, SealedEntry, Distinct, World, sent_in, Script, Refusal}
-use Rattle.log_commands.proofs.Imports.{absent, refused, AreAllFilesOf, Outcome, GivesReport}
-use Rattle.log_commands.proofs.Imports.{AuditReport, RuleSource, standard, SaysAllKept}
-use Rattle.log_commands.proofs.Imports.{SaysNoneBroken, files_read, IsHonestRefusal, IsHonestReport}
-use Rattle.log_commands.proofs.Imports.{report_answer, status_by, Answer, refusal_answer, source_named, IsAuditOver}
-use Rattle.log_commands.proofs.Imports.{IsAuditAnswer, IsAuditOfPlace, IsOfReport}
-use Rattle.std.proofs.Common.{Option}
+use Rattle.log_commands.proofs.Imports
+use Imports.{absent, Answer, ap, AreAllFilesOf, AuditReport, audits_are_refused_only_so, Distinct, Err, files_read}
+use Imports.{GivesReport, HasLeft, inl, inr, IsAuditAnswer, IsAuditOfPlace, IsAuditOfPlaces, IsAuditOver}
+use Imports.{IsHonestRefusal, IsOfReport, List, node_of_sealed, Ok, Option, Outcome, refl, Refusal, refusal_answer}
+use Imports.{refused, report_answer, reports_accuse_nobody, reports_leave_rules_open, reports_say_none_broken, Result}
+use Imports.{RuleSource, SaysAllKept, Script, SealedEntry, sent_in, source_named, standard, status_by, subst}
+use Imports.{whole_reports_say_all_kept, whole_reports_show_distinct, World, ℕ, ◌∙◌, ◌∷◌, ◌≡◌}
 use Rattle.auditor.specs.declared.outcome.Outcome.TheVariants as outcome
-use Rattle.honest_places.specs.Places.{HasLeft}
-use Rattle.honest_places.proofs.AuditLaws.{audits_are_refused_only_so, reports_accuse_nobody, reports_say_none_broken}
-use Rattle.honest_places.proofs.AuditLaws.{reports_leave_rules_open, whole_reports_say_all_kept}
-use Rattle.honest_places.proofs.AuditLaws.{whole_reports_show_distinct}
 use Rattle.command_line.specs.declared.status.Status.TheVariants as status
 
 -- no refusal has the status of a report
-no_report : (refusal : Refusal) → IsOfReport (refusal_answer refusal).status → ⊥
+pub no_report : (refusal : Refusal) → IsOfReport (refusal_answer refusal).status → ⊥
 no_report (absent file) how = absurd how
 no_report (refused file place cause) how = absurd how
 
@@ -53,15 +48,6 @@ module _ (script : Script) (w : World SealedEntry) (roster : Option (List ℕ)) 
     gives_plainly plain =
         subst (λ (s : RuleSource). GivesReport name s names (files_read roster s rules files) (Ok report)) plain gives
 
-    -- where digests differ, no line of the report accuses anybody
-    accuses_nobody : Distinct node_of_sealed (sent_in w) → IsHonestReport script w names files report
-    accuses_nobody apart = reports_accuse_nobody script w roster files place apart name source rules names report gives
-
-    -- by the standard rules the report says of none that it is broken
-    none_is_broken : Distinct node_of_sealed (sent_in w) → source ≡ standard → SaysNoneBroken report
-    none_is_broken apart plain =
-        reports_say_none_broken script w roster files place apart name names report (gives_plainly plain)
-
     -- over the whole logs of all machines the report says of each standard rule that it is kept
     all_are_kept : source ≡ standard → AreAllFilesOf w files → SaysAllKept w files report
     all_are_kept plain all =
@@ -74,8 +60,9 @@ module _ (script : Script) (w : World SealedEntry) (roster : Option (List ℕ)) 
           inl (record {
             report = report;
             told = told;
-            honest = accuses_nobody apart;
-            none_broken = none_is_broken apart;
+            honest = reports_accuse_nobody script w roster files place apart name source rules names report gives;
+            none_broken = λ plain.
+                reports_say_none_broken script w roster files place apart name names report (gives_plainly plain);
             all_kept = all_are_kept;
             unsettled = reports_leave_rules_open script w roster files place apart name source rules names report gives;
           });
@@ -86,25 +73,15 @@ module _ (script : Script) (w : World SealedEntry) (roster : Option (List ℕ)) 
           whole_reports_show_distinct script w roster place.roster files all name source rules names report gives;
     }
 
-module _ (roster rules : List ℕ) (names : List (List ℕ)) (files : List (Option (List ℕ))) (answer : Answer) where
-  -- what is answered over the files of a place is right of it, be it a refusal or a report
-  of_place : (roster_file rules_file : Option (List ℕ)) (logs : List (Option (List ℕ))) →
-      files ≡ files_read roster_file (source_named rules) rules_file logs → (script : Script) (w : World SealedEntry) →
-      HasLeft script w roster_file logs → IsAuditOver roster rules names files answer →
-      IsAuditOfPlace script w (source_named rules) rules_file names logs answer
-  of_place roster_file rules_file logs same script w place (inl (refusal, gives, told)) =
-      of_refusal script w roster_file logs place rules_file roster (source_named rules) names answer refusal
-      (subst (λ (fs : List (Option (List ℕ))). GivesReport roster (source_named rules) names fs (Err refusal)) same
-      gives) told
-  of_place roster_file rules_file logs same script w place (inr (report, gives, of)) =
-      of_report script w roster_file logs place rules_file roster (source_named rules) names answer report
-      (subst (λ (fs : List (Option (List ℕ))). GivesReport roster (source_named rules) names fs (Ok report)) same gives)
-      of.told
-
-  -- an answer that is right is right of each honest place
-  pub audit_right : IsAuditOver roster rules names files answer → IsAuditAnswer roster rules names files answer
-  audit_right right = record {
-    right = right;
-    honest = λ roster_file rules_file logs same script w place.
-        of_place roster_file rules_file logs same script w place right;
-  }
+-- an answer that is right is right of each honest place, be it a refusal or a report
+pub audit_right : (roster rules : List ℕ) (names : List (List ℕ)) (files : List (Option (List ℕ))) (answer : Answer) →
+    IsAuditOver roster rules names files answer → IsAuditAnswer roster rules names files answer
+audit_right roster rules names files answer right = record { right = right; honest = honest right }
+  where
+    honest : IsAuditOver roster rules names files answer → IsAuditOfPlaces (source_named rules) names files answer
+    honest (inl (refusal, gives, told)) roster_file rules_file logs same script w place =
+        of_refusal script w roster_file logs place rules_file roster (source_named rules) names answer refusal
+        (subst (λ fs. GivesReport roster (source_named rules) names fs (Err refusal)) same gives) told
+    honest (inr (report, gives, of)) roster_file rules_file logs same script w place =
+        of_report script w roster_file logs place rules_file roster (source_named rules) names answer report
+        (subst (λ fs. GivesReport roster (source_named rules) names fs (Ok report)) same gives) of.told

@@ -1,26 +1,16 @@
 -- What `order` answers over what is left of an honest place's logs.
-use Rattle.log_commands.proofs.Imports.{◌≡◌, ◌≢◌, ◌∙◌, ℕ, List, [], inl, inr, ap, sym, subst, arith, Ok, Post}
-use Rattle.log_commands.proofs.Imports.{Script, node_of_sealed, SealedEntry, Completion, HeldBefore, Distinct, World}
-use Rattle.log_commands.proofs.Imports.{sent_in, one_order, EntryGraph, LogRead, roster_of, election_of, RosterRead}
-use Rattle.log_commands.proofs.Imports.{entries_of, GivesLogs, Refusal, absent, refused, GivesRoster}
-use Rattle.log_commands.proofs.Imports.{IsHonestWorld, AreAllFilesOf, IsOfScript, scripts_are_honest}
-use Rattle.log_commands.proofs.Imports.{logs_have_makers, survivors_have_makers, Answer, OrRefused, refusal_answer}
-use Rattle.log_commands.proofs.Imports.{IsHonestlyRead, IsHonestOrder, IsHonestWord, IsOrderOfPlace}
-use Rattle.log_commands.proofs.Imports.{IsOrderAmong, IsOrderAnswer, IsOrderOf, IsOrderOver, IsOrderOverLogs}
-use Rattle.log_commands.proofs.Imports.{IsOrderUnder}
-use Rattle.std.proofs.Common.{Option, length}
-use Rattle.std.specs.List.{Contains}
-use Rattle.entry_order.specs.Survivors.{gaps}
-use Rattle.entry_order.proofs.Orders.{stamps_rise}
-use Rattle.honest_places.proofs.HonestFiles.{script_distinct, script_given, script_not_refused, script_read}
-use Rattle.honest_places.proofs.RosterTexts.{read_of_script, world_of_script}
-use Rattle.honest_places.specs.Places.{HasLeft}
-use Rattle.honest_places.proofs.RosterGiven.{read_same, roster_not_refused}
-use Rattle.command_line.specs.declared.status.Status.TheVariants as status
-use Rattle.log_commands.proofs.PlainSurvivors.{is_exact}
-use Rattle.log_commands.proofs.EntryTexts.{named_has}
-use Rattle.log_commands.proofs.OrderWords.{word_is_settled}
+use Rattle.log_commands.proofs.Imports
+use Imports.{[], absent, Answer, ap, AreAllFilesOf, arith, Completion, Contains, Distinct, election_of, entries_of}
+use Imports.{EntryGraph, GivesLogs, GivesRoster, HasLeft, HeldBefore, inl, inr, IsHonestlyRead, IsHonestOrder}
+use Imports.{IsHonestWord, IsHonestWorld, IsOfScript, IsOrderAmong, IsOrderAnswer, IsOrderOf, IsOrderOfPlace}
+use Imports.{IsOrderOver, IsOrderOverLogs, IsOrderUnder, length, List, LogRead, logs_have_makers, node_of_sealed, Ok}
+use Imports.{one_order, Option, OrRefused, Post, read_of_script, read_same, Refusal, refusal_answer, refused}
+use Imports.{roster_not_refused, roster_of, RosterRead, Script, script_distinct, script_given, script_not_refused}
+use Imports.{script_read, scripts_are_honest, SealedEntry, sent_in, stamps_rise, subst, survivors_have_makers, sym}
+use Imports.{World, world_of_script, ℕ, ◌∙◌, ◌≡◌, ◌≢◌}
 use Rattle.log_commands.proofs.HonestWords.{word_exact, word_in, word_known}
+use Rattle.log_commands.proofs.{EntryTexts.named_has, OrderWords.word_is_settled, PlainSurvivors.is_exact}
+use Rattle.command_line.specs.declared.status.Status.TheVariants as status
 
 -- no refusal has the status of a word
 refusal_not_done : (refusal : Refusal) → (refusal_answer refusal).status ≢ status.Done
@@ -43,16 +33,6 @@ module _ (script : Script) (w : World SealedEntry) (roster : Option (List ℕ)) 
 
   module _ (apart : Distinct node_of_sealed (sent_in w)) (logs : List LogRead) (graph : EntryGraph SealedEntry)
       (read : IsHonestlyRead posts (election_of posts) w names files logs graph) where
-    -- survivors were sent
-    were_sent : (e : SealedEntry) → Contains graph.survivors e → Contains (sent_in w) e
-    were_sent e c = read.honest.completed.keeps e c
-
-    -- what was sent completes the survivors
-    completed : Completion node_of_sealed (length posts) graph.survivors (sent_in w)
-    completed =
-        subst (λ (n : ℕ). Completion node_of_sealed n graph.survivors (sent_in w)) world.one_each
-        read.honest.completed
-
     -- of two entries one alone was held before the other, since stamps rise
     no_cycle : (g h : SealedEntry) → HeldBefore w g h → HeldBefore w h g → ⊥
     no_cycle g h first then =
@@ -62,24 +42,23 @@ module _ (script : Script) (w : World SealedEntry) (roster : Option (List ℕ)) 
           stamps_rise node_of_sealed w world.orderly h g then,
         )
 
+    -- the word printed of two survivors is an honest one: what was sent completes the survivors, and
     -- where all logs are there, there is no gap
-    no_gap : AreAllFilesOf w files → gaps node_of_sealed graph.survivors ≡ []
-    no_gap whole =
-        sym read.gives_graph.2.kept.gaps ∙ (read.honest.all_told (read.all whole)).no_gap
-
-    -- the word printed of two survivors is an honest one
     honest_word : (e f : SealedEntry) (answer : Answer) → Contains graph.survivors e → Contains graph.survivors f →
         (order : IsOrderOf graph.survivors e f answer) → IsHonestWord w files e f order.word
     honest_word e f answer has_e has_f order =
+        let completed = subst (λ (n : ℕ). Completion node_of_sealed n graph.survivors (sent_in w)) world.one_each
+        read.honest.completed in
         let right =
-        word_in w e f (one_order node_of_sealed w world.orderly apart) (were_sent e has_e) (were_sent f has_f)
-        (length posts) graph.survivors completed order.word
+        word_in w e f (one_order node_of_sealed w world.orderly apart) (completed.keeps e has_e)
+        (completed.keeps f has_f) (length posts) graph.survivors completed order.word
         (word_is_settled (length posts) graph.survivors e f order.word has_e has_f order.right) in
         record {
           right = right;
           exact = λ whole.
+              let no_gap = sym read.gives_graph.2.kept.gaps ∙ (read.honest.all_told (read.all whole)).no_gap in
               word_exact w e f no_cycle order.word
-              (word_known w e f graph.survivors (no_gap whole) order.word order.right) right;
+              (word_known w e f graph.survivors no_gap order.word order.right) right;
         }
 
     -- so what is answered over these survivors is honest
@@ -135,29 +114,22 @@ module _ (script : Script) (w : World SealedEntry) (roster : Option (List ℕ)) 
       (subst (λ (r : RosterRead). IsOrderOverLogs r x y names files answer)
       (read_same script w roster place.roster name read gives) over)
 
-module _ (roster x y : List ℕ) (names : List (List ℕ)) (file : Option (List ℕ)) (files : List (Option (List ℕ)))
-    (answer : Answer) where
-  -- what is printed over logs is exact
-  order_under : (read : RosterRead) → IsOrderOverLogs read x y names files answer →
-      IsOrderUnder read x y names files answer
-  order_under read right = record {
-    right = right;
-    exact = λ graph (found, gives, graphed).
-        is_exact read.roster.machines (entries_of found) graph
-        (survivors_have_makers read.roster.machines (entries_of found) graph
-        (logs_have_makers read.roster.machines read.election names files found gives) graphed) graphed;
-  }
-
-  -- the answer over what was read, or a refusal, is that of `order`
-  under_each : OrRefused (GivesRoster roster file) (λ (read : RosterRead). IsOrderOverLogs read x y names files) answer →
-      OrRefused (GivesRoster roster file) (λ (read : RosterRead). IsOrderUnder read x y names files) answer
-  under_each (inl why) = inl why
-  under_each (inr (read, gives, over)) = inr (read, gives, order_under read over)
-
-  -- an answer over files is right of each honest place that left them
-  pub order_right : OrRefused (GivesRoster roster file) (λ (read : RosterRead). IsOrderOverLogs read x y names files)
-      answer → IsOrderAnswer roster x y names file files answer
-  order_right right = record {
-    right = under_each right;
-    honest = λ script w place. of_files script w file files place x y names roster answer right;
-  }
+-- an answer over files is exact, and right of each honest place that left them
+pub order_right : (roster x y : List ℕ) (names : List (List ℕ)) (file : Option (List ℕ)) (files : List (Option (List ℕ)))
+    (answer : Answer) →
+    OrRefused (GivesRoster roster file) (λ (read : RosterRead). IsOrderOverLogs read x y names files) answer →
+    IsOrderAnswer roster x y names file files answer
+order_right roster x y names file files answer right = record {
+  right = by right;
+  honest = λ script w place. of_files script w file files place x y names roster answer right;
+}
+  where
+    by : OrRefused (GivesRoster roster file) (λ (read : RosterRead). IsOrderOverLogs read x y names files) answer →
+        OrRefused (GivesRoster roster file) (λ (read : RosterRead). IsOrderUnder read x y names files) answer
+    by (inl why) = inl why
+    by (inr (read, gives, over)) = inr (read, gives, record {
+      right = over;
+      exact = λ graph (found, gives, graphed).
+          is_exact _ _ graph
+          (survivors_have_makers _ _ graph (logs_have_makers _ _ names files found gives) graphed) graphed;
+    })

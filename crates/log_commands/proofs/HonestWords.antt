@@ -1,12 +1,10 @@
 -- What a word says of two entries that were sent in an honest world.
-use Rattle.log_commands.proofs.Imports.{◌≡◌, ◌≢◌, ℕ, List, [], refl, sym, subst, Completion, HeldBefore}
-use Rattle.log_commands.proofs.Imports.{OrderIsReceiptIn, World, sent_in, Contains-none, node_of, node_of_sealed}
-use Rattle.log_commands.proofs.Imports.{plain_of, plains, order_seen, order_back, completion_seen, SealedEntry}
-use Rattle.log_commands.proofs.Imports.{OrderWord, IsExactIn, IsWordIn, AreWhole, IsWordOf}
-use Rattle.std.specs.List.{Contains}
-use Rattle.entry_order.specs.Survivors.{gaps}
-use Rattle.log_commands.specs.declared.order_word.OrderWord.TheVariants as says
+use Rattle.log_commands.proofs.Imports.{[], AreWhole, Completion, completion_seen, Contains, Contains-none, gaps}
+use Rattle.log_commands.proofs.Imports.{HeldBefore, IsExactIn, IsWordIn, IsWordOf, List, node_of, node_of_sealed}
+use Rattle.log_commands.proofs.Imports.{order_back, order_seen, OrderIsReceiptIn, OrderWord, plain_of, plains, refl}
+use Rattle.log_commands.proofs.Imports.{SealedEntry, sent_in, subst, sym, World, ℕ, ◌≡◌, ◌≢◌}
 use Rattle.log_commands.proofs.OrderWords.{IsSettled}
+use Rattle.log_commands.specs.declared.order_word.OrderWord.TheVariants as says
 
 module _ (w : World SealedEntry) (e f : SealedEntry) where
   -- what a word promises of each completion holds of what was sent, and so of what the machines

@@ -1,4 +1,6 @@
 mod Imports
+pub mod FilesBegun
+pub mod Zips
 pub mod EntryTexts
 pub mod EntryPlaces
 pub mod OrderWords

@@ -1,24 +1,18 @@
 -- Files give at most one proof to write, and at most one report of a check.
-use Rattle.std.proofs.Common.{length, Option, Some}
-use Rattle.log_commands.proofs.Imports.{◌≡◌, ◌≢◌, ◌∙◌, ℕ, zero, suc, ◌≤◌, List, [], ◌∷◌, ◌++◌, map, None, inl, inr}
-use Rattle.log_commands.proofs.Imports.{refl, sym, ap, subst, arith, Result, Ok, Err, slice_get, false≢true}
-use Rattle.log_commands.proofs.Imports.{length-map, same_Some, Graph, Post, SealedEntry, LogRead, EntryGraph, Row}
-use Rattle.log_commands.proofs.Imports.{RuleTree, is_too_wide, ProofFault, ProofWhy, verdict_of, IsCanonicalText}
-use Rattle.log_commands.proofs.Imports.{OneTextIsCanonical, proof_why_word, Line, IsProofOf, HaveSameArrows}
-use Rattle.log_commands.proofs.Imports.{TextsAreReadInOneWay, SameArrowsHaveOneText, SameArrowsGiveOneValue}
-use Rattle.log_commands.proofs.Imports.{IsReadAnswer, RosterRead, Refusal, refused, GivesLogs, entries_of}
-use Rattle.log_commands.proofs.Imports.{GivesGraph, Agree, SameLogs, SameGraph, same_entries, AndThen, row_of}
-use Rattle.log_commands.proofs.Imports.{nodes_of, RuleSource, source_word, GivesProof, ProofMade, GivesText}
-use Rattle.log_commands.proofs.Imports.{ProvesLogs, ProvesFiles, GivesMade, CheckReport, AreChecked, GivesChecked}
-use Rattle.log_commands.proofs.Imports.{ChecksLines, ChecksProof, ChecksLogs, ChecksFiles, ChecksRules, GivesCheck}
-use Rattle.log_commands.proofs.Imports.{IsOne, Ones, RulesAreReadInOneWay, agree_equal, ends_agree}
-use Rattle.log_commands.proofs.Imports.{graphs_then_agree, logs_then_one, roster_then_one, rules_then_one}
-use Rattle.log_commands.proofs.Imports.{steps_agree, one_place}
-use Rattle.std.specs.Prelude.{codes, false}
-use Rattle.audit_proof.specs.declared.fault.ProofFault.TheVariants.{At, Memory}
-use Rattle.audit_proof.specs.declared.fault.Verdict.{Verdict}
-use Rattle.log_commands.proofs.OneOrderAnswer.{OrderOne}
-use Rattle.log_commands.proofs.SameNodes.{same_nodes}
+use Rattle.log_commands.proofs.Imports
+use Imports.{max_proof}
+use Imports.{[], absent, Agree, agree_equal, AllZip-map, AndThen, ap, AreChecked, arith, At, CheckReport, ChecksFiles}
+use Imports.{ChecksLines, ChecksLogs, ChecksProof, ChecksRules, codes, ends_agree, entries_of, EntryGraph, Err, false}
+use Imports.{false≢true, GivesCheck, GivesChecked, GivesGraph, GivesLogs, GivesMade, GivesProof, GivesText, Graph}
+use Imports.{graphs_then_agree, HaveSameArrows, inl, inr, is_too_wide, IsCanonicalText, IsOne, IsProofOf, IsReadAnswer}
+use Imports.{length, length-map, Line, List, LogRead, logs_then_one, map, nodes_of, None, Ok, one_place, Ones}
+use Imports.{OneTextIsCanonical, Option, Post, proof_why_word, ProofFault, ProofMade, ProvesFiles, ProvesLogs, refl}
+use Imports.{Refusal, refused, Result, roster_then_one, RosterRead, Row, row_of, rules_then_one, RulesAreReadInOneWay}
+use Imports.{RuleSource, RuleTree, same_entries, same_Some, SameArrowsGiveOneValue, SameArrowsHaveOneText, SameGraph}
+use Imports.{SameLogs, SealedEntry, slice_get, Some, source_word, steps_agree, subst, suc, sym, TextsAreReadInOneWay}
+use Imports.{too_long, verdict_of, zero, ℕ, ◌++◌, ◌<◌, ◌∙◌, ◌∷◌, ◌≡◌, ◌≢◌, ◌≤◌, ◌⊎◌}
+use Rattle.audit_proof.specs.{declared.fault.ProofFault.TheVariants.Memory, declared.fault.Verdict.Verdict}
+use Rattle.log_commands.proofs.{CheckSound.proof_of, OneOrderAnswer.OrderOne, SameNodes.same_nodes, Zips.zip_weaker}
 
 -- a proof is written and read in one way
 pub record ProofOne : Type 0 where
@@ -45,12 +39,6 @@ ones_of order readings = record {
 
 -- ---- what is written
 
--- two parts that are the same make the same
-made_same : (m n : ProofMade) → m.entries ≡ n.entries → m.text ≡ n.text → m ≡ n
-made_same m n entries text =
-    ap (λ (k : ℕ). let made : ProofMade = record { entries = k; text = m.text } in made) entries
-    ∙ ap (λ (t : List ℕ). let made : ProofMade = record { entries = n.entries; text = t } in made) text
-
 -- two graphs of the same entries give one text
 text_agrees : ProofOne → (name : List ℕ) (given : List SealedEntry) (g h : EntryGraph SealedEntry) →
     GivesGraph given (Ok g) → GivesGraph given (Ok h) → SameGraph g h → (p q : Result ProofMade Refusal) →
@@ -69,14 +57,14 @@ text_agrees one name given g h is also same = by
 
     by : (p q : Result ProofMade Refusal) → GivesText name (nodes_of g) p → GivesText name (nodes_of h) q →
         Agree (λ m n. m ≡ n) p q
-    by (Ok m) (Ok n) (count, text, fits) (count', text', fits') =
-        made_same m n (count ∙ arrows.count ∙ sym count') (one_text m.text n.text text text')
+    by (Ok m) (Ok n) (count, text, fits) (count', text', fits') = λ i. record {
+      entries = (count ∙ arrows.count ∙ sym count') i;
+      text = one_text m.text n.text text text' i;
+    }
     by (Ok m) (Err s) (count, text, fits) (other, text', long, e) =
-        let size = ap (λ (t : List ℕ). length t) (one_text m.text other text text') in
-        absurd (omega (arith, fits, long, size))
+        absurd (omega (arith, ap length (one_text m.text other text text')))
     by (Err r) (Ok n) (other, text, long, e) (count, text', fits) =
-        let size = ap (λ (t : List ℕ). length t) (one_text other n.text text text') in
-        absurd (omega (arith, fits, long, size))
+        absurd (omega (arith, ap length (one_text other n.text text text')))
     by (Err r) (Err s) (text, is, long, e) (text', is', long', f) = e ∙ sym f
 
 -- so do logs that say the same
@@ -97,55 +85,40 @@ one_made order one roster proof names =
 
 -- ---- what is checked
 
+-- what a file gives by what is answered of its bytes, unless memory runs out
+abbrev said : List ℕ → Result (List Line) ProofFault → Result (List Line) Refusal
+said name (Ok lines) = Ok lines
+said name (Err (At n why)) = Err (refused name n (proof_why_word why))
+said name (Err Memory) = Err (absent name)
+
+-- its bytes are too many, or this is answered of them
+abbrev IsSaid : List ℕ → Graph → List ℕ → Result (List Line) Refusal → Type 0
+IsSaid name graph bytes p =
+    ((max_proof < length bytes) × (p ≡ Err (too_long name)))
+    ⊎ ((length bytes ≤ max_proof) × ((a : Result (List Line) ProofFault) × IsReadAnswer graph bytes a
+    × (a ≢ Err Memory) × (p ≡ said name a)))
+
+is_said : (name : List ℕ) (graph : Graph) (bytes : List ℕ) (p : Result (List Line) Refusal) →
+    GivesProof name graph (Some bytes) p → IsSaid name graph bytes p
+is_said name graph bytes (Ok lines) (fits, read) = inr (fits, (Ok lines, read, λ e. cc, refl))
+is_said name graph bytes (Err r) (inl (long, e)) = inl (long, ap Err e)
+is_said name graph bytes (Err r) (inr (fits, (n, why, read, e))) =
+    inr (fits, (Err (At n why), read, λ e. cc, ap Err e))
+
 -- two graphs of the same entries have the same proofs, so a proof's file gives one answer
 proof_agrees : ProofOne → (name : List ℕ) (graph other : Graph) → HaveSameArrows graph other →
     graph.count ≤ 16384 → (file : Option (List ℕ)) (p q : Result (List Line) Refusal) →
     GivesProof name graph file p → GivesProof name other file q → Agree (λ a b. a ≡ b) p q
-proof_agrees one name graph other same few file p q x y = by_file file x y
+proof_agrees one name graph other same few None p q x y = agree_equal p q (x ∙ sym y)
+proof_agrees one name graph other same few (Some bytes) p q x y =
+    agree_equal p q (by (is_said name graph bytes p x) (is_said name other bytes q y))
   where
-    -- what is answered of bytes
-    Read : Type 0
-    Read = Result (List Line) ProofFault
-
-    -- is one
-    one_answer : (bytes : List ℕ) (a b : Read) → IsReadAnswer graph bytes a → a ≢ Err Memory →
-        IsReadAnswer other bytes b → b ≢ Err Memory → a ≡ b
-    one_answer bytes = one.read graph other same few bytes
-
-    -- and isn't out of memory
-    told : (n : ℕ) (why : ProofWhy) → (let fault : Read = Err (At n why) in fault) ≢ Err Memory
-    told n why e = cc
-
-    found : (lines : List Line) → (let answer : Read = Ok lines in answer) ≢ Err Memory
-    found lines e = cc
-
-    -- by what the bytes give
-    by : (bytes : List ℕ) (p q : Result (List Line) Refusal) → GivesProof name graph (Some bytes) p →
-        GivesProof name other (Some bytes) q → Agree (λ a b. a ≡ b) p q
-    by bytes (Ok xs) (Ok ys) (_, read) (_, also) =
-        let e = one_answer bytes (Ok xs) (Ok ys) read (found xs) also (found ys) in cc
-    by bytes (Ok xs) (Err s) (fits, _) (inl (long, _)) = absurd (omega (arith, fits, long))
-    by bytes (Ok xs) (Err s) (_, read) (inr (_, (n, why, also, _))) =
-        let e = one_answer bytes (Ok xs) (Err (At n why)) read (found xs) also (told n why) in cc
-    by bytes (Err r) (Ok ys) (inl (long, _)) (fits, _) = absurd (omega (arith, fits, long))
-    by bytes (Err r) (Ok ys) (inr (_, (n, why, read, _))) (_, also) =
-        let e = one_answer bytes (Err (At n why)) (Ok ys) read (told n why) also (found ys) in cc
-    by bytes (Err r) (Err s) (inl (_, e)) (inl (_, f)) = e ∙ sym f
-    by bytes (Err r) (Err s) (inl (long, _)) (inr (fits, _)) = absurd (omega (arith, fits, long))
-    by bytes (Err r) (Err s) (inr (fits, _)) (inl (long, _)) = absurd (omega (arith, fits, long))
-    by bytes (Err r) (Err s) (inr (_, (n, why, read, e))) (inr (_, (m, other_why, also, f))) =
-        let same_fault = one_answer bytes (Err (At n why)) (Err (At m other_why)) read (told n why) also
-        (told m other_why) in
-        let places : n ≡ m = cc in
-        let whys : why ≡ other_why = cc in
-        e ∙ ap (λ (k : ℕ). refused name k (proof_why_word why)) places
-        ∙ ap (λ (w : ProofWhy). refused name m (proof_why_word w)) whys ∙ sym f
-
-    -- by whether there is a file
-    by_file : (this : Option (List ℕ)) → GivesProof name graph this p → GivesProof name other this q →
-        Agree (λ a b. a ≡ b) p q
-    by_file None left right = agree_equal p q (left ∙ sym right)
-    by_file (Some bytes) left right = by bytes p q left right
+    by : IsSaid name graph bytes p → IsSaid name other bytes q → p ≡ q
+    by (inl (long, e)) (inl (_, f)) = e ∙ sym f
+    by (inl (long, e)) (inr (fits, _)) = absurd (omega (arith, long, fits))
+    by (inr (fits, _)) (inl (long, f)) = absurd (omega (arith, long, fits))
+    by (inr (_, (a, read, known, e))) (inr (_, (b, also, known', f))) =
+        e ∙ ap (said name) (one.read graph other same few bytes a b read known also known') ∙ sym f
 
 -- rules that were checked aren't too wide
 pub checked_is_narrow : (rows : List Row) (graph : Graph) (lines : List Line) (rules : List RuleTree)
@@ -162,15 +135,10 @@ checked_is_narrow rows graph lines (r ∷ rules) (v ∷ vs) (suc k) rule are at 
 verdicts_same : ProofOne → (rows : List Row) (graph other : Graph) (lines : List Line) →
     length rows ≡ graph.count → HaveSameArrows graph other → IsProofOf graph lines → (rules : List RuleTree)
     (vs ws : List Verdict) → AreChecked rows graph lines rules vs → AreChecked rows other lines rules ws → vs ≡ ws
-verdicts_same one rows graph other lines size same is [] [] [] a b = refl
-verdicts_same one rows graph other lines size same is [] [] (w ∷ ws) a b = absurd b
-verdicts_same one rows graph other lines size same is [] (v ∷ vs) ws a b = absurd a
-verdicts_same one rows graph other lines size same is (r ∷ rules) [] ws a b = absurd a
-verdicts_same one rows graph other lines size same is (r ∷ rules) (v ∷ vs) [] a b = absurd b
-verdicts_same one rows graph other lines size same is (r ∷ rules) (v ∷ vs) (w ∷ ws) a b =
-    ap (λ (u : Verdict). u ∷ vs)
-    (a.0.1 ∙ ap verdict_of (one.value rows graph other lines size same is r.body) ∙ sym b.0.1)
-    ∙ ap (λ (us : List Verdict). w ∷ us) (verdicts_same one rows graph other lines size same is rules vs ws a.1 b.1)
+verdicts_same one rows graph other lines size same is rules vs ws a b =
+    AllZip-map _ rules vs (zip_weaker _ _ (λ r v checked. checked.1) rules vs a)
+    ∙ (λ i. map (λ r. verdict_of (one.value rows graph other lines size same is r.body i)) rules)
+    ∙ sym (AllZip-map _ rules ws (zip_weaker _ _ (λ r w checked. checked.1) rules ws b))
 
 -- so rules give one answer
 checked_agrees : ProofOne → (source : RuleSource) (rows : List Row) (graph other : Graph) (lines : List Line) →
@@ -202,50 +170,24 @@ module _ (ones : Ones) (one : ProofOne) (machines : List Post) (source : RuleSou
       GivesGraph given (Ok h) → SameGraph g h → (lines : List Line) → IsProofOf (nodes_of g) lines →
       (p q : Result CheckReport Refusal) → ChecksLines machines source rules g lines p →
       ChecksLines machines source rules h lines q → Agree SameCheck p q
-  lines_agree given g h is also same lines proof_is p q x y =
-      steps_agree (GivesChecked source rows (nodes_of g) lines rules)
-      (GivesChecked source (map (row_of machines) h.survivors) (nodes_of h) lines rules)
-      (λ verdicts answer. answer ≡ Ok (report g verdicts)) (λ verdicts answer. answer ≡ Ok (report h verdicts))
-      (λ vs ws. vs ≡ ws) SameCheck
-      (λ a b left right. checked_agrees one source rows (nodes_of g) (nodes_of h) lines
+  lines_agree given g h is also same lines proof_is =
+      steps_agree _ _ _ _ (λ vs ws. vs ≡ ws) SameCheck
+      (λ a b left right. checked_agrees one source _ (nodes_of g) (nodes_of h) lines
       (length-map g.survivors (row_of machines)) (same_nodes given g h is also same) proof_is rules a b left
       (subst (λ (S : List SealedEntry). GivesChecked source (map (row_of machines) S) (nodes_of h) lines rules b)
       (sym same.survivors) right))
-      (λ vs ws left right alike.
-      ends_agree SameCheck (report g vs) (report h ws) (record { rules = refl; verdicts = alike }))
-      p q x y
-    where
-      -- the survivors' rows
-      rows : List Row
-      rows = map (row_of machines) g.survivors
-
-      -- the report of a graph
-      report : EntryGraph SealedEntry → List Verdict → CheckReport
-      report graph verdicts = record {
-        machines = machines;
-        survivors = graph.survivors;
-        rules = rules;
-        verdicts = verdicts;
-      }
+      (λ vs ws left right alike. ends_agree SameCheck _ _ (record { rules = refl; verdicts = alike }))
 
   -- with one file of a proof
   proofs_agree : (given : List SealedEntry) (g h : EntryGraph SealedEntry) → GivesGraph given (Ok g) →
       GivesGraph given (Ok h) → SameGraph g h → (file : Option (List ℕ)) (p q : Result CheckReport Refusal) →
       ChecksProof machines source rules proof file g p → ChecksProof machines source rules proof file h q →
       Agree SameCheck p q
-  proofs_agree given g h is also same file p q x y =
-      steps_agree (GivesProof proof (nodes_of g) file) (GivesProof proof (nodes_of h) file)
-      (ChecksLines machines source rules g) (ChecksLines machines source rules h) (λ a b. a ≡ b) SameCheck
+  proofs_agree given g h is also same file =
+      steps_agree _ _ _ _ (λ a b. a ≡ b) SameCheck
       (proof_agrees one proof (nodes_of g) (nodes_of h) (same_nodes given g h is also same) is.2.kept.few file)
-      (λ a b left right alike u v s t. lines_agree given g h is also same a (proof_of file a left) u v s
+      (λ a b left right alike u v s t. lines_agree given g h is also same a (proof_of proof g file a left) u v s
       (subst (λ (ls : List Line). ChecksLines machines source rules h ls v) (sym alike) t))
-      p q x y
-    where
-      -- what is read is a proof
-      proof_of : (this : Option (List ℕ)) (lines : List Line) → GivesProof proof (nodes_of g) this (Ok lines) →
-          IsProofOf (nodes_of g) lines
-      proof_of None lines e = cc
-      proof_of (Some bytes) lines gives = gives.1.1
 
   -- by logs that say the same
   check_logs_agree : (file : Option (List ℕ)) (logs others : List LogRead) → SameLogs logs others →
@@ -275,17 +217,10 @@ check_files_agree : Ones → ProofOne → (read : RosterRead) (source : RuleSour
     IsOne SameCheck (ChecksFiles read source rules proof names files)
 check_files_agree ones one read source rules proof names files p q (fs, last, e, x) (others, end, f, y) =
     let (front, ends) = same_ends fs others last end (sym e ∙ f) in
-    logs_then_one ones SameCheck read names fs (Checks last)
+    logs_then_one ones SameCheck read names fs (ChecksLogs read.roster.machines source rules proof last)
     (check_logs_agree ones one read.roster.machines source rules proof last) p q x
-    (subst (λ gs. Over gs last q) (sym front) (subst (λ o. Over others o q) (sym ends) y))
-  where
-    -- what logs give with a proof's file
-    Checks : Option (List ℕ) → List LogRead → Result CheckReport Refusal → Type 0
-    Checks o = ChecksLogs read.roster.machines source rules proof o
-
-    -- what logs' files and a proof's give
-    Over : List (Option (List ℕ)) → Option (List ℕ) → Result CheckReport Refusal → Type 0
-    Over gs o = AndThen (GivesLogs read.roster.machines read.election names gs) (Checks o)
+    (coe 1 0 (i. AndThen (GivesLogs read.roster.machines read.election names (front i))
+    (ChecksLogs read.roster.machines source rules proof (ends i)) q) y)
 
 -- files give one report of a check, or one refusal
 pub one_check : OrderOne → ProofOne → (roster : List ℕ) (source : RuleSource) (proof : List ℕ) (names : List (List ℕ))

@@ -1,16 +1,15 @@
 -- The command `order`.
-use Rattle.log_commands.proofs.Imports.{◌≡◌, ℕ, List, [], ◌∷◌, inl, inr, refl, subst, arith, Ok, Err}
-use Rattle.log_commands.proofs.Imports.{All-from_recursion, Post, SealedEntry, LogRead, EntryGraph, RosterRead}
-use Rattle.log_commands.proofs.Imports.{GivesRoster, GivesLogs, entries_of, GivesGraph, same_entries, Status, Answer}
-use Rattle.log_commands.proofs.Imports.{line_answer, no_entry, order_word, MeansEntry, IsOrderAmong, IsOrderOver}
-use Rattle.log_commands.proofs.Imports.{IsOrderOverLogs, IsOrderUnder, GiveEntries, order_parts}
-use Rattle.log_commands.proofs.Imports.{IsCarriedOut, OrRefused}
-use Rattle.std.proofs.Common.{Option}
-use Rattle.std.specs.List.{Contains}
-use Rattle.command_line.specs.declared.status.Status.TheVariants as status
-use Rattle.command_line.proofs.CommandProofs.{IsOfCommands, HasStatuses, IsCompleted, HasOneAnswer, contains_as}
-use Rattle.command_line.proofs.CommandProofs.{carried_out_as, of_read}
+use Rattle.log_commands.proofs.Imports.{[], All-from_recursion, Answer, arith, carried_out_as, Contains, contains_as}
+use Rattle.log_commands.proofs.Imports.{entries_of, EntryGraph, Err, GiveEntries, GivesRoster, HasOneAnswer}
+use Rattle.log_commands.proofs.Imports.{HasStatuses, inl, inr, IsCarriedOut, IsCompleted, IsOfCommands, IsOrderAmong}
+use Rattle.log_commands.proofs.Imports.{IsOrderOver, IsOrderOverLogs, IsOrderUnder, line_answer, List, LogRead}
+use Rattle.log_commands.proofs.Imports.{MeansEntry, no_entry, of_read, Ok, Option, order_parts, order_word, OrRefused}
+use Rattle.log_commands.proofs.Imports.{Post, refl, RosterRead, same_entries, SealedEntry, Status, subst, ℕ, ◌∷◌, ◌≡◌}
 use Rattle.log_commands.proofs.OneOrderAnswer.{OrderOne, same_order}
+use Rattle.command_line.specs.declared.status.Status.TheVariants as status
+use Rattle.evidence.specs.Graphs.{GivesGraph, entries_of}
+use Rattle.evidence.specs.Logs.{GivesLogs}
+use Rattle.evidence.specs.RosterFile.{GivesRoster}
 
 -- over files it has one answer
 pub order_one : OrderOne → (roster x y : List ℕ) (logs : List (List ℕ)) → HasOneAnswer (order_parts roster x y logs)
@@ -32,38 +31,26 @@ module _ (one : OrderOne) (x y : List ℕ) (answer : Answer) where
       OrRefused (GivesRoster roster file) (λ (read : RosterRead). IsOrderUnder read x y logs files) answer →
       IsCarriedOut answer.status
   order_complete roster logs file files given (inl (refusal, gives, e)) =
-      let same : Err refusal ≡ Ok given.read =
-      one.roster roster file (Err refusal) (Ok given.read) gives given.of_roster in
-      absurd (let no : ⊥ = cc in no)
+      let same = one.roster roster file (Err refusal) (Ok given.read) gives given.of_roster in cc
   order_complete roster logs file files given (inr (read, gives, is)) =
-      let same : Ok read ≡ Ok given.read = one.roster roster file (Ok read) (Ok given.read) gives given.of_roster in
+      let same : Ok read ≡ Ok given.read = one.roster roster file _ _ gives given.of_roster in
       let read_is : read ≡ given.read = cc in
-      let P : RosterRead → Type 0 = λ r. IsOrderUnder r x y logs files answer in
-      let right : IsOrderUnder given.read x y logs files answer = subst P read_is is in
-      over_logs right.right
+      over_logs (subst (λ r. IsOrderOverLogs r x y logs files answer) read_is is.right)
     where
-      -- the machines of the roster that is accepted
-      machines : List Post
-      machines = given.read.roster.machines
-
       -- over the entries of the logs, which have a graph
-      over : IsOrderOver machines x y (entries_of given.found) answer → IsCarriedOut answer.status
-      over (inl (refusal, gives, e)) =
-          absurd (one.graph (entries_of given.found) (Err refusal) (Ok given.graph) gives given.of_entries)
+      over : IsOrderOver given.read.roster.machines x y (entries_of given.found) answer → IsCarriedOut answer.status
+      over (inl (refusal, gives, e)) = absurd (one.graph _ (Err refusal) (Ok given.graph) gives given.of_entries)
       over (inr (graph, gives, is)) =
-          let same = one.graph (entries_of given.found) (Ok graph) (Ok given.graph) gives given.of_entries in
-          let P : List SealedEntry → Type 0 = λ S. IsOrderAmong machines S x y answer in
-          among_complete machines given.graph.survivors given.e given.f given.first given.second
-          (subst P same.survivors is)
+          among_complete _ given.graph.survivors given.e given.f given.first given.second
+          (subst (λ S. IsOrderAmong given.read.roster.machines S x y answer)
+          (one.graph _ (Ok graph) (Ok given.graph) gives given.of_entries).survivors is)
 
       -- over the logs, of which none is refused
       over_logs : IsOrderOverLogs given.read x y logs files answer → IsCarriedOut answer.status
-      over_logs (inl (refusal, gives, e)) =
-          absurd (one.logs machines given.read.election logs files (Err refusal) (Ok given.found) gives given.of_logs)
+      over_logs (inl (refusal, gives, e)) = absurd (one.logs _ _ logs files (Err refusal) _ gives given.of_logs)
       over_logs (inr (found, gives, is)) =
-          let same = one.logs machines given.read.election logs files (Ok found) (Ok given.found) gives given.of_logs in
-          let P : List SealedEntry → Type 0 = λ es. IsOrderOver machines x y es answer in
-          over (subst P (same_entries found given.found same) is)
+          over (subst (λ es. IsOrderOver given.read.roster.machines x y es answer)
+          (same_entries found given.found (one.logs _ _ logs files (Ok found) _ gives given.of_logs)) is)
 
 pub order_completed : OrderOne → (roster x y : List ℕ) (logs : List (List ℕ)) →
     IsCompleted (order_parts roster x y logs)
@@ -90,24 +77,18 @@ of_among machines S x y answer (inr (entry, means, inr (other, means', is))) =
     contains_as own_statuses answer (line_answer status.Done (order_word is.word)) is.told (0, omega arith, refl)
 
 -- or what it goes on is refused
-of_over_logs : (read : RosterRead) (x y : List ℕ) (logs : List (List ℕ)) (files : List (Option (List ℕ)))
-    (answer : Answer) → IsOrderOverLogs read x y logs files answer → Has answer
-of_over_logs read x y logs files answer =
-    let machines = read.roster.machines in
-    let refused : Contains own_statuses status.Refused = (1, omega arith, refl) in
-    let absent : Contains own_statuses status.Absent = (2, omega arith, refl) in
-    of_read own_statuses refused absent (GivesLogs machines read.election logs files)
-    (λ (found : List LogRead). IsOrderOver machines x y (entries_of found)) answer
-    (λ found. of_read own_statuses refused absent (GivesGraph (entries_of found))
-    (λ (graph : EntryGraph SealedEntry). IsOrderAmong machines graph.survivors x y) answer
-    (λ graph. of_among machines graph.survivors x y answer))
-
 of_files : (roster x y : List ℕ) (logs : List (List ℕ)) (files : List (Option (List ℕ))) (answer : Answer) →
     (order_parts roster x y logs).IsAnswer files answer → Has answer
 of_files roster x y logs (file ∷ files) answer is =
-    of_read own_statuses (1, omega arith, refl) (2, omega arith, refl) (GivesRoster roster file)
+    let refused : Contains own_statuses status.Refused = (1, omega arith, refl) in
+    let absent : Contains own_statuses status.Absent = (2, omega arith, refl) in
+    of_read own_statuses refused absent (GivesRoster roster file)
     (λ (read : RosterRead). IsOrderUnder read x y logs files) answer
-    (λ (read : RosterRead) under. of_over_logs read x y logs files answer under.right) is.right
+    (λ read under. of_read own_statuses refused absent (GivesLogs read.roster.machines read.election logs files)
+    (λ (found : List LogRead). IsOrderOver read.roster.machines x y (entries_of found)) answer
+    (λ found. of_read own_statuses refused absent (GivesGraph (entries_of found))
+    (λ (graph : EntryGraph SealedEntry). IsOrderAmong read.roster.machines graph.survivors x y) answer
+    (λ graph. of_among _ graph.survivors x y answer)) under.right) is.right
 of_files roster x y logs [] answer is = absurd is
 
 pub order_has_statuses : (roster x y : List ℕ) (logs : List (List ℕ)) → HasStatuses (order_parts roster x y logs)

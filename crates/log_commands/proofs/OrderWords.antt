@@ -1,12 +1,9 @@
 -- What the word says of two survivors, and what it promises.
-use Rattle.std.proofs.Common.{Some, Bool, true, false}
-use Rattle.std.specs.Prelude.{◌↔◌}
-use Rattle.std.specs.List.{Contains}
-use Rattle.log_commands.proofs.Imports.{◌≡◌, ◌≢◌, ℕ, List, refl, slice_get, if◌then◌else◌, false≢true, Three}
-use Rattle.log_commands.proofs.Imports.{False, Unknown, True, reaches, is_whole, before, IsWhole, IsGraphOf}
-use Rattle.log_commands.proofs.Imports.{GraphsAreExact, SealedEntry, node_of, node_of_sealed}
-use Rattle.log_commands.proofs.Imports.{Contains-map, paths_are_settled, plain_of, plains, order_seen, order_back}
-use Rattle.log_commands.proofs.Imports.{whole_seen, OrderWord, IsBefore, IsWordOf, AreWhole, InEach, ComesFirst, word_by}
+use Rattle.log_commands.proofs.Imports
+use Imports.{AreWhole, before, Bool, ComesFirst, Contains, Contains-map, False, false, false≢true, GraphsAreExact}
+use Imports.{if◌then◌else◌, InEach, is_whole, IsBefore, IsGraphOf, IsWhole, IsWordOf, List, node_of, node_of_sealed}
+use Imports.{order_back, order_seen, OrderWord, paths_are_settled, plain_of, plains, reaches, refl, SealedEntry}
+use Imports.{slice_get, Some, Three, True, true, Unknown, whole_seen, word_by, ℕ, ◌↔◌, ◌≡◌, ◌≢◌}
 use Rattle.log_commands.specs.declared.order_word.OrderWord.TheVariants as says
 
 -- what is said of e before f

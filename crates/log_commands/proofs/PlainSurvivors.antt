@@ -1,12 +1,9 @@
 -- What survives, by what it says.
-use Rattle.std.proofs.Common.{length}
-use Rattle.log_commands.proofs.Imports.{◌≡◌, ◌∙◌, ◌<◌, List, [], refl, sym, ap, subst, Ok, All-contains}
-use Rattle.log_commands.proofs.Imports.{Completion, Contains-none, Contains-map, Contains-map_cases}
-use Rattle.log_commands.proofs.Imports.{Post, Plain, SealedEntry, node_of}
-use Rattle.log_commands.proofs.Imports.{EntryGraph, GivesGraph, survivors_distinct, HaveMakers}
-use Rattle.log_commands.proofs.Imports.{AreSurvivors, plain_of, plains, completions_exist, order_is_exact, made}
-use Rattle.log_commands.proofs.Imports.{order_seen, order_back, whole_seen, whole_back}
-use Rattle.log_commands.proofs.Imports.{IsExact}
+use Rattle.log_commands.proofs.Imports.{[], All-contains, ap, AreSurvivors, Completion, completions_exist, Contains}
+use Rattle.log_commands.proofs.Imports.{Contains-map, Contains-map_cases, Contains-none, EntryGraph, GivesGraph}
+use Rattle.log_commands.proofs.Imports.{HaveMakers, IsExact, length, List, made, node_of, Ok, order_back}
+use Rattle.log_commands.proofs.Imports.{order_is_exact, order_seen, Plain, plain_of, plains, Post, refl, SealedEntry}
+use Rattle.log_commands.proofs.Imports.{subst, survivors_distinct, sym, whole_back, whole_seen, ◌<◌, ◌∙◌, ◌≡◌}
 
 module _ (machines : List Post) (given : List SealedEntry) (graph : EntryGraph SealedEntry)
     (makers : HaveMakers machines graph.survivors) (gives : GivesGraph given (Ok graph)) where
@@ -37,26 +34,20 @@ module _ (machines : List Post) (given : List SealedEntry) (graph : EntryGraph S
   pub is_exact : IsExact (length machines) graph.survivors
   is_exact =
       let S : List SealedEntry = graph.survivors in
-      let exact = order_is_exact node_of made (λ ns d. refl) (λ ns d. refl) (λ ns d. refl) (length machines) (plains S)
-      are_survivors in
+      let exact = λ (e f : SealedEntry) (in_e : Contains S e) (in_f : Contains S f).
+      order_is_exact node_of made (λ ns d. refl) (λ ns d. refl) (λ ns d. refl) (length machines) (plains S) are_survivors
+      (plain_of e) (plain_of f) (Contains-map plain_of S e in_e) (Contains-map plain_of S f in_f) in
       record {
         some = some_completion;
-        before = λ e f in_e in_f.
-            let by = (exact (plain_of e) (plain_of f) (Contains-map plain_of S e in_e)
-            (Contains-map plain_of S f in_f)).0 in (
-              λ path. by.0 (order_seen node_of plain_of S e f path),
-              λ always. order_back node_of plain_of S e f in_e in_f (by.1 always),
-            );
-        not_before = λ e f in_e in_f.
-            let by = (exact (plain_of e) (plain_of f) (Contains-map plain_of S e in_e)
-            (Contains-map plain_of S f in_f)).1 in (
-              λ (whole, none).
-                  by.0 (
-                    whole_seen node_of plain_of S f in_f whole,
-                    λ path. none (order_back node_of plain_of S e f in_e in_f path),
-                  ),
-              λ never.
-                  let (whole, none) = by.1 never in
-                  (whole_back node_of plain_of S f whole, λ path. none (order_seen node_of plain_of S e f path)),
-            );
+        before = λ e f in_e in_f. (
+          λ path. (exact e f in_e in_f).0.0 (order_seen node_of plain_of S e f path),
+          λ always. order_back node_of plain_of S e f in_e in_f ((exact e f in_e in_f).0.1 always),
+        );
+        not_before = λ e f in_e in_f. (
+          λ (whole, none). (exact e f in_e in_f).1.0
+              (whole_seen node_of plain_of S f in_f whole, λ path. none (order_back node_of plain_of S e f in_e in_f path)),
+          λ never.
+              let (whole, none) = (exact e f in_e in_f).1.1 never in
+              (whole_back node_of plain_of S f whole, λ path. none (order_seen node_of plain_of S e f path)),
+        );
       }

@@ -1,7 +1,7 @@
 -- What `prove` makes.
-use Rattle.log_commands.proofs.Imports.{List, Err, IfSome, SealedEntry, InputFault, Refused, refusal_of, IsAbsent}
-use Rattle.log_commands.proofs.Imports.{GivesGraph, ProofMade}
-use Rattle.evidence.specs.declared.fault.InputFault.TheVariants.{Absent, ReadFault, Memory}
+use Rattle.log_commands.proofs.Imports.{Err, GivesGraph, IfSome, InputFault, IsAbsent, List, ProofMade, refusal_of}
+use Rattle.log_commands.proofs.Imports.{Refused, SealedEntry}
+use Rattle.evidence.specs.declared.fault.InputFault.TheVariants.{Absent, Memory, ReadFault}
 use Rattle.entry_graph.specs.declared.fault.GraphFault.TheVariants as graph
 
 -- entries that have no graph aren't an absent file

@@ -1,21 +1,17 @@
 -- The command `prove`.
-use Rattle.log_commands.proofs.Imports.{◌≡◌, ◌≢◌, ◌∙◌, ℕ, List, [], ◌∷◌, inl, inr, refl, sym, ap, arith}
-use Rattle.log_commands.proofs.Imports.{Ok, Err, All-from_recursion, Status, Answer}
-use Rattle.log_commands.proofs.Imports.{ProofMade, GivesMade, proof_answer}
-use Rattle.log_commands.proofs.Imports.{prove_parts}
+use Rattle.log_commands.proofs.Imports.{[], All-from_recursion, Answer, ap, arith, carried_out_as, contains_as, Err}
+use Rattle.log_commands.proofs.Imports.{HasOneAnswer, HasStatuses, inl, inr, IsCompleted, IsOfCommands, List, of_read}
+use Rattle.log_commands.proofs.Imports.{Ok, proof_answer, ProofMade, prove_parts, refl, same_or, Status, status_is, sym}
+use Rattle.log_commands.proofs.Imports.{ℕ, ◌∙◌, ◌∷◌, ◌≡◌, ◌≢◌}
+use Rattle.log_commands.proofs.{OneOrderAnswer.OrderOne, OneProof.one_made, OneProof.ProofOne}
 use Rattle.command_line.specs.declared.status.Status.TheVariants as status
-use Rattle.command_line.proofs.CommandProofs.{IsOfCommands, HasStatuses, IsCompleted, HasOneAnswer, contains_as}
-use Rattle.command_line.proofs.CommandProofs.{carried_out_as, of_read, status_is}
-use Rattle.log_commands.proofs.OneOrderAnswer.{OrderOne}
-use Rattle.log_commands.proofs.OneProof.{ProofOne, one_made}
-use Rattle.command_line.proofs.SameOr.{same_or}
+use Rattle.log_commands.specs.Prove.{GivesMade}
 
 -- over files it has one answer
 pub prove_one : OrderOne → ProofOne → (roster proof : List ℕ) (logs : List (List ℕ)) →
     HasOneAnswer (prove_parts roster proof logs)
 prove_one order one roster proof logs files a b =
-    same_or (λ (m n : ProofMade). m ≡ n) (GivesMade roster proof logs files)
-    (λ (made : ProofMade) (given : Answer). given ≡ proof_answer proof made) a b
+    same_or (λ (m n : ProofMade). m ≡ n) _ (λ made given. given ≡ proof_answer proof made) a b
     (one_made order one roster proof logs files)
     (λ f g gives same x y. x ∙ ap (proof_answer proof) same ∙ sym y)
 
@@ -36,7 +32,7 @@ prove_has_statuses roster proof logs = record {
   own = λ files answer is.
       of_read own_statuses (1, omega arith, refl) (2, omega arith, refl) (GivesMade roster proof logs files)
       (λ (made : ProofMade) (given : Answer). given ≡ proof_answer proof made) answer
-      (λ made told. contains_as own_statuses answer (proof_answer proof made) told (0, omega arith, refl)) is;
+      (λ made told. contains_as own_statuses answer _ told (0, omega arith, refl)) is;
   some = All-from_recursion IsOfCommands own_statuses (tt, (tt, (tt, tt)));
 }
 

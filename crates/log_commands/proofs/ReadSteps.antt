@@ -1,9 +1,8 @@
 -- Steps that read, and steps between them that don't.
-use Rattle.std.proofs.Common.{Option, length}
-use Rattle.log_commands.proofs.Imports.{◌≡◌, ◌≢◌, ℕ, List, refl, arith, Result, Ok, Err}
-use Rattle.log_commands.proofs.Imports.{IfOk-weaker, IfSome, StoreGhosts, InputFault, Refusal, refusal_of}
-use Rattle.log_commands.proofs.Imports.{IsAbsent, OnRead, OnAllRead, IsReadFrom, all_weaker, err_by, no_cause}
-use Rattle.log_commands.proofs.Imports.{none_read, on_refusal, on_weaker}
+use Rattle.log_commands.proofs.Imports.{all_weaker, arith, Err, err_by, IfOk-weaker, IfSome, InputFault, IsAbsent}
+use Rattle.log_commands.proofs.Imports.{IsReadFrom, length, List, no_cause, none_read, Ok, on_refusal, on_weaker}
+use Rattle.log_commands.proofs.Imports.{OnAllRead, OnRead, Option, refl, Refusal, refusal_of, Result, StoreGhosts, ℕ}
+use Rattle.log_commands.proofs.Imports.{◌≡◌, ◌≢◌}
 use Rattle.evidence.specs.declared.fault.InputFault.TheVariants.{ReadFault}
 
 module _ {S T U : Type 0} (of : StoreGhosts S) (value : T → U) (names : List (List ℕ)) where

@@ -1,10 +1,8 @@
 -- The commands that answer with a report.
-use Rattle.log_commands.proofs.Imports.{refl, arith, All-from_recursion, Outcome, status_by}
-use Rattle.log_commands.proofs.Imports.{report_statuses, IsCarriedOut}
-use Rattle.std.specs.List.{All, Contains}
+use Rattle.log_commands.proofs.Imports.{All, All-from_recursion, arith, Contains, IsCarriedOut, IsOfCommands, Outcome}
+use Rattle.log_commands.proofs.Imports.{refl, report_statuses, status_by}
 use Rattle.auditor.specs.declared.outcome.Outcome.TheVariants as outcome
 use Rattle.command_line.specs.declared.status.Status.TheVariants as status
-use Rattle.command_line.proofs.CommandProofs.{IsOfCommands}
 
 -- each outcome of a report has a status of a command that was carried out
 pub outcome_done : (came : Outcome) → IsCarriedOut (status_by came)

@@ -1,10 +1,9 @@
 -- The graphs of the same entries have the same arrows.
-use Rattle.std.proofs.Common.{Bool, true, false, length, Option, Some}
-use Rattle.log_commands.proofs.Imports.{◌≡◌, ℕ, ◌<◌, List, None, refl, sym, ap, ◌∙◌, subst, arith, slice_get, Ok}
-use Rattle.log_commands.proofs.Imports.{slice_get_within, Node, IsGraphOf, Contains-none, element_at, SealedEntry}
-use Rattle.log_commands.proofs.Imports.{node_of_sealed, EntryGraph, Links, parents_in, parents_of, ragged_of}
-use Rattle.log_commands.proofs.Imports.{HaveSameArrows, GivesGraph, SameGraph, nodes_of}
-use Rattle.std.specs.List.{Contains}
+use Rattle.log_commands.proofs.Imports.{ap, arith, Bool, Contains, Contains-none, element_at, EntryGraph, false}
+use Rattle.log_commands.proofs.Imports.{GivesGraph, HaveSameArrows, IsGraphOf, length, Links, List, Node}
+use Rattle.log_commands.proofs.Imports.{node_of_sealed, nodes_of, None, Ok, Option, parents_in, parents_of, ragged_of}
+use Rattle.log_commands.proofs.Imports.{refl, SameGraph, SealedEntry, slice_get, slice_get_within, Some, subst, sym}
+use Rattle.log_commands.proofs.Imports.{true, ℕ, ◌<◌, ◌∙◌, ◌≡◌}
 
 -- two tests that fail in the same cases are one
 same_test : (a b : Bool) → (a ≡ false → b ≡ false) → (b ≡ false → a ≡ false) → a ≡ b

@@ -2,3 +2,4 @@
 pub mod EntryNames
 pub mod Checking
 pub mod Watching
+pub mod PlaceFiles

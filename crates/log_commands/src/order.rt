@@ -4,9 +4,7 @@ ghost use Rattle.std.specs.Prelude.{
   ◌≢◌,
   ◌<◌,
   ◌↔◌,
-  ℕ,
-  List,
-  Ok,
+  ◌∷◌,
   map,
   length,
   IfOk,
@@ -21,13 +19,12 @@ ghost use Rattle.roster.specs.declared.post.Post.{Post};
 ghost use Rattle.entry_format.specs.Nodes.{node_of_sealed};
 ghost use Rattle.entry_graph.specs.EntryGraph.{IsEntryGraph};
 ghost use Rattle.evidence.specs.Graphs.{entries_of};
-ghost use Rattle.evidence.specs.Logs.{GivesLogs};
-ghost use Rattle.evidence.specs.Reading.{IsReadFrom, IsReadFromFile};
-ghost use Rattle.evidence.specs.RosterFile.{GivesRoster};
+ghost use Rattle.evidence.specs.Reading.{IsReadFrom};
 ghost use Rattle.log_commands.specs.EntryWords.{IsNamedBy, IsNumbered, MeansEntry, by_number};
 ghost use Rattle.log_commands.specs.Order.{AreOrderWords, IsOrderOver, order_parts};
 ghost use Rattle.log_commands.specs.TwoEntries.{IsOrderAmong};
 ghost use Rattle.log_commands.specs.inside.EntryNames.{IsLowerAt, IsPlaceOf, IsWordAt, word_by};
+ghost use Rattle.log_commands.specs.inside.PlaceFiles.{GivesPlace, place_of};
 ghost use Rattle.command_line.specs.Promise.{IsAnsweredBy};
 
 use crate::entry_word::{Read, is_entry_word, read_word};
@@ -51,6 +48,34 @@ pub fn are_ordered(x: &str, y: &str, logs: &[String]) -> bool
     is_entry_word(x) && is_entry_word(y) && are_logs(logs)
 }
 
+/// A roster, and the logs that were read by it.
+#[derive(Drop)]
+struct PlaceRead {
+    read: RosterRead,
+    logs: Vec<LogRead>,
+}
+
+/// Reads the roster and the logs.
+fn read_place<W: EntryWork, S: Store>(
+    work: &W,
+    alloc: Global,
+    store: &mut S,
+    roster: &str,
+    logs: &[String],
+) -> Result<PlaceRead, InputFault>
+    requires { W.may_share work.now }
+    ensures { IsReadFrom S.Store place_of (roster.now ∷ map string_bytes logs.now)
+        (GivesPlace roster.now (map string_bytes logs.now)) store.old result store.new }
+{
+    match read_roster(alloc, store, roster) {
+        Ok(read) => match read_logs_by(work, alloc, store, logs, &read.roster, &read.election) {
+            Ok(logs) => Ok(PlaceRead { read, logs }),
+            Err(fault) => Err(fault),
+        },
+        Err(fault) => Err(fault),
+    }
+}
+
 /// The answer of `order` for two words for entries, by the roster and the logs in these files.
 pub fn order<W: EntryWork, S: Store>(
     work: &W,
@@ -65,31 +90,11 @@ pub fn order<W: EntryWork, S: Store>(
     ensures { IsAnsweredBy S.Store (order_parts roster.now x.now y.now (map string_bytes logs.now))
         store.old result store.new }
 {
-    match read_roster(alloc, store, roster) {
-        Ok(read) => {
-            let found = read_logs_by(work, alloc, store, logs, &read.roster, &read.election);
-            order_of::<S>(alloc, &read, x, y, found)
+    match read_place(work, alloc, store, roster, logs) {
+        Ok(place) => {
+            let PlaceRead { read, logs } = place;
+            order_over(alloc, &read.roster, x, y, logs)
         }
-        Err(fault) => Answer::of_fault(alloc, &fault),
-    }
-}
-
-/// The answer once the roster and the logs were read, of whatever files.
-fn order_of<S: Store>(
-    alloc: Global,
-    read: &RosterRead,
-    x: &str,
-    y: &str,
-    logs: Result<Vec<LogRead>, InputFault>,
-) -> Result<Answer, Fault>
-    ensures { (roster : List ℕ) (names : List (List ℕ)) (old mid new : S) →
-        IsReadFromFile S.Store (λ found. found) roster (GivesRoster roster) old (Ok read.now) mid →
-        IsReadFrom S.Store (λ found. found.items) names
-        (GivesLogs read.now.roster.machines read.now.election names) mid logs new →
-        IsAnsweredBy S.Store (order_parts roster x.now y.now names) old result new }
-{
-    match logs {
-        Ok(logs) => order_over(alloc, &read.roster, x, y, logs),
         Err(fault) => Answer::of_fault(alloc, &fault),
     }
 }

@@ -1,15 +1,17 @@
-use Rattle.log_commands.proofs.Imports.{map, subst, string_bytes, IsReadFrom, audit_files, GivesReport, report_of}
-use Rattle.log_commands.proofs.Imports.{RuleSource}
+use Rattle.log_commands.proofs.Imports.{found_answered, inl, inr, Ok, refl, refused_answered}
+use Rattle.log_commands.proofs.{HonestAudits.audit_right, SoundReports.given_is_sound}
 use Rattle.log_commands.proofs.audit.audit.Goals as goal
 
-pub returns : goal.returns
-returns g c =
-    let before = c.args.store.now in
-    let after = c.audit_by-audited.new.store in
-    let roster = c.args.roster.now in
-    let logs = map string_bytes c.args.logs.now in
-    let P : RuleSource → Type 0 = λ source.
-    IsReadFrom g.S.Store report_of (audit_files roster source logs) (GivesReport roster source logs) before
-    c.audit_by-audited.result after in
-    c.answered.ensures roster c.args.rules.now logs before after
-    (subst P c.rules_from.ensures c.audit_by-audited.ensures)
+pub returns-in-Err : goal.returns-in-Err
+returns-in-Err g c =
+    refused_answered g.S.Store _ _ _ _ _ _ c.in-Err.fault _ (rw c.rules_from.ensures at c.in-Err.ensures)
+    c.of_fault.ensures.ok c.of_fault.ensures.err
+    (λ files refusal gives. audit_right _ _ _ files _ (inl (refusal, gives, refl)))
+
+pub returns-in_ok-answer_of-in-Ok : goal.returns-in_ok-answer_of-in-Ok
+returns-in_ok-answer_of-in-Ok g c =
+    let told = c.in_ok-answer_of-in-Ok.ensures in
+    found_answered g.S.Store _ _ _ _ _ _ c.in-Ok.report (Ok _) (rw c.rules_from.ensures at c.in-Ok.ensures)
+    (λ files gives. audit_right _ _ _ files _
+    (inr (_, gives, record { sound = given_is_sound _ _ _ files _ gives; told = told.told })))
+    told.status tt

@@ -1,5 +1,5 @@
-use Rattle.log_commands.proofs.Imports.{sym, string_bytes, get_or_from_slice_get, rule_tree, pair_more, pairs_all}
-use Rattle.log_commands.proofs.Imports.{checked_line}
+use Rattle.log_commands.proofs.Imports.{checked_line, get_or_from_slice_get, pair_more, pairs_all, rule_tree}
+use Rattle.log_commands.proofs.Imports.{string_bytes, sym}
 use Rattle.log_commands.proofs.check.add_rules.Goals as goal
 
 pub loop-i-preserved : goal.loop-i-preserved

@@ -1,4 +1,4 @@
-use Rattle.log_commands.proofs.Imports.{◌≡◌, ◌++◌, string_bytes, map, take, flat_map, zip, rule_tree, checked_line}
+use Rattle.log_commands.proofs.Imports.{checked_line, flat_map, map, rule_tree, string_bytes, take, zip, ◌++◌, ◌≡◌}
 use Rattle.log_commands.proofs.check.add_rules.Given as goal
 
 -- the lines of the rules so far

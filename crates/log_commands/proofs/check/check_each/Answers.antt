@@ -1,4 +1,4 @@
-use Rattle.log_commands.proofs.Imports.{◌+◌, List, map, take, sym, subst, rule_tree, nodes_of, AreChecked}
+use Rattle.log_commands.proofs.Imports.{AreChecked, List, map, nodes_of, rule_tree, subst, sym, take, ◌+◌}
 use Rattle.audit_proof.specs.declared.fault.Verdict.{Verdict}
 use Rattle.log_commands.proofs.CheckedRules.{checked_more, first_too_wide}
 use Rattle.log_commands.proofs.check.check_each.Goals as goal

@@ -1,4 +1,4 @@
-use Rattle.log_commands.proofs.Imports.{map, take, rule_tree, nodes_of, AreChecked}
+use Rattle.log_commands.proofs.Imports.{AreChecked, map, nodes_of, rule_tree, take}
 use Rattle.log_commands.proofs.check.check_each.Given as goal
 
 -- the verdicts on the rules so far

@@ -1,5 +1,4 @@
-use Rattle.log_commands.proofs.Imports.{◌≢◌, take}
-use Rattle.std.specs.Prelude.{All}
+use Rattle.log_commands.proofs.Imports.{All, take, ◌≢◌}
 use Rattle.log_commands.proofs.entry_word.first_dot.Given as goal
 
 -- there is no dot so far

@@ -1,4 +1,4 @@
-use Rattle.log_commands.proofs.Imports.{◌∙◌, ◌+◌, sym, subst, decimal, false≢true, take_rest, IsName}
+use Rattle.log_commands.proofs.Imports.{decimal, false≢true, IsName, subst, sym, take_rest, ◌+◌, ◌∙◌}
 use Rattle.log_commands.proofs.EntryTexts.{dot_splits}
 use Rattle.log_commands.proofs.entry_word.read_number.Goals as goal
 

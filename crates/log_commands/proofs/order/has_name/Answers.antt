@@ -1,4 +1,4 @@
-use Rattle.log_commands.proofs.Imports.{◌∙◌, refl, ap, sym, arith, Post}
+use Rattle.log_commands.proofs.Imports.{ap, arith, Post, refl, sym, ◌∙◌}
 use Rattle.log_commands.proofs.EntryPlaces.{named_at, none_named}
 use Rattle.log_commands.proofs.order.has_name.Goals as goal
 

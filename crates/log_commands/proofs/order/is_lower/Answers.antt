@@ -1,4 +1,4 @@
-use Rattle.log_commands.proofs.Imports.{◌∙◌, ap, is_lt}
+use Rattle.log_commands.proofs.Imports.{ap, is_lt, ◌∙◌}
 use Rattle.log_commands.proofs.EntryPlaces.{lower_at}
 use Rattle.log_commands.proofs.order.is_lower.Goals as goal
 

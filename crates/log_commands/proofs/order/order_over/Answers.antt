@@ -1,5 +1,4 @@
-use Rattle.log_commands.proofs.Imports.{SealedEntry, EntryGraph, entries_of, GivesGraph, IsOrderAmong}
-use Rattle.command_line.proofs.Faults.{refused_or}
+use Rattle.log_commands.proofs.Imports.{entries_of, EntryGraph, GivesGraph, IsOrderAmong, refused_or, SealedEntry}
 use Rattle.log_commands.proofs.order.order_over.Goals as goal
 
 pub returns-in-Err-clause-told : goal.returns-in-Err-clause-told

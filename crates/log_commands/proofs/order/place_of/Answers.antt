@@ -1,5 +1,5 @@
-use Rattle.log_commands.proofs.Imports.{◌≡◌, List, ℕ, subst, by_digest, by_number, IsSpelt, IsEntryWord, IsNamedBy}
-use Rattle.log_commands.proofs.Imports.{Read, name_of}
+use Rattle.log_commands.proofs.Imports.{by_digest, by_number, IsEntryWord, IsNamedBy, IsSpelt, List, name_of, Read}
+use Rattle.log_commands.proofs.Imports.{subst, ℕ, ◌≡◌}
 use Rattle.log_commands.proofs.EntryTexts.{place_means}
 use Rattle.log_commands.proofs.order.place_of.Goals as goal
 

@@ -1,8 +1,8 @@
-use Rattle.log_commands.proofs.Imports.{◌∙◌, ◌+◌, sym, subst, arith, true≢false, IsNumbered}
-use Rattle.log_commands.proofs.EntryPlaces.{LeastBefore, least_here, least_passes, least_stays, number_found}
-use Rattle.log_commands.proofs.order.place_of_number.Goals.{then-is_numbered+then-is_lower, else-is_numbered}
+use Rattle.log_commands.proofs.Imports.{arith, IsNumbered, subst, sym, true≢false, ◌+◌, ◌∙◌}
+use Rattle.log_commands.proofs.EntryPlaces.{least_here, least_passes, least_stays, LeastBefore, number_found}
+use Rattle.log_commands.proofs.order.place_of_number.Goals.{else-is_numbered, else-is_numbered-via-else-is_numbered}
 use Rattle.log_commands.proofs.order.place_of_number.Goals.{else-is_numbered-via-then-is_numbered+else-is_lower}
-use Rattle.log_commands.proofs.order.place_of_number.Goals.{else-is_numbered-via-else-is_numbered}
+use Rattle.log_commands.proofs.order.place_of_number.Goals.{then-is_numbered+then-is_lower}
 use Rattle.log_commands.proofs.order.place_of_number.Goals as goal
 
 pub loop-at-preserved : goal.loop-at-preserved

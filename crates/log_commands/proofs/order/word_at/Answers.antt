@@ -1,7 +1,6 @@
-use Rattle.std.proofs.Common.{Some}
-use Rattle.log_commands.proofs.Imports.{◌≡◌, ◌∙◌, ap, sym, subst, Three, before, parents_of, ragged_of, OrderWord}
-use Rattle.log_commands.proofs.Imports.{IsWordOf}
-use Rattle.log_commands.proofs.OrderWords.{SaysBefore, graph_says, word_is_right}
+use Rattle.log_commands.proofs.Imports.{ap, before, IsWordOf, OrderWord, parents_of, ragged_of, Some, subst, sym, Three}
+use Rattle.log_commands.proofs.Imports.{◌∙◌, ◌≡◌}
+use Rattle.log_commands.proofs.OrderWords.{graph_says, SaysBefore, word_is_right}
 use Rattle.log_commands.proofs.order.word_at.Goals as goal
 
 pub make-requires : goal.make-requires
