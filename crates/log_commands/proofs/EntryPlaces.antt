@@ -43,9 +43,13 @@ module _ (P : SealedEntry → Type 0) (S : List SealedEntry) where
   -- the entry at this place has a lower digest
   pub least_here : (at : ℕ) (least : Option ℕ) (e : SealedEntry) → slice_get S at ≡ Some e → P e →
       IsLowerAt S at least → LeastBefore at least → LeastBefore (at + 1) (Some at)
-  least_here at least e is holds lower before =
-      (e, is, holds, below_more _ at (by least lower before) (λ f same has under.
-          not_under_itself e (subst (λ u. IsUnder u e) (sym (one_at S at e f is same)) under)))
+  least_here at least e is holds lower before = (
+    e,
+    is,
+    holds,
+    below_more _ at (by least lower before) (λ f same has under.
+        not_under_itself e (subst (λ u. IsUnder u e) (sym (one_at S at e f is same)) under)),
+  )
     where
       -- it has a lower one than those before it
       by : (least : Option ℕ) → IsLowerAt S at least → LeastBefore at least → (i : ℕ) → i < at → (f : SealedEntry) →
@@ -59,9 +63,13 @@ module _ (P : SealedEntry → Type 0) (S : List SealedEntry) where
   pub least_passes : (at : ℕ) (least : Option ℕ) (e : SealedEntry) → slice_get S at ≡ Some e → ¬ P e →
       LeastBefore at least → LeastBefore (at + 1) least
   least_passes at None e is not_this before = none_more at e is not_this before
-  least_passes at (Some place) e is not_this (k, at_k, has_k, least) =
-      (k, at_k, has_k, below_more _ at least
-          (λ f same has. absurd (not_this (subst P (sym (one_at S at e f is same)) has))))
+  least_passes at (Some place) e is not_this (k, at_k, has_k, least) = (
+    k,
+    at_k,
+    has_k,
+    below_more _ at least
+        (λ f same has. absurd (not_this (subst P (sym (one_at S at e f is same)) has))),
+  )
 
   -- the entry with the least digest stays that where the one at this place doesn't have a lower
   -- digest
@@ -124,6 +132,13 @@ pub number_found : (machines : List Post) (machine : List ℕ) (number : ℕ) (S
     IsPlaceOf (IsNamedBy machines S (by_number machine number)) S least
 number_found machines machine number S at None past before =
     λ f has (also, numbered, low). none_at_all (IsNumbered machines machine number) S at past before f has numbered
-number_found machines machine number S at (Some place) past (e, is, numbered, least) =
-    (e, is, (member_at S place e is, numbered, λ f (k, within, same) has.
-        least k (omega arith) f (slice_get-get_or S k f within ∙ ap Some same) has))
+number_found machines machine number S at (Some place) past (e, is, numbered, least) = (
+  e,
+  is,
+  (
+    member_at S place e is,
+    numbered,
+    λ f (k, within, same) has.
+        least k (omega arith) f (slice_get-get_or S k f within ∙ ap Some same) has,
+  ),
+)

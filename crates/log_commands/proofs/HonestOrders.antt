@@ -127,9 +127,13 @@ order_right roster x y names file files answer right = record {
     by : OrRefused (GivesRoster roster file) (λ (read : RosterRead). IsOrderOverLogs read x y names files) answer →
         OrRefused (GivesRoster roster file) (λ (read : RosterRead). IsOrderUnder read x y names files) answer
     by (inl why) = inl why
-    by (inr (read, gives, over)) = inr (read, gives, record {
-      right = over;
-      exact = λ graph (found, gives, graphed).
-          is_exact _ _ graph
-          (survivors_have_makers _ _ graph (logs_have_makers _ _ names files found gives) graphed) graphed;
-    })
+    by (inr (read, gives, over)) = inr (
+      read,
+      gives,
+      record {
+        right = over;
+        exact = λ graph (found, gives, graphed).
+            is_exact _ _ graph
+            (survivors_have_makers _ _ graph (logs_have_makers _ _ names files found gives) graphed) graphed;
+      },
+    )

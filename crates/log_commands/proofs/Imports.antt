@@ -197,4 +197,3 @@ pub use Rattle.rule_meaning.specs.Meaning.{Holds}
 pub use Rattle.rule_meaning.specs.Sound.{RulesAreSettled, UnknownOnlyByGaps}
 pub use Rattle.std.proofs.Common.{Global}
 pub use Rattle.std.proofs.lemmas.Bool.{cases_Bool}
-

@@ -41,8 +41,12 @@ module _ (names : List (List ℕ)) where
       WithLogs found.machines source found.rules names found.logs answer →
       WithRules read source rules names files answer
   report_by_logs read source rules files found answer (inl (logs, gives, e)) with =
-      inl (logs, gives, subst (λ (ev : Evidence). WithLogs ev.machines source ev.rules names ev.logs answer)
-          (same_found found (these read rules logs) e) with)
+      inl (
+        logs,
+        gives,
+        subst (λ (ev : Evidence). WithLogs ev.machines source ev.rules names ev.logs answer)
+            (same_found found (these read rules logs) e) with,
+      )
   report_by_logs read source rules files found answer (inr (refusal, gives, e)) with = cc
 
   -- what the evidence gives an audit, the files give it

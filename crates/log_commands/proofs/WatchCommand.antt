@@ -39,14 +39,14 @@ pub told_of : (source : RuleSource) (names : List (List ℕ)) (evidence : Eviden
     Watches source names evidence (Ok told) → IsToldOf names evidence told
 told_of source names evidence told
     (inl (graph, graphed, inl (summaries, (_, said), inl (report, inl (verdicts, judged, f), e)))) = record {
-  graph = graph;
-  graphed = graphed;
-  summaries = summaries;
-  said = said;
-  verdicts = verdicts;
-  judged = judged;
-  is = same_found told _ e ∙ ap (watch_answer summaries) (same_found report _ f);
-}
+      graph = graph;
+      graphed = graphed;
+      summaries = summaries;
+      said = said;
+      verdicts = verdicts;
+      judged = judged;
+      is = same_found told _ e ∙ ap (watch_answer summaries) (same_found report _ f);
+    }
 told_of source names evidence told (inl (graph, graphed, inl (summaries, said, inl (report, inr (r, bad, f), e)))) =
     absurd (let no : ⊥ = cc in no)
 told_of source names evidence told (inl (graph, graphed, inl (summaries, said, inr (refusal, gives, e)))) =

@@ -235,73 +235,73 @@ module _ (order : OrderOne) (readings : RulesAreReadInOneWay) (reports : FilesGi
     (order_of : IsPermutation files others) (told also : Answer)
     (one : IsMadeOf roster source (names_of files) (files_read roster_file source rules_file (bytes_of files)) told)
     (two : IsMadeOf roster source (names_of others) (files_read roster_file source rules_file (bytes_of others)) also)
-    where
-  -- the files of the other order
-  abbrev read_there : List (Option (List ℕ))
-  read_there = files_read roster_file source rules_file (bytes_of others)
+  where
+    -- the files of the other order
+    abbrev read_there : List (Option (List ℕ))
+    read_there = files_read roster_file source rules_file (bytes_of others)
 
-  moved : Moved one.found (λ ev. GivesEvidence roster source (names_of others) read_there (Ok ev))
-  moved = evidence_moved files others order_of one.found roster source roster_file rules_file one.gives
+    moved : Moved one.found (λ ev. GivesEvidence roster source (names_of others) read_there (Ok ev))
+    moved = evidence_moved files others order_of one.found roster source roster_file rules_file one.gives
 
-  abbrev evidence : Evidence
-  evidence = record { machines = one.found.machines; rules = one.found.rules; logs = moved.logs }
+    abbrev evidence : Evidence
+    evidence = record { machines = one.found.machines; rules = one.found.rules; logs = moved.logs }
 
-  -- the logs in the other order say what was read of it
-  entries : entries_of moved.logs ≡ entries_of two.found.logs
-  entries =
-      same_entries moved.logs two.found.logs
-      (evidence_agrees (ones_of order readings) (names_of others) roster source read_there (Ok evidence)
-      (Ok two.found) moved.gives two.gives).logs
+    -- the logs in the other order say what was read of it
+    entries : entries_of moved.logs ≡ entries_of two.found.logs
+    entries =
+        same_entries moved.logs two.found.logs
+        (evidence_agrees (ones_of order readings) (names_of others) roster source read_there (Ok evidence)
+        (Ok two.found) moved.gives two.gives).logs
 
-  -- the graph is that of both
-  graphed : GivesGraph (entries_of moved.logs) (Ok one.of.graph)
-  graphed =
-      graph_there one.found.machines moved.election one.found.logs moved.logs moved.same moved.valid one.of.graph
-      one.of.graphed
-      (subst (λ (es : List SealedEntry). length (distinct node_of_sealed es) ≤ 16384) (sym entries) two.of.graphed.1)
+    -- the graph is that of both
+    graphed : GivesGraph (entries_of moved.logs) (Ok one.of.graph)
+    graphed =
+        graph_there one.found.machines moved.election one.found.logs moved.logs moved.same moved.valid one.of.graph
+        one.of.graphed
+        (subst (λ (es : List SealedEntry). length (distinct node_of_sealed es) ≤ 16384) (sym entries) two.of.graphed.1)
 
-  -- the report of the logs in the other order
-  abbrev second : AuditReport
-  second = report_on one.found.machines (names_of others) moved.logs one.of.graph one.found.rules one.of.verdicts
+    -- the report of the logs in the other order
+    abbrev second : AuditReport
+    second = report_on one.found.machines (names_of others) moved.logs one.of.graph one.found.rules one.of.verdicts
 
-  same : SameReport second (report_in two.of)
-  same =
-      reports roster source (names_of others) read_there (Ok second) (Ok (report_in two.of))
-      (report_by (names_of others) roster source read_there evidence (Ok second) moved.gives
-      (inl (one.of.graph, graphed, inl (one.of.verdicts, one.of.judged, refl))))
-      (report_made roster source (names_of others) read_there also two)
+    same : SameReport second (report_in two.of)
+    same =
+        reports roster source (names_of others) read_there (Ok second) (Ok (report_in two.of))
+        (report_by (names_of others) roster source read_there evidence (Ok second) moved.gives
+        (inl (one.of.graph, graphed, inl (one.of.verdicts, one.of.judged, refl))))
+        (report_made roster source (names_of others) read_there also two)
 
-  outcome : outcome_of (report_in one.of) ≡ outcome_of second
-  outcome =
-      ap (λ (b : Bool). outcome_by (list_any is_broken one.of.verdicts) (list_any is_unsettled one.of.verdicts)
-      (b || graph_has_finding one.of.graph))
-      (list_any-IsPermutation log_has_finding one.found.logs moved.logs moved.same)
+    outcome : outcome_of (report_in one.of) ≡ outcome_of second
+    outcome =
+        ap (λ (b : Bool). outcome_by (list_any is_broken one.of.verdicts) (list_any is_unsettled one.of.verdicts)
+        (b || graph_has_finding one.of.graph))
+        (list_any-IsPermutation log_has_finding one.found.logs moved.logs moved.same)
 
-  -- both have as many entries
-  as_many : length (entries_of one.found.logs) ≡ length (entries_of two.found.logs)
-  as_many = kept_as_many one.found.logs moved.logs moved.same ∙ ap length entries
+    -- both have as many entries
+    as_many : length (entries_of one.found.logs) ≡ length (entries_of two.found.logs)
+    as_many = kept_as_many one.found.logs moved.logs moved.same ∙ ap length entries
 
-  -- they end alike
-  ends_alike : EndAlike told also
-  ends_alike = record {
-    status = status_is told _ one.of.is ∙ ap status_by (outcome ∙ same.outcome) ∙ sym (status_is also _ two.of.is);
-    last = λ prints.
-        let some : entries_of one.found.logs ≢ [] = λ none.
-        prints (ap (λ (a : Answer). a.output) one.of.is ∙ ap (watch_lines 1)
-        (nil_from_length one.of.summaries (one.of.said.one_each ∙ ap length none))) in
-        let (earlier, long, line) =
-        last_line order.graph (names_of others) two.found also two.of
-        (λ none. some (nil_from_length _ (as_many ∙ ap length none))) in
-        let n = length (entries_of one.found.logs) in
-        let there : PrintsLast n (summary_of (report_in one.of)) also = (
-          earlier,
-          long ∙ sym as_many,
-          line ∙ ap (λ m. watch_lines 1 earlier ++ watch_line m (summary_of (report_in two.of))) (sym as_many)
-              ∙ ap (λ (l : List ℕ). watch_lines 1 earlier ++ l) (sym (same_line n (summary_of second)
-              (summary_of (report_in two.of)) (ap length same.graph.survivors) same.graph.gaps same.verdicts)),
-        ) in
-        (n, summary_of (report_in one.of), last_line order.graph (names_of files) one.found told one.of some, there);
-  }
+    -- they end alike
+    ends_alike : EndAlike told also
+    ends_alike = record {
+      status = status_is told _ one.of.is ∙ ap status_by (outcome ∙ same.outcome) ∙ sym (status_is also _ two.of.is);
+      last = λ prints.
+          let some : entries_of one.found.logs ≢ [] = λ none.
+          prints (ap (λ (a : Answer). a.output) one.of.is ∙ ap (watch_lines 1)
+          (nil_from_length one.of.summaries (one.of.said.one_each ∙ ap length none))) in
+          let (earlier, long, line) =
+          last_line order.graph (names_of others) two.found also two.of
+          (λ none. some (nil_from_length _ (as_many ∙ ap length none))) in
+          let n = length (entries_of one.found.logs) in
+          let there : PrintsLast n (summary_of (report_in one.of)) also = (
+            earlier,
+            long ∙ sym as_many,
+            line ∙ ap (λ m. watch_lines 1 earlier ++ watch_line m (summary_of (report_in two.of))) (sym as_many)
+                ∙ ap (λ (l : List ℕ). watch_lines 1 earlier ++ l) (sym (same_line n (summary_of second)
+                (summary_of (report_in two.of)) (ap length same.graph.survivors) same.graph.gaps same.verdicts)),
+          ) in
+          (n, summary_of (report_in one.of), last_line order.graph (names_of files) one.found told one.of some, there);
+    }
 
 -- the order of the logs doesn't decide how `watch` ends
 pub orders_end_alike : OrderOne → RulesAreReadInOneWay → FilesGiveOneReport → OrdersOfLogsEndAlike

@@ -27,9 +27,17 @@ returns-clause-told c =
     let (e, at_e, means_e) = c.in-Some.ensures in
     let (f, at_f, means_f) = c.in-Some-place_of.ensures in
     IfOk-weaker _ _ _
-    (λ answer told. inr (e, means_e, inr (f, means_f, record {
-      word = c.in_ok-word.word;
-      right = c.in_ok-word.ensures e f at_e at_f;
-      told = told ∙ ap (line_answer status.Done) c.word.ensures;
-    })))
+    (λ answer told. inr (
+      e,
+      means_e,
+      inr (
+        f,
+        means_f,
+        record {
+          word = c.in_ok-word.word;
+          right = c.in_ok-word.ensures e f at_e at_f;
+          told = told ∙ ap (line_answer status.Done) c.word.ensures;
+        },
+      ),
+    ))
     c.line.ensures
