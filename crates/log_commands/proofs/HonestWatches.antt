@@ -1,34 +1,20 @@
 -- What `watch` says where the logs' files are left of an honest place.
-use Rattle.log_commands.proofs.Imports.{None, ◌≡◌, ◌≢◌, ◌∙◌, ℕ, ◌+◌, List, [], ◌∷◌, take, drop, get_or, map, inl}
-use Rattle.log_commands.proofs.Imports.{inr, refl, sym, ap, subst, take-append-drop, Result, Ok, Err, count_by}
-use Rattle.log_commands.proofs.Imports.{filter, cond-false, Contains-append_left, length-filter, slice_get-get_or}
-use Rattle.log_commands.proofs.Imports.{Script, node_of_sealed, SealedEntry, EntryGraph, parents_of, ragged_of}
-use Rattle.log_commands.proofs.Imports.{distinct_given, Distinct, World, sent_in, Contains-head}
-use Rattle.log_commands.proofs.Imports.{Contains-later, member_at, LogRead, Post}
-use Rattle.log_commands.proofs.Imports.{standard_rules, RuleTree, three_in, roster_of, election_of, RosterRead}
-use Rattle.log_commands.proofs.Imports.{entries_of, GivesLogs, Refusal, refused, IsHonestWorld}
-use Rattle.log_commands.proofs.Imports.{IsOfScript, left_agrees, scripts_are_honest, IsHonest, WereSentIn}
-use Rattle.log_commands.proofs.Imports.{honest_audits_never_say_broken, none_broken, GivesReport}
-use Rattle.log_commands.proofs.Imports.{is_broken, outcome_of, row_of, standard, IsTooWideOver, Summary, After}
-use Rattle.log_commands.proofs.Imports.{Answer, refusal_answer, AreSummaries, Evidence, GivesEvidence}
-use Rattle.log_commands.proofs.Imports.{GivesSummaries, Watches, watch_answer, BreaksNoRule}
-use Rattle.log_commands.proofs.Imports.{HonestWatchesBreakNoRule}
-use Rattle.std.proofs.Common.{Bool, false, Option}
-use Rattle.std.specs.Prelude.{All, length, codes}
-use Rattle.std.specs.List.{Contains}
+use Rattle.log_commands.proofs.Imports
+use Imports.{[], After, All, Answer, ap, AreSummaries, audits_are_refused_only_so, Bool, BreaksNoRule, codes}
+use Imports.{cond-false, Contains, Contains-append_left, Contains-head, Contains-later, count_by, Distinct}
+use Imports.{distinct_given, drop, election_of, entries_of, EntryGraph, Err, Evidence, false, files_are_read, filter}
+use Imports.{get_or, GivesEvidence, GivesLogs, GivesSummaries, HasLeft, honest_audits_never_say_broken}
+use Imports.{HonestWatchesBreakNoRule, inl, inr, is_broken, IsHonest, IsHonestWorld, IsOfScript, IsSealedGraph}
+use Imports.{IsTooWideOver, left_agrees, length, length-filter, List, LogRead, map, member_at, node_of_sealed, None}
+use Imports.{none_broken, Ok, Option, OrRefused, outcome_of, parents_of, Post, ragged_of, read_same, refl, Refusal}
+use Imports.{refusal_answer, refused, refused_answer, reports_say_none_broken, Result, roster_not_refused, roster_of}
+use Imports.{RosterRead, row_of, RuleTree, Script, script_given, script_not_refused, scripts_are_honest}
+use Imports.{scripts_are_never_too_wide, scripts_lead_to_honest_places, SealedEntry, sent_in, slice_get-get_or}
+use Imports.{standard, standard_rules, status_is, subst, Summary, sym, take, take-append-drop, three_in, Watches}
+use Imports.{WereSentIn, World, world_of_script, ℕ, ◌+◌, ◌∙◌, ◌∷◌, ◌≡◌, ◌≢◌, ◌⊎◌}
+use Rattle.log_commands.proofs.{FilesBegun.same_found, HonestAudits.only_broken, OneWatch.report_by}
+use Rattle.log_commands.proofs.{WatchCommand.report_in, WatchCommand.told_of}
 use Rattle.entry_order.specs.declared.three.Three.TheVariants as three
-use Rattle.evidence.specs.Graphs.{IsSealedGraph}
-use Rattle.honest_places.proofs.HonestFiles.{script_given, script_not_refused}
-use Rattle.honest_places.proofs.LeftFileFacts.{files_are_read}
-use Rattle.honest_places.proofs.RosterTexts.{world_of_script}
-use Rattle.honest_places.proofs.RuleScripts.{scripts_are_never_too_wide, scripts_lead_to_honest_places}
-use Rattle.honest_places.specs.Places.{HasLeft}
-use Rattle.honest_places.proofs.AuditLaws.{audits_are_refused_only_so, reports_say_none_broken}
-use Rattle.honest_places.proofs.RosterGiven.{read_same, roster_not_refused}
-use Rattle.command_line.proofs.CommandProofs.{status_is}
-use Rattle.log_commands.proofs.HonestAudits.{only_broken}
-use Rattle.log_commands.proofs.OneWatch.{report_by}
-use Rattle.log_commands.proofs.WatchCommand.{IsToldOf, told_of}
 
 -- what no member is leaves none
 none_left : {X : Type 0} (test : X → Bool) (xs : List X) → ((x : X) → Contains xs x → test x ≡ false) →
@@ -124,46 +110,23 @@ module _ (script : Script) (w : World SealedEntry) (roster : Option (List ℕ)) 
     abbrev Gives : Result Evidence Refusal → Type 0
     Gives = GivesEvidence name standard names (roster ∷ files)
 
-    -- the logs that are read are given under the script's roster
-    record IsOfPlace (found : Evidence) : Type 0 where
-      is : found ≡ evidence found.logs
-      gives : GivesLogs posts (election_of posts) names files (Ok found.logs)
-
-    -- what is read of the files is the script's roster, the standard rules and the logs
-    of_place : (found : Evidence) → Gives (Ok found) → IsOfPlace found
-    of_place found (inl (read, given, inl (logs, gives, e))) =
-        let these : Evidence = record { machines = read.roster.machines; rules = standard_rules; logs = logs } in
-        let here : found ≡ these = cc in
-        let same : logs ≡ found.logs = sym (ap (λ (ev : Evidence). ev.logs) here) in
-        let own = read_same script w roster place.roster name read given in
-        record {
-          is = here
-              ∙ ap (λ (r : RosterRead).
-              record { machines = r.roster.machines; rules = standard_rules; logs = logs }) own
-              ∙ ap evidence same;
-          gives = subst (λ (ls : List LogRead). GivesLogs posts (election_of posts) names files (Ok ls)) same
-              (subst (λ (r : RosterRead). GivesLogs r.roster.machines r.election names files (Ok logs)) own gives);
-        }
-    of_place found (inl (read, given, inr (refusal, gives, e))) = cc
-    of_place found (inr (refusal, gives, e)) = cc
-
     -- neither the roster nor a log is refused
     always_read : (refusal : Refusal) → ¬ Gives (Err refusal)
     always_read refusal (inl (read, given, inl (logs, gives, e))) = cc
     always_read refusal (inl (read, given, inr (other, gives, e))) =
-        let own = read_same script w roster place.roster name read given in
         script_given posts (election_of posts) w of names files place.logs other
-        (subst (λ (r : RosterRead). GivesLogs r.roster.machines r.election names files (Err other)) own gives)
+        (subst (λ (r : RosterRead). GivesLogs r.roster.machines r.election names files (Err other))
+        (read_same script w roster place.roster name read given) gives)
     always_read refusal (inr (other, gives, e)) = roster_not_refused script w roster place.roster name other gives
+
+    -- refused because of too many entries, or of no rule that it is broken
+    abbrev IsSaid : Answer → Type 0
+    IsSaid watched = (watched ≡ refused_answer (codes "entries") 0 (codes "TooMany")) ⊎ BreaksNoRule watched
 
     module _ (logs : List LogRead) (given : Gives (Ok (evidence logs)))
         (gives : GivesLogs posts (election_of posts) names files (Ok logs)) where
-      -- the entries of the logs
-      abbrev entries : List SealedEntry
-      entries = entries_of logs
-
       -- the entries of the logs were sent
-      sent : WereSent entries
+      sent : WereSent (entries_of logs)
       sent = (left_agrees posts w world apart logs
           (files_are_read posts w world names files place.logs logs gives)).were_sent
 
@@ -173,52 +136,52 @@ module _ (script : Script) (w : World SealedEntry) (roster : Option (List ℕ)) 
       refused_so refusal (inr (other, none, e)) =
           absurd (script_not_refused posts (election_of posts) w of apart names files place.logs logs gives other none)
       refused_so refusal (inl (graph, graphed, inr (other, none, e))) =
-          let same : refusal ≡ other = cc in same ∙ too_many entries sent other none
+          let same : refusal ≡ other = cc in same ∙ too_many (entries_of logs) sent other none
       refused_so refusal (inl (graph, graphed, inl (summaries, said, inl (report, with, e)))) = cc
       refused_so refusal (inl (graph, graphed, inl (summaries, said, inr (other, none, e)))) =
           absurd (audits_are_refused_only_so script w roster files place apart name standard None names other
           (report_by names name standard (roster ∷ files) (evidence logs) (Err other) given (inl (graph, graphed, none))))
 
-      -- what is printed says of no rule that it is broken
-      prints_so : (told : Answer) → Watches standard names (evidence logs) (Ok told) → BreaksNoRule told
-      prints_so told watches =
-          let made : IsToldOf standard names (evidence logs) told =
-          told_of standard names (evidence logs) told watches in
-          let report : GivesReport name standard names (roster ∷ files) (Ok made.report) =
-          report_by names name standard (roster ∷ files) (evidence logs) (Ok made.report) given
-          (inl (made.graph, made.graphed, made.reported)) in
-          record {
+      -- and what is printed says of no rule that it is broken
+      said_over : (watched : Answer) →
+          OrRefused (Watches standard names (evidence logs)) (λ told other. other ≡ told) watched → IsSaid watched
+      said_over watched (inl (refusal, watches, e)) = inl (e ∙ ap refusal_answer (refused_so refusal watches))
+      said_over watched (inr (told, watches, e)) =
+          let made = told_of standard names (evidence logs) told watches in
+          let report = report_by names name standard (roster ∷ files) (evidence logs) (Ok (report_in made)) given
+          (inl (made.graph, made.graphed, inl (made.verdicts, made.judged, refl))) in
+          let is = e ∙ made.is in
+          inr (record {
             summaries = made.summaries;
-            lines = ap (λ (a : Answer). a.output) made.is;
-            unbroken = none_in entries sent made.summaries made.said;
+            lines = ap (λ (a : Answer). a.output) is;
+            unbroken = none_in (entries_of logs) sent made.summaries made.said;
             status = λ broken.
-                (reports_say_none_broken script w roster files place apart name names made.report report).outcome
-                (only_broken (outcome_of made.report)
-                (sym (status_is told (watch_answer made.summaries made.report) made.is) ∙ broken));
-          }
+                (reports_say_none_broken script w roster files place apart name names (report_in made) report).outcome
+                (only_broken (outcome_of (report_in made)) (sym (status_is watched _ is) ∙ broken));
+          })
 
-    -- over whatever was read `watch` is refused only where there are too many entries
-    refused_read : (found : Evidence) → Gives (Ok found) → (refusal : Refusal) →
-        Watches standard names found (Err refusal) → refusal ≡ refused (codes "entries") 0 (codes "TooMany")
-    refused_read found given refusal watches =
-        let of = of_place found given in
-        refused_so found.logs (subst (λ (ev : Evidence). Gives (Ok ev)) of.is given) of.gives refusal
-        (subst (λ (ev : Evidence). Watches standard names ev (Err refusal)) of.is watches)
-
-    -- over whatever was read `watch` prints of no rule that it is broken
-    prints_read : (found : Evidence) → Gives (Ok found) → (told : Answer) → Watches standard names found (Ok told) →
-        BreaksNoRule told
-    prints_read found given told watches =
-        let of = of_place found given in
-        prints_so found.logs (subst (λ (ev : Evidence). Gives (Ok ev)) of.is given) of.gives told
-        (subst (λ (ev : Evidence). Watches standard names ev (Ok told)) of.is watches)
+    -- so it is over whatever was read: the script's roster, the standard rules and the logs
+    said_of : (found : Evidence) → Gives (Ok found) → (watched : Answer) →
+        OrRefused (Watches standard names found) (λ told other. other ≡ told) watched → IsSaid watched
+    said_of found (inl (read, given, inl (logs, gives, e))) watched right =
+        let own = read_same script w roster place.roster name read given in
+        let is : found ≡ evidence logs =
+        same_found found _ e
+        ∙ ap (λ (r : RosterRead). record { machines = r.roster.machines; rules = standard_rules; logs = logs }) own in
+        said_over logs (subst (λ (ev : Evidence). Gives (Ok ev)) is (inl (read, given, inl (logs, gives, e))))
+        (subst (λ (r : RosterRead). GivesLogs r.roster.machines r.election names files (Ok logs)) own gives) watched
+        (subst (λ (ev : Evidence). OrRefused (Watches standard names ev) (λ told other. other ≡ told) watched) is right)
+    said_of found (inl (read, given, inr (refusal, gives, e))) watched right =
+        absurd (let no : ⊥ = cc in no)
+    said_of found (inr (refusal, gives, e)) watched right =
+        absurd (let no : ⊥ = cc in no)
 
 -- over what is left of an honest place `watch` says of no standard rule that it is broken
 pub watches_break_none : HonestWatchesBreakNoRule
 watches_break_none roster logs script w place apart name names watched (inl (refusal, inr (other, gives, same), e)) =
     absurd (always_read script w roster logs place apart name names other gives)
 watches_break_none roster logs script w place apart name names watched (inl (refusal, inl (found, given, watches), e)) =
-    inl (e ∙ ap refusal_answer (refused_read script w roster logs place apart name names found given refusal watches))
+    said_of script w roster logs place apart name names found given watched (inl (refusal, watches, e))
 watches_break_none roster logs script w place apart name names watched (inr (told, inr (other, gives, same), e)) = cc
 watches_break_none roster logs script w place apart name names watched (inr (told, inl (found, given, watches), e)) =
-    inr (subst BreaksNoRule (sym e) (prints_read script w roster logs place apart name names found given told watches))
+    said_of script w roster logs place apart name names found given watched (inr (told, watches, e))

@@ -1,18 +1,14 @@
 -- What is said of entries, one after another.
-use Rattle.std.proofs.Common.{suc, true, length, Some, length-append}
-use Rattle.std.specs.Prelude.{◌⊎◌, codes}
-use Rattle.log_commands.proofs.Imports.{one_count, same_count}
-use Rattle.log_commands.proofs.Imports.{one_place, ◌≡◌, ◌∙◌, ℕ, ◌+◌, ◌<◌, ◌≤◌, List, [], ◌∷◌, ◌++◌, map, take, inl}
-use Rattle.log_commands.proofs.Imports.{inr, refl, sym, ap, subst, arith, append_assoc, append-nil, slice_get}
-use Rattle.log_commands.proofs.Imports.{Result, Ok, Err, AllZip, false≢true, cases_lt, cases_order, length-map}
-use Rattle.log_commands.proofs.Imports.{length-take-le, take-take, slice_get_within, same_Some, SealedEntry}
-use Rattle.log_commands.proofs.Imports.{element_at, push_before, last_at, Post, RuleTree, is_too_wide}
-use Rattle.log_commands.proofs.Imports.{EntriesGiveOneGraph, Refusal, refused, Agree, SameGraph, AreJudged}
-use Rattle.log_commands.proofs.Imports.{IsFirstTooWide, nodes_of, is_broken, is_unsettled, row_of, RuleSource}
-use Rattle.log_commands.proofs.Imports.{standard, source_word, judged_is_narrow, SameVerdict, verdicts_agree}
-use Rattle.log_commands.proofs.Imports.{IsTooWideOver, Summary, After, is_kept, AreSummaries, GivesSummaries}
-use Rattle.log_commands.proofs.Imports.{IsTooWideAfter, watch_line, watch_lines}
-use Rattle.log_commands.specs.Watch.{IsNarrowOver}
+use Rattle.log_commands.proofs.Imports
+use Imports.{[], After, Agree, AllZip, ap, append-nil, append_assoc, AreJudged, AreSummaries, arith, cases_lt}
+use Imports.{cases_order, codes, element_at, EntriesGiveOneGraph, Err, GivesSummaries, inl, inr, is_broken, is_kept}
+use Imports.{is_too_wide, is_unsettled, IsFirstTooWide, IsNarrowOver, IsTooWideAfter, IsTooWideOver, judged_is_narrow}
+use Imports.{last_at, length, length-append, length-map, length-take-le, List, map, nodes_of, Ok, one_count, one_place}
+use Imports.{Post, push_before, refl, Refusal, refused, Result, row_of, RuleSource, RuleTree, same_count, same_Some}
+use Imports.{SameGraph, SameVerdict, SealedEntry, slice_get, slice_get_within, Some, source_word, standard, subst, suc}
+use Imports.{Summary, sym, take, take-take, true, verdicts_agree, watch_line, watch_lines, ℕ, ◌++◌, ◌+◌, ◌<◌, ◌∙◌, ◌∷◌}
+use Imports.{◌≡◌, ◌≤◌, ◌⊎◌}
+use Rattle.std.proofs.lemmas.Bool.{false≢true}
 
 -- ---- one more
 
@@ -84,31 +80,30 @@ module _ (graphs : EntriesGiveOneGraph) (machines : List Post) (rules : List Rul
       watch_line n s ≡ watch_line n t
   one_line s t a b n =
       let same : SameGraph a.graph b.graph = graphs entries (Ok a.graph) (Ok b.graph) a.graphed b.graphed in
-      let by_rows = subst (λ (S : List SealedEntry). AreJudged (map (row_of machines) S) (nodes_of b.graph) rules t.verdicts)
-      (sym same.survivors) b.judged in
       same_line n s t (a.survivors ∙ ap length same.survivors ∙ sym b.survivors)
       (a.gaps ∙ same.gaps ∙ sym b.gaps)
-      (verdicts_agree (map (row_of machines) a.graph.survivors) a.graph b.graph
-      a.graphed.2.kept.linked.arrows.descends b.graphed.2.kept.linked.arrows.descends same
-      (length-map a.graph.survivors (row_of machines)) standard rules (Ok s.verdicts) (Ok t.verdicts) a.judged by_rows)
+      (verdicts_agree _ a.graph b.graph a.graphed.2.kept.linked.arrows.descends
+      b.graphed.2.kept.linked.arrows.descends same (length-map a.graph.survivors (row_of machines)) standard rules
+      (Ok s.verdicts) (Ok t.verdicts) a.judged
+      (coe 1 0 (i. AreJudged (map (row_of machines) (same.survivors i)) (nodes_of b.graph) rules t.verdicts) b.judged))
 
   -- and where they are, no rule is too wide
   said_is_narrow : (s : Summary) → After machines rules entries s → (place : ℕ) →
       IsTooWideOver machines rules entries place → ⊥
   said_is_narrow s a place (graph, graphed, first) =
       let same : SameGraph a.graph graph = graphs entries (Ok a.graph) (Ok graph) a.graphed graphed in
-      absurd (false≢true
-      (sym (judged_is_narrow (map (row_of machines) a.graph.survivors) (nodes_of a.graph) rules s.verdicts place first.rule
-      a.judged first.stands)
-      ∙ subst (λ (S : List SealedEntry). is_too_wide (map (row_of machines) S) first.rule.body 1 ≡ true)
-      (sym same.survivors) first.too_wide))
+      let narrow = judged_is_narrow (map (row_of machines) a.graph.survivors) (nodes_of a.graph) rules s.verdicts place
+      first.rule a.judged first.stands in
+      let wide = coe 1 0 (i. is_too_wide (map (row_of machines) (same.survivors i)) first.rule.body 1 ≡ true)
+      first.too_wide in
+      false≢true (sym narrow ∙ wide)
 
   -- the first rule that is too wide has one place
   one_wide : (p q : ℕ) → IsTooWideOver machines rules entries p → IsTooWideOver machines rules entries q → p ≡ q
   one_wide p q (graph, graphed, first) (other, also, second) =
       let same : SameGraph graph other = graphs entries (Ok graph) (Ok other) graphed also in
       one_place (map (row_of machines) graph.survivors) rules p q first
-      (subst (λ (S : List SealedEntry). IsFirstTooWide (map (row_of machines) S) rules q) (sym same.survivors) second)
+      (coe 1 0 (i. IsFirstTooWide (map (row_of machines) (same.survivors i)) rules q) second)
 
 module _ (graphs : EntriesGiveOneGraph) (machines : List Post) (rules : List RuleTree)
     (entries : List SealedEntry) where
@@ -135,9 +130,7 @@ same_lines [] [] long each k = refl
 same_lines [] (t ∷ ts) long each k = absurd (omega (arith, long))
 same_lines (s ∷ ss) [] long each k = absurd (omega (arith, long))
 same_lines (s ∷ ss) (t ∷ ts) long each k =
-    ap (λ text. text ++ watch_lines (k + 1) ss) (each 0 s t refl refl k)
-    ∙ ap (λ text. watch_line k t ++ text)
-    (same_lines ss ts (omega (arith, long)) (λ n. each (suc n)) (k + 1))
+    λ i. each 0 s t refl refl k i ++ same_lines ss ts (omega (arith, long)) (λ n. each (suc n)) (k + 1) i
 
 module _ (graphs : EntriesGiveOneGraph) (machines : List Post) (source : RuleSource) (rules : List RuleTree)
     (entries : List SealedEntry) where

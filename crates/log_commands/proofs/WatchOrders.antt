@@ -1,42 +1,23 @@
 -- `watch` over the same logs in another order.
-use Rattle.std.proofs.Common.{length, Option, Some, Bool}
-use Rattle.log_commands.proofs.Imports.{◌≡◌, ◌≢◌, ◌∙◌, ◌||◌, ℕ, ◌<◌, ◌≤◌, List, [], ◌∷◌, ◌++◌, None, map, inl, inr}
-use Rattle.log_commands.proofs.Imports.{refl, sym, ap, subst, arith, Ok, length-map, All-nil, All-append}
-use Rattle.log_commands.proofs.Imports.{All-map, All-contains, Contains-head, Contains-later, Contains-none}
-use Rattle.log_commands.proofs.Imports.{list_any, node_of_sealed, SealedEntry, EntryGraph, HasNoCollision, distinct}
-use Rattle.log_commands.proofs.Imports.{distinct_bears, distinct_given, text_of_sealed}
-use Rattle.log_commands.proofs.Imports.{Post, LogRead, IsSealedLogOf, log_is_valid, standard_rules, RuleTree}
-use Rattle.log_commands.proofs.Imports.{RosterRead, GivesLogs, GivesGraph, entries_of}
-use Rattle.log_commands.proofs.Imports.{entries_of_records, same_entries, AuditReport, report_on, outcome_of}
-use Rattle.log_commands.proofs.Imports.{outcome_by, is_broken, is_unsettled, log_has_finding, graph_has_finding}
-use Rattle.log_commands.proofs.Imports.{FilesGiveOneReport, GivesReport, SameReport, WithGraph, RuleSource, standard}
-use Rattle.log_commands.proofs.Imports.{in_file, files_read, source_named, Answer, Evidence, GivesEvidence, Watches}
-use Rattle.log_commands.proofs.Imports.{ReadsLogs, IsWatchOver, IsOfReport, status_by}
-use Rattle.log_commands.proofs.Imports.{watch_answer, watch_line, watch_lines, summary_of, RulesAreReadInOneWay}
-use Rattle.log_commands.proofs.Imports.{get_or, refusal_answer}
-use Rattle.std.specs.Prelude.{All, set, ◌↔◌}
-use Rattle.std.specs.List.{Contains, swap}
-use Rattle.std.specs.List.Sorted.{IsPermutation}
-use Rattle.std.proofs.lemmas.List.Sorted.{Contains-permutation, IsPermutation-keeps, IsPermutation-map}
-use Rattle.std.proofs.lemmas.List.Sorted.{IsPermutation-refl, IsPermutation-swap, IsPermutation-sym}
-use Rattle.std.proofs.lemmas.List.Sorted.{IsPermutation-trans, list_any-IsPermutation, sum_by-IsPermutation}
-use Rattle.std.proofs.lemmas.List.Concat.{length-flat_map}
-use lib.Seq.{map-set}
+use Rattle.log_commands.proofs.Imports
+use Imports.{[], All, All-contains, Answer, ap, arith, AuditReport, Bool, Contains, Contains-cons_cases}
+use Imports.{Contains-flat_map, Contains-flat_map_cases, Contains-head, Contains-later, Contains-none}
+use Imports.{Contains-permutation, distinct, distinct_bears, distinct_given, EndAlike, entries_of, entries_of_records}
+use Imports.{EntryGraph, Evidence, files_read, FilesGiveOneReport, get_or, GivesEvidence, GivesGraph, GivesLogs}
+use Imports.{graph_has_finding, graph_moved, HasNoCollision, inl, inr, is_broken, is_unsettled, IsPermutation}
+use Imports.{IsPermutation-keeps, IsPermutation-map, IsPermutation-refl, IsPermutation-swap, IsPermutation-sym}
+use Imports.{IsPermutation-trans, IsSealedGraph, IsSealedLogOf, IsValid, length, length-flat_map, length-map, List}
+use Imports.{list_any, list_any-IsPermutation, log_has_finding, LogRead, map, map-set, NamedLog, nil_from_length}
+use Imports.{node_of_sealed, Ok, Option, OrdersOfLogsEndAlike, outcome_by, outcome_of, Post, PrintsLast, ReadsLogs}
+use Imports.{refl, report_on, RosterRead, RulesAreReadInOneWay, RuleSource, RuleTree, same_entries, same_text}
+use Imports.{SameReport, SealedEntry, set, source_named, status_by, status_is, subst, sum_by-IsPermutation, summary_of}
+use Imports.{swap, sym, text_of_sealed, watch_line, watch_lines, ℕ, ◌++◌, ◌<◌, ◌||◌, ◌↔◌, ◌∙◌, ◌∷◌, ◌≡◌, ◌≢◌, ◌≤◌}
+use Rattle.log_commands.proofs.FilesBegun.{begun_by, same_found, whole_by}
+use Rattle.log_commands.proofs.WatchAgreement.{IsMadeOf, last_line, made_of, report_made}
+use Rattle.log_commands.proofs.{OneOrderAnswer.OrderOne, OneProof.ones_of, OneWatch.evidence_agrees, OneWatch.report_by}
+use Rattle.log_commands.proofs.{Summaries.same_line, WatchCommand.report_in, WatchReads.IsValidEntry}
+use Rattle.log_commands.proofs.{WatchReads.logs_are_valid}
 use lib.ListN.{get_or-map}
-use Rattle.entry_order.proofs.Lists.{Contains-cons_cases, Contains-flat_map, Contains-flat_map_cases}
-use Rattle.entry_format.specs.Unsealing.{IsValid}
-use Rattle.evidence.specs.Graphs.{IsSealedGraph}
-use Rattle.live_auditor.proofs.OneEntry.{same_text}
-use Rattle.live_auditor.proofs.OneSummary.{graph_moved}
-use Rattle.log_files.specs.declared.sealed_log.Kept.{Kept}
-use Rattle.log_commands.specs.WatchAgrees.{EndAlike, NamedLog, OrdersOfLogsEndAlike, PrintsLast}
-use Rattle.command_line.proofs.CommandProofs.{status_is}
-use Rattle.log_commands.proofs.OneOrderAnswer.{OrderOne}
-use Rattle.log_commands.proofs.OneProof.{ones_of}
-use Rattle.log_commands.proofs.OneWatch.{SameEvidence, evidence_agrees, report_by}
-use Rattle.log_commands.proofs.Summaries.{same_line}
-use Rattle.log_commands.proofs.WatchAgreement.{last_line, not_of_report, not_refused, of_logs}
-use Rattle.log_commands.proofs.WatchCommand.{IsToldOf, found_by, same_found, told_of}
 
 -- ---- members that change places
 
@@ -124,27 +105,6 @@ module _ (machines : List Post) (election : List ℕ) where
             (Ok (map (λ (z : NamedLog × LogRead). z.1) ws))) there
             (given ws (λ z has. read z (Contains-permutation ws zs z (IsPermutation-sym zs ws moved) has))),
       )
-
-  -- an entry is valid by its own text
-  abbrev IsValidEntry : SealedEntry → Type 0
-  IsValidEntry e = IsValid machines election e.text e
-
-  -- those of a log are
-  log_is_of_valid : (log : LogRead) (file : Option (List ℕ)) → IsSealedLogOf machines election log file →
-      All IsValidEntry (entries_of_records log.kept.items)
-  log_is_of_valid log None is = absurd is
-  log_is_of_valid log (Some bytes) is =
-      All-map IsValidEntry (λ (kept : Kept). kept.entry) log.kept.items (log_is_valid machines election bytes log is.1)
-
-  -- and so are those of all logs
-  logs_are_of_valid : (files : List NamedLog) (logs : List LogRead) →
-      GivesLogs machines election (names_of files) (bytes_of files) (Ok logs) → All IsValidEntry (entries_of logs)
-  logs_are_of_valid [] [] gives = All-nil IsValidEntry
-  logs_are_of_valid [] (log ∷ logs) gives = absurd gives
-  logs_are_of_valid (file ∷ files) [] gives = absurd gives
-  logs_are_of_valid (file ∷ files) (log ∷ logs) gives =
-      All-append IsValidEntry (entries_of_records log.kept.items) (entries_of logs)
-      (log_is_of_valid log file.1 gives.0) (logs_are_of_valid files logs gives.1)
 
 -- ---- entries in another order
 
@@ -251,9 +211,9 @@ module _ (files others : List NamedLog) (same : IsPermutation files others) (fou
         );
         election = read.election;
         valid = subst (λ (ev : Evidence). All (IsValidEntry ev.machines read.election) (entries_of ev.logs)) (sym is)
-            (logs_are_of_valid read.roster.machines read.election files logs gives);
+            (logs_are_valid read.roster.machines read.election (names_of files) (bytes_of files) logs gives);
       }
-  read_moved read rules (inr (refusal, gives, e)) = absurd (not_refused found refusal e)
+  read_moved read rules (inr (refusal, gives, e)) = absurd (let no : ⊥ = cc in no)
 
   -- so with their files
   evidence_moved : (roster : List ℕ) (source : RuleSource) (roster_file rules_file : Option (List ℕ)) →
@@ -261,166 +221,92 @@ module _ (files others : List NamedLog) (same : IsPermutation files others) (fou
       (Ok found) →
       Moved found (λ ev. GivesEvidence roster source (names_of others)
       (files_read roster_file source rules_file (bytes_of others)) (Ok ev))
-  evidence_moved roster standard roster_file rules_file (inl (read, given, reads)) =
-      moved_so found (λ ev. ReadsLogs read standard_rules (names_of others) (bytes_of others) (Ok ev))
-      (λ ev. GivesEvidence roster standard (names_of others)
-      (files_read roster_file standard rules_file (bytes_of others)) (Ok ev))
-      (λ ev reads. inl (read, given, reads)) (read_moved read standard_rules reads)
-  evidence_moved roster standard roster_file rules_file (inr (refusal, given, e)) = absurd (not_refused found refusal e)
-  evidence_moved roster (in_file name) roster_file rules_file (inl (read, given, inl (rules, gives, reads))) =
-      moved_so found (λ ev. ReadsLogs read rules (names_of others) (bytes_of others) (Ok ev))
-      (λ ev. GivesEvidence roster (in_file name) (names_of others)
-      (files_read roster_file (in_file name) rules_file (bytes_of others)) (Ok ev))
-      (λ ev reads. inl (read, given, inl (rules, gives, reads))) (read_moved read rules reads)
-  evidence_moved roster (in_file name) roster_file rules_file (inl (read, given, inr (refusal, gives, e))) =
-      absurd (not_refused found refusal e)
-  evidence_moved roster (in_file name) roster_file rules_file (inr (refusal, given, e)) =
-      absurd (not_refused found refusal e)
+  evidence_moved roster source roster_file rules_file gives =
+      let (b, reads) = begun_by (λ read rules rest. ReadsLogs read rules (names_of files) rest) roster roster_file
+      rules_file (bytes_of files) source found gives in
+      moved_so found _ _
+      (λ ev. whole_by (λ read rules rest. ReadsLogs read rules (names_of others) rest) roster roster_file rules_file
+      (bytes_of others) source b (Ok ev)) (read_moved b.read b.rules reads)
 
 -- ---- what is printed
 
--- a list of no length has no member
-none_of_none : {X : Type 0} (xs : List X) → length xs ≡ 0 → xs ≡ []
-none_of_none [] e = refl
-none_of_none (x ∷ xs) e = absurd (omega (arith, e))
-
 module _ (order : OrderOne) (readings : RulesAreReadInOneWay) (reports : FilesGiveOneReport) (roster : List ℕ)
     (source : RuleSource) (roster_file rules_file : Option (List ℕ)) (files others : List NamedLog)
-    (order_of : IsPermutation files others) (found there : Evidence) (told also : Answer)
-    (gives : GivesEvidence roster source (names_of files) (files_read roster_file source rules_file (bytes_of files))
-    (Ok found))
-    (gives_there : GivesEvidence roster source (names_of others)
-    (files_read roster_file source rules_file (bytes_of others)) (Ok there))
-    (of : IsToldOf source (names_of files) found told) (other : IsToldOf source (names_of others) there also) where
-  -- the files of the other order
-  abbrev read_there : List (Option (List ℕ))
-  read_there = files_read roster_file source rules_file (bytes_of others)
+    (order_of : IsPermutation files others) (told also : Answer)
+    (one : IsMadeOf roster source (names_of files) (files_read roster_file source rules_file (bytes_of files)) told)
+    (two : IsMadeOf roster source (names_of others) (files_read roster_file source rules_file (bytes_of others)) also)
+  where
+    -- the files of the other order
+    abbrev read_there : List (Option (List ℕ))
+    read_there = files_read roster_file source rules_file (bytes_of others)
 
-  moved : Moved found (λ ev. GivesEvidence roster source (names_of others) read_there (Ok ev))
-  moved = evidence_moved files others order_of found roster source roster_file rules_file gives
+    moved : Moved one.found (λ ev. GivesEvidence roster source (names_of others) read_there (Ok ev))
+    moved = evidence_moved files others order_of one.found roster source roster_file rules_file one.gives
 
-  abbrev evidence : Evidence
-  evidence = record { machines = found.machines; rules = found.rules; logs = moved.logs }
+    abbrev evidence : Evidence
+    evidence = record { machines = one.found.machines; rules = one.found.rules; logs = moved.logs }
 
-  -- the logs in the other order say what was read of it
-  alike : SameEvidence evidence there
-  alike =
-      evidence_agrees (ones_of order readings) (names_of others) roster source read_there (Ok evidence) (Ok there)
-      moved.gives gives_there
+    -- the logs in the other order say what was read of it
+    entries : entries_of moved.logs ≡ entries_of two.found.logs
+    entries =
+        same_entries moved.logs two.found.logs
+        (evidence_agrees (ones_of order readings) (names_of others) roster source read_there (Ok evidence)
+        (Ok two.found) moved.gives two.gives).logs
 
-  entries : entries_of moved.logs ≡ entries_of there.logs
-  entries = same_entries moved.logs there.logs alike.logs
+    -- the graph is that of both
+    graphed : GivesGraph (entries_of moved.logs) (Ok one.of.graph)
+    graphed =
+        graph_there one.found.machines moved.election one.found.logs moved.logs moved.same moved.valid one.of.graph
+        one.of.graphed
+        (subst (λ (es : List SealedEntry). length (distinct node_of_sealed es) ≤ 16384) (sym entries) two.of.graphed.1)
 
-  -- the graph is that of both
-  graphed : GivesGraph (entries_of moved.logs) (Ok of.graph)
-  graphed =
-      graph_there found.machines moved.election found.logs moved.logs moved.same moved.valid of.graph of.graphed
-      (subst (λ (es : List SealedEntry). length (distinct node_of_sealed es) ≤ 16384) (sym entries) other.graphed.1)
+    -- the report of the logs in the other order
+    abbrev second : AuditReport
+    second = report_on one.found.machines (names_of others) moved.logs one.of.graph one.found.rules one.of.verdicts
 
-  -- what the report of the logs in the other order comes to
-  record Compared : Type 0 where
-    status : told.status ≡ also.status
-    line : (n : ℕ) → watch_line n (summary_of of.report) ≡ watch_line n (summary_of other.report)
+    same : SameReport second (report_in two.of)
+    same =
+        reports roster source (names_of others) read_there (Ok second) (Ok (report_in two.of))
+        (report_by (names_of others) roster source read_there evidence (Ok second) moved.gives
+        (inl (one.of.graph, graphed, inl (one.of.verdicts, one.of.judged, refl))))
+        (report_made roster source (names_of others) read_there also two)
 
-  compared : Compared
-  compared = by of.reported
-    where
-      -- by the verdicts
-      by : WithGraph found.machines source found.rules (names_of files) found.logs of.graph (Ok of.report) → Compared
-      by (inr (refusal, bad, e)) = absurd (not_refused of.report refusal e)
-      by (inl (verdicts, judged, e)) =
-          let first : AuditReport =
-          report_on found.machines (names_of files) found.logs of.graph found.rules verdicts in
-          let second : AuditReport =
-          report_on found.machines (names_of others) moved.logs of.graph found.rules verdicts in
-          let is : of.report ≡ first = same_found of.report first e in
-          let here : GivesReport roster source (names_of others) read_there (Ok second) =
-          report_by (names_of others) roster source read_there evidence (Ok second) moved.gives
-          (inl (of.graph, graphed, inl (verdicts, judged, refl))) in
-          let theirs : GivesReport roster source (names_of others) read_there (Ok other.report) =
-          report_by (names_of others) roster source read_there there (Ok other.report) gives_there
-          (inl (other.graph, other.graphed, other.reported)) in
-          let same : SameReport second other.report =
-          reports roster source (names_of others) read_there (Ok second) (Ok other.report) here theirs in
-          let outcome : outcome_of first ≡ outcome_of second =
-          ap (λ (b : Bool). outcome_by (list_any is_broken verdicts) (list_any is_unsettled verdicts)
-          (b || graph_has_finding of.graph))
-          (list_any-IsPermutation log_has_finding found.logs moved.logs moved.same) in
-          record {
-            status = status_is told (watch_answer of.summaries of.report) of.is
-                ∙ ap (λ (r : AuditReport). status_by (outcome_of r)) is ∙ ap status_by (outcome ∙ same.outcome)
-                ∙ sym (status_is also (watch_answer other.summaries other.report) other.is);
-            line = λ n.
-                ap (λ (r : AuditReport). watch_line n (summary_of r)) is
-                ∙ same_line n (summary_of second) (summary_of other.report)
-                (ap length same.graph.survivors) same.graph.gaps same.verdicts;
-          }
+    outcome : outcome_of (report_in one.of) ≡ outcome_of second
+    outcome =
+        ap (λ (b : Bool). outcome_by (list_any is_broken one.of.verdicts) (list_any is_unsettled one.of.verdicts)
+        (b || graph_has_finding one.of.graph))
+        (list_any-IsPermutation log_has_finding one.found.logs moved.logs moved.same)
 
-  -- both have as many entries
-  as_many : length (entries_of of.report.logs) ≡ length (entries_of other.report.logs)
-  as_many =
-      ap (λ (ls : List LogRead). length (entries_of ls)) (of_logs source (names_of files) found told of)
-      ∙ kept_as_many found.logs moved.logs moved.same ∙ ap length entries
-      ∙ ap (λ (ls : List LogRead). length (entries_of ls))
-      (sym (of_logs source (names_of others) there also other))
+    -- both have as many entries
+    as_many : length (entries_of one.found.logs) ≡ length (entries_of two.found.logs)
+    as_many = kept_as_many one.found.logs moved.logs moved.same ∙ ap length entries
 
-  -- where something is printed there are entries
-  some_there : told.output ≢ [] → entries_of of.report.logs ≢ []
-  some_there prints none =
-      prints (ap (λ (a : Answer). a.output) of.is ∙ ap (watch_lines 1) (none_of_none of.summaries (of.said.one_each
-      ∙ ap (λ (ls : List LogRead). length (entries_of ls)) (sym (of_logs source (names_of files) found told of))
-      ∙ ap length none)))
-
-  -- they end alike
-  ends_alike : EndAlike told also
-  ends_alike = record {
-    status = compared.status;
-    last = λ prints.
-        let some = some_there prints in
-        let n = length (entries_of of.report.logs) in
-        let these = last_line order.graph source (names_of files) found told of some in
-        let (earlier, long, line) =
-        last_line order.graph source (names_of others) there also other
-        (λ none. some (none_of_none (entries_of of.report.logs) (as_many ∙ ap length none))) in
-        let moved_line : PrintsLast n (summary_of of.report) also = (
-          earlier,
-          long ∙ sym as_many,
-          line ∙ ap (λ m. watch_lines 1 earlier ++ watch_line m (summary_of other.report)) (sym as_many)
-              ∙ ap (λ (l : List ℕ). watch_lines 1 earlier ++ l) (sym (compared.line n)),
-        ) in
-        (n, summary_of of.report, these, moved_line);
-  }
-
--- what an answer without a refusal is made of
-record IsMadeOf (roster : List ℕ) (source : RuleSource) (names : List (List ℕ)) (files : List (Option (List ℕ)))
-    (answer : Answer) : Type 0 where
-  found : Evidence
-  gives : GivesEvidence roster source names files (Ok found)
-  of : IsToldOf source names found answer
-
-made_of : (roster rules : List ℕ) (names : List (List ℕ)) (files : List (Option (List ℕ))) (answer : Answer) →
-    IsWatchOver roster rules names files answer → IsOfReport answer.status →
-    IsMadeOf roster (source_named rules) names files answer
-made_of roster rules names files answer (inl (refusal, gives, e)) is =
-    absurd (not_of_report refusal (subst IsOfReport (status_is answer (refusal_answer refusal) e) is))
-made_of roster rules names files answer (inr (told, gives, e)) is =
-    let (found, read, watches) =
-    found_by (GivesEvidence roster (source_named rules) names files) (Watches (source_named rules) names) told gives in
-    record {
-      found = found;
-      gives = read;
-      of = subst (IsToldOf (source_named rules) names found) (sym e)
-          (told_of (source_named rules) names found told watches);
+    -- they end alike
+    ends_alike : EndAlike told also
+    ends_alike = record {
+      status = status_is told _ one.of.is ∙ ap status_by (outcome ∙ same.outcome) ∙ sym (status_is also _ two.of.is);
+      last = λ prints.
+          let some : entries_of one.found.logs ≢ [] = λ none.
+          prints (ap (λ (a : Answer). a.output) one.of.is ∙ ap (watch_lines 1)
+          (nil_from_length one.of.summaries (one.of.said.one_each ∙ ap length none))) in
+          let (earlier, long, line) =
+          last_line order.graph (names_of others) two.found also two.of
+          (λ none. some (nil_from_length _ (as_many ∙ ap length none))) in
+          let n = length (entries_of one.found.logs) in
+          let there : PrintsLast n (summary_of (report_in one.of)) also = (
+            earlier,
+            long ∙ sym as_many,
+            line ∙ ap (λ m. watch_lines 1 earlier ++ watch_line m (summary_of (report_in two.of))) (sym as_many)
+                ∙ ap (λ (l : List ℕ). watch_lines 1 earlier ++ l) (sym (same_line n (summary_of second)
+                (summary_of (report_in two.of)) (ap length same.graph.survivors) same.graph.gaps same.verdicts)),
+          ) in
+          (n, summary_of (report_in one.of), last_line order.graph (names_of files) one.found told one.of some, there);
     }
 
 -- the order of the logs doesn't decide how `watch` ends
 pub orders_end_alike : OrderOne → RulesAreReadInOneWay → FilesGiveOneReport → OrdersOfLogsEndAlike
 orders_end_alike order readings reports roster rules roster_file rules_file files others watched other same is also
     reported reported_too =
-    let source = source_named rules in
-    let one = made_of roster rules (names_of files) (files_read roster_file source rules_file (bytes_of files)) watched
-    is reported in
-    let two = made_of roster rules (names_of others) (files_read roster_file source rules_file (bytes_of others)) other
-    also reported_too in
-    ends_alike order readings reports roster source roster_file rules_file files others same one.found two.found
-    watched other one.gives two.gives one.of two.of
+    ends_alike order readings reports roster (source_named rules) roster_file rules_file files others same watched other
+    (made_of roster rules (names_of files) _ watched is reported)
+    (made_of roster rules (names_of others) _ other also reported_too)

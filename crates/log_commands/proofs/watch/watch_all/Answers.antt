@@ -1,36 +1,22 @@
-use Rattle.log_commands.proofs.Imports.{map, string_bytes, audit_files, Ok, Answer, some_as_read, source_named}
-use Rattle.log_commands.proofs.Imports.{GivesEvidence, Watches, evidence_of}
-use Rattle.log_commands.proofs.Imports.{and_then, and_refused}
+use Rattle.log_commands.proofs.Imports
+use Imports.{and_refused, and_then, Answer, evidence_of, map, rules, some_as_read}
+use Imports.{source_named, string_bytes, Watches}
 use Rattle.log_commands.proofs.WatchReads.{evidence_of_machines}
 use Rattle.log_commands.proofs.watch.watch_all.Goals as goal
 
 -- the entries are of the roster's machines
 pub watch_evidence-requires : goal.watch_evidence-requires
 watch_evidence-requires g c =
-    let roster = c.args.roster.now in
-    let source = source_named c.args.word.now in
-    let names = map string_bytes c.args.logs.now in
-    let found = evidence_of c.in-Ok.found in
-    let (files, gives) = some_as_read g.S.Store (audit_files roster source names)
-    (λ files. GivesEvidence roster source names files (Ok found)) c.args.store.now c.read_evidence.new.store
-    c.in-Ok.ensures.ok.0 in
-    evidence_of_machines names found roster source files gives
+    let (files, gives) = some_as_read g.S.Store _ _ _ _ c.in-Ok.ensures.ok.0 in
+    evidence_of_machines (map string_bytes c.args.logs.now) (evidence_of c.in-Ok.found) c.args.roster.now
+    (source_named c.args.word.now) files gives
 
 pub returns-in-Ok-clause-read : goal.returns-in-Ok-clause-read
 returns-in-Ok-clause-read g c =
-    let roster = c.args.roster.now in
-    let source = source_named c.args.word.now in
     let names = map string_bytes c.args.logs.now in
-    and_then g.S.Store evidence_of (audit_files roster source names) (GivesEvidence roster source names)
-    (λ (answer : Answer). answer) (Watches source names) c.args.store.now c.read_evidence.new.store c.in-Ok.found
-    c.watch_evidence.result c.in-Ok.ensures (c.watch_evidence.ensures.ok names) (c.watch_evidence.ensures.err names)
+    and_then g.S.Store evidence_of _ _ (λ (answer : Answer). answer) (Watches (source_named c.args.word.now) names) _ _
+    c.in-Ok.found _ c.in-Ok.ensures (c.watch_evidence.ensures.ok names) (c.watch_evidence.ensures.err names)
     c.watch_evidence.ensures.only
 
 pub returns-in-Err-clause-read : goal.returns-in-Err-clause-read
-returns-in-Err-clause-read g c =
-    let roster = c.args.roster.now in
-    let source = source_named c.args.word.now in
-    let names = map string_bytes c.args.logs.now in
-    and_refused g.S.Store evidence_of (audit_files roster source names) (GivesEvidence roster source names)
-    (λ (answer : Answer). answer) (Watches source names) c.args.store.now c.read_evidence.new.store c.in-Err.fault
-    c.in-Err.ensures
+returns-in-Err-clause-read g c = search (rules, and_refused)
