@@ -80,7 +80,7 @@ pub use Rattle.honest_places.proofs.AuditLaws.{audits_are_refused_only_so, repor
 pub use Rattle.honest_places.proofs.AuditLaws.{reports_leave_rules_open, reports_say_none_broken}
 pub use Rattle.honest_places.proofs.AuditLaws.{whole_reports_say_all_kept, whole_reports_show_distinct}
 pub use Rattle.honest_places.proofs.HonestFiles.{script_distinct, script_given, script_not_refused, script_read}
-pub use Rattle.honest_places.proofs.{Few.few_distinct, Given.left_agrees, Judged.none_broken}
+pub use Rattle.honest_places.proofs.{Given.left_agrees, Judged.none_broken}
 pub use Rattle.honest_places.proofs.{LeftFileFacts.files_are_read, LogScripts.scripts_are_honest, RosterGiven.read_same}
 pub use Rattle.honest_places.proofs.{RosterGiven.roster_not_refused, RosterTexts.read_of_script}
 pub use Rattle.honest_places.proofs.{RosterTexts.world_of_script, RuleAudits.honest_audits_never_say_broken}
