@@ -11,9 +11,13 @@ use std::thread::{self, Threads};
 // so that one which is held up delays the others by a small part of the work only.
 const MOST_THREADS: usize = 16;
 
-// The bytes that have to be free for threads to be started, and are kept free until they have
-// ended. So a limit on the address space, which their stacks take up, leaves room for the rest.
+// The bytes that are kept free while threads work. So a limit on the address space leaves room for
+// what they do.
 const ROOM: usize = 67_108_864;
+
+// The bytes that have to be free for threads to be started: the room, and for each thread a stack of
+// 8 MB and what an allocator sets aside for it, 64 MB of addresses. Almost none of them is touched.
+const ROOM_WITH_THREADS: usize = ROOM + MOST_THREADS * 75_497_472;
 
 /// A way to work.
 pub trait Work {
@@ -63,8 +67,13 @@ pub fn each_in_threads<R: Threads + Sync, T: Send, F: Fn(usize, &mut T) + Sync>(
     requires { AcceptsEach F.Fn f.now list.old }
     ensures { ChangesEach F.Fn f.now list.old list.new }
 {
+    let enough = Vec::<u8>::with_capacity(alloc, ROOM_WITH_THREADS).is_ok();
     let room = Vec::<u8>::with_capacity(alloc, ROOM);
-    let threads = if room.is_ok() { MOST_THREADS } else { 1 };
+    let threads = if enough && room.is_ok() {
+        MOST_THREADS
+    } else {
+        1
+    };
     thread::for_each_mut(rt, list, threads, f);
 }
 
