@@ -11,20 +11,14 @@ canonical_is_whole bytes answer is (tree, fits, text) =
     whole_only bytes answer tree [] is fits (text ∙ sym (append-nil (text_of tree)))
     ∙ ap (read.Whole tree) (sym (ap length text))
 
--- how many bytes an answer takes that is `Whole`
-abbrev used_of : Read → ℕ
-used_of (read.Whole value used) = used
-used_of read.Cut = 0
-used_of (read.Bad at why) = 0
-
 -- one text stops nowhere
 pub stops_nowhere : (bytes : List ℕ) (at : ℕ) → IsCanonical bytes → StopsAt bytes at → ⊥
 stops_nowhere bytes at canonical (inl (why, is)) =
     let same : read.Bad at why ≡ read.Whole canonical.0 (length bytes) =
     canonical_is_whole bytes (read.Bad at why) is canonical in cc
 stops_nowhere bytes at canonical (inr (inl (tree, is, more))) =
-    let same : at ≡ length bytes = ap used_of (canonical_is_whole bytes (read.Whole tree at) is canonical) in
-    omega (arith, same)
+    let whole = canonical_is_whole bytes (read.Whole tree at) is canonical in
+    let same : at ≡ length bytes = cc in omega arith
 stops_nowhere bytes at canonical (inr (inr (is, end))) =
     let same : read.Cut ≡ read.Whole canonical.0 (length bytes) =
     canonical_is_whole bytes read.Cut is canonical in cc
@@ -35,25 +29,19 @@ stop_of bytes (read.Whole value used) = used
 stop_of bytes read.Cut = length bytes
 stop_of bytes (read.Bad at why) = at
 
--- an answer that is right says that they stop there
-record HasStopAnswer (bytes : List ℕ) (at : ℕ) : Type 0 where
-  pub answer : Read
-  pub right : Answers bytes answer
-  pub stops : stop_of bytes answer ≡ at
-
 -- where bytes stop, some answer is right that says so
-stop_answer : (bytes : List ℕ) (at : ℕ) → StopsAt bytes at → HasStopAnswer bytes at
-stop_answer bytes at (inl (why, is)) = record { answer = read.Bad at why; right = is; stops = refl }
-stop_answer bytes at (inr (inl (tree, is, more))) = record { answer = read.Whole tree at; right = is; stops = refl }
-stop_answer bytes at (inr (inr (is, end))) = record { answer = read.Cut; right = is; stops = sym end }
+stop_answer : (bytes : List ℕ) (at : ℕ) → StopsAt bytes at →
+    (answer : Read) × Answers bytes answer × (stop_of bytes answer ≡ at)
+stop_answer bytes at (inl (why, is)) = (read.Bad at why, is, refl)
+stop_answer bytes at (inr (inl (tree, is, more))) = (read.Whole tree at, is, refl)
+stop_answer bytes at (inr (inr (is, end))) = (read.Cut, is, sym end)
 
 -- bytes stop being one canonical text at one place
 pub one_stop : (bytes : List ℕ) (at other : ℕ) → StopsAt bytes at → StopsAt bytes other → at ≡ other
 one_stop bytes at other stops also =
-    let first : HasStopAnswer bytes at = stop_answer bytes at stops in
-    let second : HasStopAnswer bytes other = stop_answer bytes other also in
-    sym first.stops ∙ ap (stop_of bytes) (one_answer bytes first.answer second.answer first.right second.right)
-    ∙ second.stops
+    let (answer, right, here) = stop_answer bytes at stops in
+    let (another, right', there) = stop_answer bytes other also in
+    sym here ∙ ap (stop_of bytes) (one_answer bytes answer another right right') ∙ there
 
 -- where they stop, with what it says of them
 pub stops : (bytes : List ℕ) (at : ℕ) → StopsAt bytes at → StopsAt bytes at × (IsCanonical bytes → ⊥)

@@ -16,10 +16,10 @@ pub use Rattle.canonical_sexp.specs.declared.sexp.Sexp.TheVariants.{Atom}
 pub use Rattle.canonical_sexp.specs.inside.Scanning.{IsAtomScan, IsProperPrefixOfAtom, Scans}
 pub use Rattle.canonical_sexp.specs.inside.Spelt.{AreSpelt, IsSpelt}
 pub use Rattle.canonical_sexp.specs.inside.Writing.{StartsWith}
-pub use Rattle.std.proofs.Common.{Bor, IsTrue, List, None, Some, [], ap, append-nil, append_assoc, arith, drop}
-pub use Rattle.std.proofs.Common.{get_or, inl, inr, length, length-append, map, refl, replicate, set, slice_index}
-pub use Rattle.std.proofs.Common.{subst, suc, sym, take, zero, ℕ, ◌%◌, ◌*◌, ◌++◌, ◌+◌, ◌-◌, ◌/◌, ◌<◌, ◌^◌, ◌∙◌, ◌∷◌}
-pub use Rattle.std.proofs.Common.{◌≡◌, ◌≢◌, ◌≤◌, ◌⊎◌}
+pub use Rattle.std.proofs.Common.{Bor, IsTrue, List, None, Some, [], ap, append-nil, append_assoc, arith, drop, get_or}
+pub use Rattle.std.proofs.Common.{inl, inr, length, length-append, map, refl, replicate, set, slice_index, subst, suc}
+pub use Rattle.std.proofs.Common.{sym, take, zero, ℕ, ◌%◌, ◌*◌, ◌++◌, ◌+◌, ◌-◌, ◌/◌, ◌<◌, ◌^◌, ◌∙◌, ◌∷◌, ◌≡◌, ◌≢◌, ◌≤◌}
+pub use Rattle.std.proofs.Common.{◌⊎◌}
 pub use Rattle.std.proofs.Math.Nat.{div-add-mod}
 pub use Rattle.std.proofs.Math.Seq.{take-add, take-append-add, take-append_seam}
 pub use Rattle.std.proofs.lemmas.Bool.Decides.{nat_tests}

@@ -1,11 +1,11 @@
 -- Texts in place: their bytes determine their tree, and the bytes of a list those of its members.
 use Rattle.canonical_sexp.proofs.Imports.{◌≡◌, ◌≢◌, ◌∙◌, ℕ, ◌-◌, ◌<◌, ◌≤◌, IsTrue, inl, inr, Some, slice_index, List}
-use Rattle.canonical_sexp.proofs.Imports.{[], ◌∷◌, ◌++◌, length, take, drop, get_or, refl, ap, sym, arith}
-use Rattle.canonical_sexp.proofs.Imports.{append_assoc, append-nil, length-append, nat_tests, take-append-drop}
-use Rattle.canonical_sexp.proofs.Imports.{take_at, take_rest, decimal, Sexp, Atom, Forest, no_trees, atom_then}
-use Rattle.canonical_sexp.proofs.Imports.{list_then, in_front, members_of, text_of, texts_of, atom_text, AreWithin}
-use Rattle.canonical_sexp.proofs.Imports.{Fits, IsProperPrefixOfText, max_octets, Why, is_digit, at_start}
-use Rattle.canonical_sexp.proofs.Imports.{length_fault, IsFirstBad, IsSpelt, AreSpelt}
+use Rattle.canonical_sexp.proofs.Imports.{[], ◌∷◌, ◌++◌, length, take, drop, get_or, refl, ap, sym, arith, append_assoc}
+use Rattle.canonical_sexp.proofs.Imports.{append-nil, length-append, nat_tests, take-append-drop, take_at, take_rest}
+use Rattle.canonical_sexp.proofs.Imports.{decimal, Sexp, Atom, Forest, no_trees, atom_then, list_then, in_front}
+use Rattle.canonical_sexp.proofs.Imports.{members_of, text_of, texts_of, atom_text, AreWithin, Fits}
+use Rattle.canonical_sexp.proofs.Imports.{IsProperPrefixOfText, max_octets, Why, is_digit, at_start, length_fault}
+use Rattle.canonical_sexp.proofs.Imports.{IsFirstBad, IsSpelt, AreSpelt}
 use Rattle.canonical_sexp.specs.declared.sexp.Sexp.TheVariants.{List as Branch}
 use Rattle.canonical_sexp.proofs.Decimal.{after_digits}
 use Rattle.canonical_sexp.proofs.Unique.{one_tree, no_atom, atom_starts}
@@ -42,83 +42,50 @@ more_deep d e (atom_then octets rest) le (small, within) = (small, more_deep d e
 more_deep d e (list_then inner rest) le (nests, few, members, within) =
     (omega arith, few, more_deep (d - 1) (e - 1) inner (omega arith) members, more_deep d e rest le within)
 
--- a row with a member: its first, and the others
-pub record HasFirst (row : Forest) : Type 0 where
-  pub tree : Sexp
-  pub rest : Forest
-  -- the row is this tree and the others
-  pub is : row ≡ in_front tree rest
-  -- its texts are this tree's and the others'
-  pub text : texts_of row ≡ text_of tree ++ texts_of rest
-  -- the tree is within the limits
-  pub fits : Fits tree
-  -- the row without its first member is within the limits
-  pub rest_fits : Fits (Branch rest)
-
--- a row with a text has a first member
-pub has_first : (row : Forest) → Fits (Branch row) → 0 < length (texts_of row) → HasFirst row
-has_first no_trees fits some = absurd (omega arith)
-has_first (atom_then octets rest) (nests, few, (small, within)) some =
-    record {
-      tree = Atom octets;
-      rest = rest;
-      is = refl;
-      text = refl;
-      fits = small;
-      rest_fits = (nests, omega arith, within);
-    }
-has_first (list_then inner rest) (nests, few, (_, members_few, members, within)) some =
-    record {
-      tree = Branch inner;
-      rest = rest;
-      is = refl;
-      text = ap (λ bs. 40 ∷ bs) (sym (append_assoc (texts_of inner) (41 ∷ []) (texts_of rest)));
-      fits = (omega arith, members_few, more_deep 6 7 inner (omega arith) members);
-      rest_fits = (nests, omega arith, within);
-    }
+-- a row with a text has a first member: the row is that tree and the others, and so are its texts; both are within
+-- the limits
+first_of : (row : Forest) → Fits (Branch row) → 0 < length (texts_of row) →
+    (tree : Sexp) × (rest : Forest) × (row ≡ in_front tree rest) × (texts_of row ≡ text_of tree ++ texts_of rest)
+    × Fits tree × Fits (Branch rest)
+first_of no_trees fits some = absurd (omega arith)
+first_of (atom_then octets rest) (nests, few, (small, within)) some =
+    (Atom octets, rest, refl, refl, small, (nests, omega arith, within))
+first_of (list_then inner rest) (nests, few, (_, members_few, members, within)) some = (
+  Branch inner,
+  rest,
+  refl,
+  ap (λ bs. 40 ∷ bs) (sym (append_assoc (texts_of inner) (41 ∷ []) (texts_of rest))),
+  (omega arith, members_few, more_deep 6 7 inner (omega arith) members),
+  (nests, omega arith, within),
+)
 
 -- a text isn't empty
 pub text_some : (tree : Sexp) → 0 < length (text_of tree)
 text_some (Atom octets) = omega (arith, length-append (decimal (length octets)) (58 ∷ octets))
 text_some (Branch row) = omega arith
 
--- the row is this tree and the others, whose texts the bytes are
-pub record HasAfter (bytes : List ℕ) (row : Forest) (tree : Sexp) : Type 0 where
-  pub rest : Forest
-  pub is : row ≡ in_front tree rest
-  pub fits : Fits (Branch rest)
-  pub spelt : bytes ≡ texts_of rest
-
--- the member that was found in front, and what follows it
+-- the member that was found in front, and what follows it: the row is this tree and others, whose texts those are
 pub taken : (bytes : List ℕ) (row : Forest) (used : ℕ) (tree : Sexp) → Fits (Branch row) → bytes ≡ texts_of row →
     Fits tree → take used bytes ≡ text_of tree →
-    HasAfter (drop used bytes) row tree
+    (rest : Forest) × (row ≡ in_front tree rest) × Fits (Branch rest) × (drop used bytes ≡ texts_of rest)
 taken bytes row used tree fits e tree_fits found =
     let whole : bytes ≡ text_of tree ++ drop used bytes =
     sym (take-append-drop used bytes) ∙ ap (λ bs. bs ++ drop used bytes) found in
     let some : 0 < length (texts_of row) =
     omega (arith, ap length e, ap length whole, length-append (text_of tree) (drop used bytes), text_some tree) in
-    let first : HasFirst row = has_first row fits some in
-    let one : (tree ≡ first.tree) × (drop used bytes ≡ texts_of first.rest) =
-    one_tree 8 tree first.tree (drop used bytes) (texts_of first.rest) tree_fits first.fits
-    (sym whole ∙ e ∙ first.text) in
-    record {
-      rest = first.rest;
-      is = first.is ∙ ap (λ t. in_front t first.rest) (sym one.0);
-      fits = first.rest_fits;
-      spelt = one.1;
-    }
+    let (first, rest, is, text, first_fits, rest_fits) = first_of row fits some in
+    let (same, following) =
+    one_tree 8 tree first (drop used bytes) (texts_of rest) tree_fits first_fits (sym whole ∙ e ∙ text) in
+    (rest, is ∙ ap (λ t. in_front t rest) (sym same), rest_fits, following)
 
 -- where no text is in front, no member is left
 pub none_left : (bytes : List ℕ) (row : Forest) → Fits (Branch row) → bytes ≡ texts_of row →
     ((tree : Sexp) (rest : List ℕ) → Fits tree → bytes ≡ text_of tree ++ rest → ⊥) → row ≡ no_trees
 none_left bytes no_trees fits e none = refl
-none_left bytes (atom_then octets rest) fits e none =
-    absurd (none (Atom octets) (texts_of rest) fits.2.0 e)
+none_left bytes (atom_then octets rest) fits e none = absurd (none (Atom octets) (texts_of rest) fits.2.0 e)
 none_left bytes (list_then inner rest) fits e none =
-    let some : 0 < length (texts_of (list_then inner rest)) = omega arith in
-    let first : HasFirst (list_then inner rest) = has_first (list_then inner rest) fits some in
-    absurd (none first.tree (texts_of first.rest) first.fits (e ∙ first.text))
+    let (first, others, _, text, first_fits, _) = first_of (list_then inner rest) fits (omega arith) in
+    absurd (none first (texts_of others) first_fits (e ∙ text))
 
 -- the two answers that find no text in front of the members
 pub none_if_cut : (bytes : List ℕ) (row : Forest) → Fits (Branch row) → bytes ≡ texts_of row →
@@ -138,56 +105,39 @@ no_bytes_left row fits none =
     none_left (texts_of row) row fits refl (λ tree rest tree_fits is.
     omega (arith, ap length is, length-append (text_of tree) rest, text_some tree))
 
--- the tree is the list of this row, whose texts the bytes are
-pub record IsListOf (tree : Sexp) (bytes : List ℕ) : Type 0 where
-  pub row : Forest
-  pub is : tree ≡ Branch row
-  pub spelt : bytes ≡ texts_of row
-
--- a text that begins with a parenthesis is a list's, and the bytes within are those of its members
-pub listed : (bytes : List ℕ) (tree : Sexp) → Fits tree → bytes ≡ text_of tree → get_or bytes 0 0 ≡ 40 →
-    IsListOf tree (take (length bytes - 1 - 1) (drop 1 bytes))
-listed [] (Atom octets) fits e begins = absurd (omega arith)
-listed (c ∷ bytes) (Atom octets) fits e begins =
-    absurd (no_atom octets bytes [] c fits (omega arith) (e ∙ sym (append-nil (atom_text octets))))
-listed bytes (Branch row) fits e begins =
-    let inside : List ℕ = texts_of row ++ 41 ∷ [] in
-    let long : length (texts_of row) ≡ length bytes - 1 - 1 =
-    omega (arith, ap length e, length-append (texts_of row) (41 ∷ [])) in
-    record {
-      row = row;
-      is = refl;
-      spelt = ap (λ bs. take (length bytes - 1 - 1) (drop 1 bs)) e
-          ∙ take_at (texts_of row) (41 ∷ []) (length bytes - 1 - 1) long;
-    }
-
--- an atom's text begins with a digit
+-- an atom's text doesn't begin with a parenthesis
 pub begins_low : (bytes octets : List ℕ) → length octets ≤ max_octets → bytes ≡ atom_text octets →
     get_or bytes 0 0 ≡ 40 → ⊥
 begins_low [] octets small e begins = omega arith
 begins_low (c ∷ bytes) octets small e begins =
     no_atom octets bytes [] c small (omega arith) (e ∙ sym (append-nil (atom_text octets)))
 
+-- a text that begins with a parenthesis is a list's, and the bytes within are those of its members
+pub listed : (bytes : List ℕ) (tree : Sexp) → Fits tree → bytes ≡ text_of tree → get_or bytes 0 0 ≡ 40 →
+    (row : Forest) × (tree ≡ Branch row) × (take (length bytes - 1 - 1) (drop 1 bytes) ≡ texts_of row)
+listed bytes (Atom octets) fits e begins = absurd (begins_low bytes octets fits e begins)
+listed bytes (Branch row) fits e begins =
+    let long : length (texts_of row) ≡ length bytes - 1 - 1 =
+    omega (arith, ap length e, length-append (texts_of row) (41 ∷ [])) in (
+      row,
+      refl,
+      ap (λ bs. take (length bytes - 1 - 1) (drop 1 bs)) e
+          ∙ take_at (texts_of row) (41 ∷ []) (length bytes - 1 - 1) long,
+    )
+
 -- what lies between the digits is one
 digit_in : (c : ℕ) → 48 ≤ c → c < 58 → IsTrue (is_digit c)
 digit_in c low high = grind (arith, nat_tests)
 
--- the bytes are the text of an atom, and begin with a digit
-pub record IsAtomText (bytes : List ℕ) : Type 0 where
-  pub octets : List ℕ
-  pub few : length octets ≤ max_octets
-  pub spelt : bytes ≡ atom_text octets
-  pub digit : IsTrue (is_digit (get_or bytes 0 0))
-
--- the text of a tree that doesn't begin with a parenthesis is that of an atom
+-- the text of a tree that doesn't begin with a parenthesis is that of an atom, and begins with a digit
 pub is_atom : (bytes : List ℕ) (tree : Sexp) → Fits tree → bytes ≡ text_of tree → get_or bytes 0 0 ≢ 40 →
-    IsAtomText bytes
+    (octets : List ℕ) × (length octets ≤ max_octets) × (bytes ≡ atom_text octets)
+    × IsTrue (is_digit (get_or bytes 0 0))
 is_atom [] (Atom octets) fits e other =
-    let none : 0 ≡ length (decimal (length octets) ++ 58 ∷ octets) = ap length e in
-    absurd (omega (arith, length-append (decimal (length octets)) (58 ∷ octets)))
+    absurd (omega (arith, ap length e, length-append (decimal (length octets)) (58 ∷ octets)))
 is_atom (c ∷ bytes) (Atom octets) fits e other =
-    let digit : (48 ≤ c) × (c < 58) = atom_starts octets bytes [] c fits (e ∙ sym (append-nil (atom_text octets))) in
-    record { octets = octets; few = fits; spelt = e; digit = digit_in c digit.0 digit.1 }
+    let (low, high) = atom_starts octets bytes [] c fits (e ∙ sym (append-nil (atom_text octets))) in
+    (octets, fits, e, digit_in c low high)
 is_atom bytes (Branch row) fits e other = absurd (other (ap (λ bs. get_or bs 0 0) e))
 
 -- the octets come after the length and its colon
@@ -199,10 +149,8 @@ after_length bytes octets count used small e few front =
     sym (append_assoc (decimal count) (58 ∷ []) (drop used bytes)) ∙ ap (λ bs. bs ++ drop used bytes) (sym front)
     ∙ take-append-drop used bytes ∙ e in
     take_rest bytes used
-    ∙ elim (after_digits count (length octets) 58 (drop used bytes) octets (omega arith) (omega arith) whole) [
-      | inl h ↦ h.following
-      | inr h ↦ let low : 58 < 58 = h.high in absurd (omega (arith, low))
-    ]
+    ∙ elim (after_digits count (length octets) 58 (drop used bytes) octets (omega arith) (omega arith) whole)
+    [ inl (_, _, rest) ↦ rest | inr (_, _, high, _) ↦ absurd (omega arith) ]
 
 -- a length that is cut short or bad begins no atom's text
 pub not_cut : (bytes octets : List ℕ) (value : ℕ) → length octets ≤ max_octets → bytes ≡ atom_text octets →

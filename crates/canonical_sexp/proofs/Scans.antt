@@ -1,10 +1,10 @@
 -- The pass over open lists, which keeps the counts of their members.
 use Rattle.canonical_sexp.proofs.Imports.{◌≡◌, ◌∙◌, ℕ, ◌+◌, ◌-◌, ◌<◌, ◌≤◌, None, List, [], ◌∷◌, ◌++◌, length, take}
-use Rattle.canonical_sexp.proofs.Imports.{drop, map, set, get_or, refl, ap, sym, subst, arith, length-append}
-use Rattle.canonical_sexp.proofs.Imports.{take_more, take_more_set, take-take, take_at, get_or_push, take_rest}
-use Rattle.canonical_sexp.proofs.Imports.{length-set, Sexp, Atom, Extent, Answers, IsAtomScan, Scans, Forest}
-use Rattle.canonical_sexp.proofs.Imports.{no_trees, count_of, joined, in_front, atom_text, max_octets, max_members}
-use Rattle.canonical_sexp.proofs.Imports.{token_fault, at_start}
+use Rattle.canonical_sexp.proofs.Imports.{drop, map, set, get_or, refl, ap, sym, subst, arith, length-append, take_more}
+use Rattle.canonical_sexp.proofs.Imports.{take_more_set, take-take, take_rest, length-set, Sexp}
+use Rattle.canonical_sexp.proofs.Imports.{Atom, Extent, Answers, IsAtomScan, Scans, Forest, no_trees, count_of, joined}
+use Rattle.canonical_sexp.proofs.Imports.{in_front, atom_text, max_octets, max_members, token_fault, at_start, take_all}
+use Rattle.canonical_sexp.proofs.Imports.{length-take-le}
 use Rattle.canonical_sexp.specs.declared.sexp.Sexp.TheVariants.{List as Branch}
 use Rattle.canonical_sexp.specs.declared.read.Read.TheVariants as read
 use Rattle.canonical_sexp.specs.declared.scanning.Extent.TheVariants as scan
@@ -12,6 +12,7 @@ use Rattle.canonical_sexp.proofs.Places.{atom_is_cut, is_bad_length}
 use Rattle.canonical_sexp.proofs.Rows.{count_of-joined, count_of-one}
 use Rattle.canonical_sexp.proofs.Opened.{AreOpenWithin-pop}
 use Rattle.canonical_sexp.proofs.Steps.{AreRead, step_open, step_close, step_atom}
+use Rattle.std.proofs.lemmas.List.{map_push, take-map, get_or-take, get_or-map}
 
 -- the bytes so far are those of some open lists, `depth` around the innermost, which has `members`
 -- members
@@ -29,31 +30,6 @@ pub record AreScanned (bytes : List ℕ) (at : ℕ) (counts : List ℕ) (depth m
   -- there is room for eight counts
   pub size : length counts ≡ 8
 
--- one list more that is open
-counts-push : (outer : List Forest) (f : Forest) →
-    map count_of (outer ++ f ∷ []) ≡ map count_of outer ++ count_of f ∷ []
-counts-push [] f = refl
-counts-push (g ∷ outer) f = ap (λ ns. count_of g ∷ ns) (counts-push outer f)
-
--- a count for each list that is open
-length-counts : (outer : List Forest) → length (map count_of outer) ≡ length outer
-length-counts [] = refl
-length-counts (f ∷ outer) = omega (arith, length-counts outer)
-
--- the innermost of the lists around, and the others
-record HasLast (outer : List Forest) : Type 0 where
-  pub around : List Forest
-  pub last : Forest
-  pub is : outer ≡ around ++ last ∷ []
-
--- lists that aren't none have a last
-last_of : (outer : List Forest) → 0 < length outer → HasLast outer
-last_of [] some = absurd (omega arith)
-last_of (f ∷ []) some = record { around = []; last = f; is = refl }
-last_of (f ∷ (g ∷ outer)) some =
-    let below : HasLast (g ∷ outer) = last_of (g ∷ outer) (omega arith) in
-    record { around = f ∷ below.around; last = below.last; is = ap (λ fs. f ∷ fs) below.is }
-
 -- a list begins: the count of the one around it is kept
 pub scan_open : (bytes : List ℕ) (at : ℕ) (counts : List ℕ) (depth members : ℕ) →
     AreScanned bytes at counts depth members → at < length bytes → get_or bytes at 0 ≡ 40 →
@@ -68,7 +44,7 @@ scan_open bytes at counts depth members h within is fault deep =
       depth_is = omega (arith, h.depth_is, length-append h.outer (h.current ∷ []));
       counts_are = take_more_set counts depth members (omega (arith, h.size))
           ∙ ap (λ ns. ns ++ members ∷ []) h.counts_are ∙ ap (λ n. map count_of h.outer ++ n ∷ []) h.members_is
-          ∙ sym (counts-push h.outer h.current);
+          ∙ sym (map_push count_of h.outer h.current);
       members_is = refl;
       size = length-set counts depth members ∙ h.size;
     }
@@ -93,35 +69,25 @@ pub record HasAround (bytes : List ℕ) (at : ℕ) (counts : List ℕ) (depth me
 pub has_around : (bytes : List ℕ) (at : ℕ) (counts : List ℕ) (depth members : ℕ) →
     AreScanned bytes at counts depth members → 0 < depth → HasAround bytes at counts depth members
 has_around bytes at counts depth members h some =
-    let split : HasLast h.outer = last_of h.outer (omega (arith, h.depth_is)) in
-    let outer : List Forest = split.around in
-    let around : Forest = split.last in
-    let P : List Forest → Type 0 = λ fs. AreRead bytes at fs h.current in
-    let so_far : AreRead bytes at (outer ++ around ∷ []) h.current = subst P split.is h.so_far in
-    let depth_is : depth - 1 ≡ length outer =
-    omega (arith, h.depth_is, ap length split.is, length-append outer (around ∷ [])) in
-    let back : depth - 1 + 1 ≡ depth = omega arith in
-    let counts_are : take depth counts ≡ map count_of outer ++ count_of around ∷ [] =
-    h.counts_are ∙ ap (map count_of) split.is ∙ counts-push outer around in
-    let long : length (map count_of outer) ≡ depth - 1 = length-counts outer ∙ sym depth_is in
-    let nested = AreOpenWithin-pop 8 outer around h.current so_far.nested in
-    let enough : depth - 1 < length counts = omega (arith, nested.2.0, depth_is, h.size) in
-    let fewer : take (depth - 1) counts ≡ map count_of outer =
-    sym (take-take (depth - 1) depth counts (omega arith)) ∙ ap (take (depth - 1)) counts_are
-    ∙ take_at (map count_of outer) (count_of around ∷ []) (depth - 1) long in
+    let last : ℕ = depth - 1 in
+    let outer : List Forest = take last h.outer in
+    let around : Forest = get_or h.outer last no_trees in
+    let back : last + 1 ≡ depth = omega arith in
+    let inside : last < length h.outer = omega (arith, h.depth_is) in
+    let split : h.outer ≡ outer ++ around ∷ [] =
+    sym (take_all (last + 1) h.outer (omega (arith, h.depth_is))) ∙ take_more h.outer last no_trees inside in
+    let so_far = subst (λ fs. AreRead bytes at fs h.current) split h.so_far in
     record {
       outer = outer;
       around = around;
       current = h.current;
       so_far = so_far;
-      depth_is = depth_is;
-      counts_are = fewer;
-      count_is = sym (get_or_push (take (depth - 1) counts) (get_or counts (depth - 1) 0) 0 (depth - 1)
-          (ap length fewer ∙ long))
-          ∙ ap (λ ns. get_or ns (depth - 1) 0) (sym (take_more counts (depth - 1) 0 enough)
-          ∙ ap (λ n. take n counts) back ∙ counts_are)
-          ∙ get_or_push (map count_of outer) (count_of around) 0 (depth - 1) long;
-      room = nested.1;
+      depth_is = sym (length-take-le last h.outer (omega (arith, h.depth_is)));
+      counts_are = sym (take-take last depth counts (omega arith)) ∙ ap (take last) h.counts_are
+          ∙ take-map count_of last h.outer;
+      count_is = sym (get_or-take depth counts last 0 (omega arith)) ∙ ap (λ ns. get_or ns last 0) h.counts_are
+          ∙ get_or-map count_of h.outer last no_trees 0 inside;
+      room = (AreOpenWithin-pop 8 outer around h.current so_far.nested).1;
     }
 
 -- the innermost list ends, one member more of the one around it
@@ -205,10 +171,7 @@ scan_begun (c ∷ bytes) some is =
 -- what `scan_atom` answers of the bytes from a place on
 pub scanned_from : (bytes : List ℕ) (at : ℕ) (r s : Extent) →
     IsAtomScan (take (length bytes - at) (drop at bytes)) r → r ≡ s → IsAtomScan (drop at bytes) s
-scanned_from bytes at r s h e =
-    let P : List ℕ → Type 0 = λ bs. IsAtomScan bs s in
-    let Q : Extent → Type 0 = λ answer. IsAtomScan (take (length bytes - at) (drop at bytes)) answer in
-    subst P (take_rest bytes at) (subst Q e h)
+scanned_from bytes at r s h e = subst (λ bs. IsAtomScan bs s) (take_rest bytes at) (rw e at h)
 
 -- an atom alone
 pub atom_scan : (bytes : List ℕ) (answer : Extent) → IsAtomScan bytes answer → Scans bytes answer

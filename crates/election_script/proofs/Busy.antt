@@ -1,10 +1,10 @@
 -- Machines with what they are to do.
 use Rattle.election_script.proofs.Imports.{◌≡◌, ◌∙◌, ap, sym, subst, refl, arith, ℕ, zero, suc, ◌+◌, List, [], ◌∷◌}
-use Rattle.election_script.proofs.Imports.{length, map, get_or, Some, inl, inr, All, All-head, All-tail, All-same}
-use Rattle.election_script.proofs.Imports.{All-nil, All-cons, slice_get, count_by, sum_by-cons, cases_eq, is_supervisor}
-use Rattle.election_script.proofs.Imports.{cond, Deed, Cast0, StopAt, Machines, name_at, machine_line, actions_at}
-use Rattle.election_script.proofs.Imports.{Lines, with_deeds, roles_of, stopped_of}
-use Rattle.election_script.proofs.MachineDeeds.{at_here, at_other}
+use Rattle.election_script.proofs.Imports.{length, map, get_or, Some, inl, inr, All, All-head, All-tail, All-nil}
+use Rattle.election_script.proofs.Imports.{All-cons, slice_get, count_by, sum_by-cons, cases_eq, is_supervisor, cond}
+use Rattle.election_script.proofs.Imports.{Deed, Cast0, StopAt, Machines, name_at, machine_line, actions_at, Lines}
+use Rattle.election_script.proofs.Imports.{with_deeds, roles_of, stopped_of, ◌==◌, ◌<◌, ◌++◌, take, take_more}
+use Rattle.election_script.proofs.MachineDeeds.{at_here, at_other, actions_at-append}
 
 -- machines with their deeds have the names that they had
 names_busy : (from : ℕ) (deeds : List (ℕ × Deed)) (machines : List Cast0) (place : ℕ) →
@@ -80,10 +80,37 @@ own_deeds P place ((at, deed) ∷ rest) all =
     let Q : ℕ × Deed → Type 0 = λ (maker, done). P maker done in
     let later = own_deeds P place rest (All-tail Q (at, deed) rest all) in
     elim (cases_eq at place) [
-      | inl same ↦ All-same (P place) (actions_at place ((at, deed) ∷ rest)) (deed ∷ actions_at place rest)
-          (at_here place (at, deed) rest same)
-          (All-cons (P place) deed (actions_at place rest) (subst (λ p. P p deed) same (All-head Q (at, deed) rest all))
-          later)
-      | inr other ↦ All-same (P place) (actions_at place ((at, deed) ∷ rest)) (actions_at place rest)
-          (at_other place (at, deed) rest other) later
+      | inl same ↦ rw (at_here place (at, deed) rest same) (All-cons (P place) deed (actions_at place rest)
+          (subst (λ p. P p deed) same (All-head Q (at, deed) rest all)) later)
+      | inr other ↦ rw (at_other place (at, deed) rest other) later
     ]
+
+-- a machine more gets the deeds of its place
+pub busy_push : (from : ℕ) (deeds : List (ℕ × Deed)) (machines : List Cast0) (cast : Cast0) →
+    with_deeds from deeds (machines ++ cast ∷ []) ≡ with_deeds from deeds machines ++ (record {
+      name = cast.name;
+      role = cast.role;
+      actions = actions_at (from + length machines) deeds;
+    }) ∷ []
+busy_push from deeds [] cast =
+    ap (λ p. record { name = cast.name; role = cast.role; actions = actions_at p deeds } ∷ []) (omega arith)
+busy_push from deeds (first ∷ machines) cast =
+    let at : from + length (first ∷ machines) ≡ from + 1 + length machines = omega arith in
+    rw (at, busy_push (from + 1) deeds machines cast) refl
+
+-- one deed more
+pub actions_more : (place : ℕ) (deeds : List (ℕ × Deed)) (i : ℕ) (d : ℕ × Deed) (actions : List Deed) →
+    i < length deeds → actions ≡ actions_at place (take i deeds) →
+    actions ++ cond ((get_or deeds i d).0 == place) ((get_or deeds i d).1 ∷ []) [] ≡ actions_at place (take (i + 1)
+    deeds)
+actions_more place deeds i d actions within is =
+    rw (is, take_more deeds i d within) (sym (actions_at-append place (take i deeds) (get_or deeds i d ∷ [])))
+
+-- one machine more
+pub busy_more : (deeds : List (ℕ × Deed)) (before busy : List Cast0) (cast : Cast0) (place : ℕ) (actions : List Deed) →
+    busy ≡ with_deeds 0 deeds before → place ≡ length before → actions ≡ actions_at place deeds →
+    busy ++ (record { name = cast.name; role = cast.role; actions = actions }) ∷ [] ≡ with_deeds 0 deeds (before ++
+    cast ∷ [])
+busy_more deeds before busy cast place actions is here own =
+    let at : length before ≡ 0 + length before = omega arith in
+    rw (is, own, here, at) (sym (busy_push 0 deeds before cast))

@@ -3,20 +3,19 @@ use Rattle.std.specs.Prelude.{if◌then◌else◌}
 use Rattle.election_script.proofs.Imports.{◌≡◌, refl, ℕ, Bool, true, false, List, length, Option, Some, None, Ok, Err}
 use Rattle.election_script.proofs.Imports.{Kind, Sheet, Script, ScriptWhy, LineRead, OutOfRange, At, roles_of}
 use Rattle.election_script.proofs.Imports.{stopped_of, put, one_number, seed_read, key_read, do_read, lose_read}
-use Rattle.election_script.proofs.Imports.{stop_read, step_read, version_in, ScriptFault, Deed, ◌<◌, arith}
+use Rattle.election_script.proofs.Imports.{stop_read, step_read, version_in, ScriptFault, Deed, ◌<◌, arith, ◌>>=◌}
+use Rattle.election_script.proofs.Imports.{max_events, max_link, machine_said, Left, End, Next, LinesRead, at_line, one}
+use Rattle.election_script.proofs.Imports.{is_most, most_lines, resume, after_line, after, script_from}
+use Rattle.election_script.proofs.Imports.{script_in, is_supervised}
 use Rattle.input_causes.specs.declared.script.ScriptWhy.TheVariants.{OutOfOrder, NotOneSupervisor}
+use Rattle.election_script.specs.Left.{Head}
+use Rattle.election_script.specs.inside.Resume.{ended, part_of, after_words, to_version, to_seed, to_key, to_log}
+use Rattle.election_script.specs.inside.Resume.{to_link}
+use Rattle.election_script.specs.inside.Resume.{to_machines, to_deeds, to_loses, to_stops, to_steps}
+use Rattle.election_script.specs.inside.Sheets.{blank}
+use Rattle.election_script.specs.inside.Lines.{reached_by}
 use Rattle.election_script.specs.declared.kinds.Kind.TheVariants as kind
 use Rattle.election_script.specs.declared.draft.Line.TheVariants as line
-use Rattle.election_script.specs.Words.{◌>>=◌}
-use Rattle.election_script.specs.Lawful.{max_events, max_link}
-use Rattle.election_script.specs.Lines.{machine_said}
-use Rattle.election_script.specs.Left.{Left, End, Next, LinesRead, Head, at_line, one, is_most, most_lines}
-use Rattle.election_script.specs.inside.Resume.{part_of, resume, after_words, after_line, after, ended, to_version}
-use Rattle.election_script.specs.inside.Resume.{to_seed, to_key, to_log, to_link, to_machines, to_deeds, to_loses}
-use Rattle.election_script.specs.inside.Resume.{to_stops, to_steps}
-use Rattle.election_script.specs.Reading.{script_from}
-use Rattle.election_script.specs.inside.Sheets.{blank, script_in, is_supervised}
-use Rattle.election_script.specs.inside.Lines.{reached_by}
 
 -- a line that comes once
 once : {A B S C : Type 0} (n : ℕ) (r : LineRead A) (left : Left) (f : A × Left → LinesRead C) (m : A → B)
@@ -106,11 +105,15 @@ next_is s kind.Step n words left =
     again n (step_read (roles_of s.machines) words) (is_most (most_lines kind.Step) (length s.steps)) _ _ line.Step
     (put s) _ (λ a. refl)
 
+-- the sheet, of which the last line is of this kind
+abbrev ended_by : Sheet → Option Kind → Sheet
+ended_by sheet last = record sheet { last = last }
+
 -- the first line after the machines is read where there is one supervisor
 begun : (s : Sheet) (k : Kind) (one : Bool) (n : ℕ) (words : List (List ℕ)) (left : Left) →
     (checked one (At n NotOneSupervisor) >>= λ done. from_kind k (part_of s) s.deeds (Next n (Ok (k, words)) left))
-    ≡ after_placed s k n words left (supervised_if one)
-begun s k true n words left = next_is s k n words left
+    ≡ after_placed (ended_by s (Some kind.Machine)) k n words left (supervised_if one)
+begun s k true n words left = next_is (ended_by s (Some kind.Machine)) k n words left
 begun s k false n words left = refl
 
 -- later ones are, since there is
@@ -120,10 +123,6 @@ held : (s : Sheet) (k : Kind) → is_supervised s.machines ≡ true → (n : ℕ
 held s k one n words left = rw one (next_is s k n words left)
 
 -- ---- by the last kind
-
--- the sheet, of which the last line is of this kind
-abbrev ended_by : Sheet → Option Kind → Sheet
-ended_by sheet last = record sheet { last = last }
 
 -- after a line of the kind what is left is read with it
 abbrev IsResumed : Sheet → Kind → Type 0
@@ -141,40 +140,28 @@ from_any : (s : Sheet) (last : Option Kind) → IsSupervised (ended_by s last) �
     IsResumed (ended_by s last) k
 from_any s None is kind.Version = next_is (ended_by s None) kind.Version
 from_any s None is kind.Seed = next_is (ended_by s None) kind.Seed
-from_any s None is k = λ n words left. refl
 from_any s (Some kind.Version) is kind.Seed = next_is (ended_by s (Some kind.Version)) kind.Seed
-from_any s (Some kind.Version) is k = λ n words left. refl
 from_any s (Some kind.Seed) is kind.Key = next_is (ended_by s (Some kind.Seed)) kind.Key
-from_any s (Some kind.Seed) is k = λ n words left. refl
 from_any s (Some kind.Key) is kind.Log = next_is (ended_by s (Some kind.Key)) kind.Log
-from_any s (Some kind.Key) is k = λ n words left. refl
 from_any s (Some kind.Log) is kind.Link = next_is (ended_by s (Some kind.Log)) kind.Link
-from_any s (Some kind.Log) is k = λ n words left. refl
 from_any s (Some kind.Link) is kind.Machine = next_is (ended_by s (Some kind.Link)) kind.Machine
-from_any s (Some kind.Link) is k = λ n words left. refl
 from_any s (Some kind.Machine) is kind.Machine = next_is (ended_by s (Some kind.Machine)) kind.Machine
-from_any s (Some kind.Machine) is kind.Do = begun (ended_by s (Some kind.Machine)) kind.Do (is_supervised s.machines)
-from_any s (Some kind.Machine) is kind.Lose =
-    begun (ended_by s (Some kind.Machine)) kind.Lose (is_supervised s.machines)
-from_any s (Some kind.Machine) is kind.Stop =
-    begun (ended_by s (Some kind.Machine)) kind.Stop (is_supervised s.machines)
-from_any s (Some kind.Machine) is kind.Step =
-    begun (ended_by s (Some kind.Machine)) kind.Step (is_supervised s.machines)
+from_any s (Some kind.Machine) is kind.Do = begun s kind.Do (is_supervised s.machines)
+from_any s (Some kind.Machine) is kind.Lose = begun s kind.Lose (is_supervised s.machines)
+from_any s (Some kind.Machine) is kind.Stop = begun s kind.Stop (is_supervised s.machines)
+from_any s (Some kind.Machine) is kind.Step = begun s kind.Step (is_supervised s.machines)
 from_any s (Some kind.Machine) is k = λ n words left. either (is_supervised s.machines) (At n OutOfOrder)
 from_any s (Some kind.Do) is kind.Do = held (ended_by s (Some kind.Do)) kind.Do (is (omega arith))
 from_any s (Some kind.Do) is kind.Lose = held (ended_by s (Some kind.Do)) kind.Lose (is (omega arith))
 from_any s (Some kind.Do) is kind.Stop = held (ended_by s (Some kind.Do)) kind.Stop (is (omega arith))
 from_any s (Some kind.Do) is kind.Step = held (ended_by s (Some kind.Do)) kind.Step (is (omega arith))
-from_any s (Some kind.Do) is k = λ n words left. refl
 from_any s (Some kind.Lose) is kind.Lose = held (ended_by s (Some kind.Lose)) kind.Lose (is (omega arith))
 from_any s (Some kind.Lose) is kind.Stop = held (ended_by s (Some kind.Lose)) kind.Stop (is (omega arith))
 from_any s (Some kind.Lose) is kind.Step = held (ended_by s (Some kind.Lose)) kind.Step (is (omega arith))
-from_any s (Some kind.Lose) is k = λ n words left. refl
 from_any s (Some kind.Stop) is kind.Stop = held (ended_by s (Some kind.Stop)) kind.Stop (is (omega arith))
 from_any s (Some kind.Stop) is kind.Step = held (ended_by s (Some kind.Stop)) kind.Step (is (omega arith))
-from_any s (Some kind.Stop) is k = λ n words left. refl
 from_any s (Some kind.Step) is kind.Step = held (ended_by s (Some kind.Step)) kind.Step (is (omega arith))
-from_any s (Some kind.Step) is k = λ n words left. refl
+from_any s last is k = λ n words left. refl
 
 -- a line that has a fault of its own
 own_fault : (s : Sheet) (last : Option Kind) (n : ℕ) (why : ScriptWhy) (left : Left) →

@@ -1,21 +1,16 @@
 -- How many actions and steps a day has.
-use Rattle.std.proofs.Common.{◌==◌, cond, eq-eqb}
-use Rattle.election_script.proofs.Imports.{◌≡◌, inl, inr, ℕ, zero, suc, ◌+◌, ◌-◌, ◌*◌, ◌%◌, ◌<◌, ◌≤◌, Bool, true, false}
-use Rattle.election_script.proofs.Imports.{List, [], ◌∷◌, length, get_or, set, refl, sym, ◌∙◌, ap, arith, add-zero}
-use Rattle.election_script.proofs.Imports.{ne_eqb, cases_eq, nat_tests, get_or-set_same, get_or-set_other, Deed}
-use Rattle.election_script.proofs.Imports.{session_booth, deeds_of, actions_of, first_number}
-use Rattle.std.proofs.lemmas.List.{length-append}
+use Rattle.election_script.proofs.Imports.{◌==◌, eq-eqb, cond, ◌≡◌, inl, inr, ℕ, zero, suc, ◌+◌, ◌-◌, ◌*◌, ◌%◌, ◌<◌}
+use Rattle.election_script.proofs.Imports.{◌≤◌, Bool, true, false, List, [], ◌∷◌, length, get_or, set, refl, sym, ◌∙◌}
+use Rattle.election_script.proofs.Imports.{ap, arith, add-zero, ne_eqb, cases_eq, nat_tests, get_or-set_same}
+use Rattle.election_script.proofs.Imports.{get_or-set_other, Deed, session_booth, deeds_of, actions_of, first_number}
+use Rattle.election_script.proofs.Imports.{length-append, cond_both}
 use Rattle.election_script.proofs.DaySessions.{actions_own, actions_other}
-
--- two lists of at most three
-either_few : (b : Bool) (xs ys : List Deed) → length xs ≤ 3 → length ys ≤ 3 → length (cond b xs ys) ≤ 3
-either_few true xs ys h g = h
-either_few false xs ys h g = g
 
 -- a session has two deeds or three
 pub deeds_few : (i : ℕ) → length (deeds_of i) ≤ 3
 unfolding deeds_of
-deeds_few i = either_few (i % 10 == 0) _ _ (omega arith) (omega arith)
+deeds_few i =
+    cond_both (i % 10 == 0) _ _ (λ (deeds : List Deed). length deeds ≤ 3) (λ tenth. omega arith) (λ other. omega arith)
 
 -- a booth's deeds with one session more
 pub count_more : (booth i : ℕ) → 1 ≤ i

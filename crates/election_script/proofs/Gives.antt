@@ -1,8 +1,6 @@
 -- What a reading that gives a value gives.
 use Rattle.election_script.proofs.Imports.{◌≡◌, ◌⊎◌, ap, refl, subst, inl, inr, Bool, true, false, Option, Some, None}
-use Rattle.election_script.proofs.Imports.{Result, Ok, Err, ok_or, cond}
-use Rattle.std.specs.Prelude.{not}
-use Rattle.election_script.specs.Words.{◌>>=◌}
+use Rattle.election_script.proofs.Imports.{Result, Ok, Err, ok_or, cond, ◌>>=◌, cond_both}
 
 -- each value that the reading gives is so
 abbrev pub Gives : {A E : Type 0} → Result A E → (A → Type 0) → Type 0
@@ -26,8 +24,7 @@ then_gave r next Q later = then_gives r next (λ a. r ≡ Ok a) Q (λ a is. is) 
 -- a reading by a test
 pub either_gives : {A E : Type 0} (test : Bool) (r other : Result A E) (P : A → Type 0) → (test ≡ true → Gives r P) →
     (test ≡ false → Gives other P) → Gives (cond test r other) P
-either_gives true r other P passed failed = passed refl
-either_gives false r other P passed failed = failed refl
+either_gives test r other P passed failed = cond_both test r other (λ read. Gives read P) passed failed
 
 -- a test that must hold
 pub if_gives : {A E : Type 0} (test : Bool) (r : Result A E) (why : E) (P : A → Type 0) → (test ≡ true → Gives r P) →
@@ -50,15 +47,3 @@ pub either_some : {A : Type 0} (test : Bool) (a b : A) (other : Option A) → co
     ((test ≡ true) × (a ≡ b)) ⊎ (other ≡ Some b)
 either_some true a b other is = inl (refl, cc)
 either_some false a b other is = inr is
-
--- something by a test, or else nothing
-pub if_some : {A : Type 0} (test : Bool) (a b : A) → cond test (Some a) None ≡ Some b → (test ≡ true) × (a ≡ b)
-if_some test a b is = elim (either_some test a b None is) [
-  | inl passed ↦ passed
-  | inr failed ↦ cc
-]
-
--- what isn't false is true
-pub unnot : (b : Bool) → not b ≡ false → b ≡ true
-unnot true is = refl
-unnot false is = cc

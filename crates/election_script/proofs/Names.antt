@@ -1,7 +1,6 @@
 -- Which words have the form of a name.
 use Rattle.election_script.proofs.Imports.{ℕ, ◌≤◌, List, refl, length, nat_le, leb-true, le-leb, IsName, IsNameByte}
-use Rattle.election_script.proofs.Imports.{is_between, is_name_byte, is_name_word, IsBetween}
-use Rattle.std.specs.List.{list_all}
+use Rattle.election_script.proofs.Imports.{is_between, is_name_byte, is_name_word, IsBetween, list_all}
 use Rattle.std.specs.Bool.{Decides}
 use Rattle.std.proofs.lemmas.Bool.Decides.{Decides-and, Decides-or, Decides-like, Decides-by_and}
 

@@ -1,8 +1,7 @@
 -- Items of a list by where it parts.
-use Rattle.std.proofs.Common.{length-append}
-use Rattle.election_script.proofs.Imports.{◌≡◌, ◌≢◌, ◌∙◌, ap, refl, sym, subst, arith, ◌<◌, List, ◌∷◌, ◌++◌, length}
-use Rattle.election_script.proofs.Imports.{get_or, All, Any, AllPairs, get_or-append_seam, get_or_append_left, take_at}
-use Rattle.election_script.proofs.Imports.{All-take, [], all_pairs_push, get_or_default}
+use Rattle.election_script.proofs.Imports.{length-append, ◌≡◌, ◌≢◌, ◌∙◌, ap, refl, sym, subst, arith, ◌<◌, List, ◌∷◌}
+use Rattle.election_script.proofs.Imports.{◌++◌, length, get_or, All, Any, AllPairs, get_or-append_seam}
+use Rattle.election_script.proofs.Imports.{get_or_append_left, take_at, All-take, [], all_pairs_push, get_or_default}
 
 -- what holds of all items holds of the one in the middle
 pub middle : {X : Type 0} (P : X → Type 0) (xs a b : List X) (x : X) → xs ≡ a ++ x ∷ b → All P xs → P x
@@ -32,3 +31,7 @@ pub fresh_push : {X V : Type 0} (v : X → V) (xs : List X) (x : X) → AllPairs
 fresh_push v xs x distinct new =
     all_pairs_push (λ y z. v y ≢ v z) xs x distinct
     (λ k y below same. new (k, get_or xs k y, below, get_or_default xs k _ _ below, same))
+
+-- of no items no two are the same in some way
+pub no_pairs : {X V : Type 0} (v : X → V) → AllPairs (λ (y z : X). v y ≢ v z) []
+no_pairs v = λ i j d below within. absurd (omega arith)

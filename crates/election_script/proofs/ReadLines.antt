@@ -1,16 +1,13 @@
 -- Lines are read as what they say, kind by kind, and no others are.
-use Rattle.election_script.proofs.Imports.{ne_eqb, drop, ◌<◌}
+use Rattle.election_script.proofs.Imports.{ne_eqb, drop, ◌<◌, nat_le, ◌≡◌, ◌∙◌, ap, sym, refl, arith, ℕ, ◌≤◌, true}
+use Rattle.election_script.proofs.Imports.{false, List, [], ◌∷◌, ◌++◌, length, map, Some, Ok, append-nil, Kind, rank}
+use Rattle.election_script.proofs.Imports.{line_word, line_kinds, named, Lines, LineRead, false_from_ne_true, leb-true}
+use Rattle.election_script.proofs.Imports.{Decides-eqb, subst, Err, All, All-nil, All-push, length_push, kinds}
+use Rattle.election_script.proofs.Imports.{slice_get, append_assoc, length-append, ◌>>=◌, Left, End, Next}
+use Rattle.election_script.proofs.Imports.{kind_and_words, one, many, unless_full, most_lines, at_line, is_most}
+use Rattle.election_script.proofs.Imports.{leb-false}
 use Rattle.election_script.proofs.Parts.{middle}
-use Rattle.std.specs.Prelude.{nat_le}
-use Rattle.std.proofs.Common.{append_assoc, length-append}
-use Rattle.election_script.proofs.Imports.{◌≡◌, ◌∙◌, ap, sym, refl, arith, ℕ, ◌<◌, ◌≤◌, true, false, List, [], ◌∷◌}
-use Rattle.election_script.proofs.Imports.{◌++◌, length, map, Some, Ok, append-nil, Kind, rank, line_word, line_kinds}
-use Rattle.election_script.proofs.Imports.{named, Lines, LineRead, false_from_ne_true, leb-true, Decides-eqb, subst}
-use Rattle.election_script.proofs.Imports.{Err, All, All-nil, All-push, length_push, kinds, slice_get}
-use Rattle.election_script.specs.Words.{◌>>=◌}
-use Rattle.election_script.specs.Left.{Left, End, Next, kind_and_words, is_same_kind, one, many, some, unless_full}
-use Rattle.election_script.specs.Left.{most_lines, at_line, is_most}
-use Rattle.std.proofs.lemmas.Bool.{leb-false}
+use Rattle.election_script.specs.Left.{is_same_kind, some}
 use Rattle.election_script.proofs.Gives.{Gives, value_gives, then_gives, either_gives, if_gives, unless_gives}
 use Rattle.election_script.specs.declared.kinds.Kind.TheVariants as kind
 

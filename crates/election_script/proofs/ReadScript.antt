@@ -1,40 +1,31 @@
 -- The lines of a script are read as it, and no others are.
 use Rattle.election_script.proofs.Imports.{◌≡◌, ◌≢◌, ◌∙◌, ap, sym, subst, refl, ℕ, suc, ◌+◌, Bool, true, false, List}
-use Rattle.election_script.proofs.Imports.{[], ◌∷◌, ◌++◌, map, Some, Ok, Err, All, AllPairs, slice_get, Lines, Cast0}
-use Rattle.election_script.proofs.Imports.{StopAt, Script, IsLawful, AreDeedsOf, IsName, IsDone, IsLose, IsStopAt}
-use Rattle.election_script.proofs.Imports.{IsStep, Deed, role_word, decimal, encode_lower, roles_of, stopped_of}
-use Rattle.election_script.proofs.Imports.{with_deeds, actions_at, do_read, lose_read, stop_read, step_read, IsBetween}
-use Rattle.election_script.proofs.Imports.{Machines, inl, inr, codes, All-nil, All-cons, seed_read, key_read}
-use Rattle.election_script.proofs.Imports.{one_number, ots_word, height_word, lines_of, machine_line, arith, max_link}
-use Rattle.election_script.proofs.Imports.{max_events, max_actions, ◌<◌, ◌≤◌, length, get_or, All-push, All-same}
-use Rattle.election_script.proofs.Imports.{All-weaker, cond, length_push, slice_get_within, slice_get-get_or, count_by}
-use Rattle.election_script.proofs.Imports.{cases_eq, OtsKind, IsVersion, is_supervisor, IsHeight, IsBytes, IsDeedOf}
-use Rattle.election_script.proofs.Imports.{IsDeedIn, IsDeedAmong, IsCast, AreCast, version_line, do_line, lose_line}
-use Rattle.election_script.proofs.Imports.{stop_line, step_line, max_machines, max_loses, max_steps, Decides-eqb, Kind}
-use Rattle.election_script.proofs.Imports.{rank, drop}
-use Rattle.roster.specs.Machines.{max_machines}
-use Rattle.election_script.specs.Lawful.{max_loses, max_steps}
-use Rattle.election_script.specs.Words.{◌>>=◌}
-use Rattle.election_script.specs.Left.{Left, End, Next, LinesRead, many, is_most, unless_full}
-use Rattle.election_script.specs.Reading.{version_read, cast_read, one_supervisor, none_left, script_after, script_from}
+use Rattle.election_script.proofs.Imports.{[], ◌∷◌, ◌++◌, map, Some, Ok, All, AllPairs, slice_get, Lines, Cast0, StopAt}
+use Rattle.election_script.proofs.Imports.{Script, IsLawful, AreDeedsOf, IsName, IsLose, IsStopAt, IsStep, Deed}
+use Rattle.election_script.proofs.Imports.{role_word, decimal, encode_lower, roles_of, stopped_of, with_deeds}
+use Rattle.election_script.proofs.Imports.{actions_at, do_read, lose_read, stop_read, step_read, IsBetween, Machines}
+use Rattle.election_script.proofs.Imports.{inl, inr, codes, All-nil, All-cons, seed_read, key_read, one_number}
+use Rattle.election_script.proofs.Imports.{ots_word, height_word, lines_of, machine_line, arith, max_link, max_events}
+use Rattle.election_script.proofs.Imports.{max_actions, ◌<◌, ◌≤◌, length, get_or, All-push, All-same, All-weaker, cond}
+use Rattle.election_script.proofs.Imports.{length_push, slice_get_within, slice_get-get_or, count_by, cases_eq, OtsKind}
+use Rattle.election_script.proofs.Imports.{IsVersion, is_supervisor, IsHeight, IsBytes, IsDeedOf, IsDeedIn, IsDeedAmong}
+use Rattle.election_script.proofs.Imports.{IsCast, AreCast, version_line, do_line, lose_line, stop_line, step_line}
+use Rattle.election_script.proofs.Imports.{max_machines, max_loses, max_steps, Decides-eqb, Kind, rank, drop, ◌>>=◌}
+use Rattle.election_script.proofs.Imports.{Left, End, Next, many, is_most, unless_full, script_from, leb-false}
+use Rattle.election_script.proofs.Imports.{seed_line, key_line, log_line, link_line}
+use Rattle.election_script.proofs.Places.{IsDone}
+use Rattle.election_script.specs.Reading.{version_read, cast_read, one_supervisor, none_left, script_after}
 use Rattle.election_script.proofs.ReadWords.{number_back, seed_back, key_back, machine_back, deed_back, lose_back}
 use Rattle.election_script.proofs.ReadWords.{stop_back, step_back, seed_gives, key_gives, one_gives, machine_gives}
 use Rattle.election_script.proofs.ReadWords.{deed_gives, lose_gives, stop_gives, step_gives}
-use Rattle.election_script.proofs.Parts.{middle, all_in_front, fresh, fresh_push}
+use Rattle.election_script.proofs.Parts.{middle, all_in_front, fresh, fresh_push, no_pairs}
 use Rattle.election_script.proofs.DeedCount.{deed_count, deeds_done}
 use Rattle.election_script.proofs.Busy.{same_roles, same_stops, supervisors_busy, get_busy, size_busy, lines_busy}
 use Rattle.election_script.proofs.Busy.{each_busy, own_deeds}
 use Rattle.election_script.proofs.ReadLines.{head_is, Tells, IsPast, in_front, past, one_back, many_back, some_back}
 use Rattle.election_script.proofs.ReadLines.{room, each_back, at_line_is, one_said, many_said, some_said, each_said}
-use Rattle.std.proofs.lemmas.Bool.{leb-false}
 use Rattle.election_script.proofs.Gives.{Gives, value_gives, then_gives, then_gave, if_gives}
 use Rattle.election_script.specs.declared.kinds.Kind.TheVariants as kind
-
--- one reading after another that gave a value
-then_is : {A C : Type 0} (r : LinesRead A) (a : A) (next : A → LinesRead C) (c : C) → r ≡ Ok a → next a ≡ Ok c →
-    (r >>= next) ≡ Ok c
-then_is (Ok b) a next c is goes = let same : b ≡ a = cc in rw same goes
-then_is (Err fault) a next c is goes = cc
 
 -- a version's line
 version_back : (version : ℕ) (left : Left) (lines : Lines) → IsBetween 1 2 version →
@@ -124,7 +115,7 @@ module _ (script : Script) (lawful : IsLawful script) (deeds : List (ℕ × Deed
 
   -- a stop's line is read as it, after those in front of it
   stop_is : (before after : List StopAt) (stop : StopAt) → script.stops ≡ before ++ stop ∷ after →
-      (stop_read (roles_of (idle all)) (stopped_of (idle all) before) (drop 1 (stop_line all stop))
+      (stop_read (roles_of all) (stopped_of (idle all) before) (drop 1 (stop_line all stop))
       >>= unless_full kind.Stop before) ≡ Ok stop
   stop_is before after stop is =
       let good : All (IsStopAt all) (before ++ stop ∷ after) = subst (All (IsStopAt all)) is lawful.stops in
@@ -133,7 +124,7 @@ module _ (script : Script) (lawful : IsLawful script) (deeds : List (ℕ × Deed
       (middle (IsStopAt all) script.stops before after stop is lawful.stops)
       (fresh (λ (stop : StopAt). stop.machine) before after stop
       (subst (AllPairs (λ (stop other : StopAt). stop.machine ≢ other.machine)) is lawful.one_stop_each)) in
-      rw (roles, same_stops [] all before, back) refl
+      rw (same_stops [] all before, back) refl
 
   -- the lines of the kinds from the steps on, which are none of an earlier kind
   abbrev step_lines : Lines
@@ -164,16 +155,14 @@ module _ (script : Script) (lawful : IsLawful script) (deeds : List (ℕ × Deed
   from_seed_back : (version : ℕ × Left) → version.0 ≡ script.version →
       Tells version.1 (lines_of false script deeds) → script_after version ≡ Ok script
   from_seed_back (version, l0) stated t0 =
-      let (l1, t1, seed) = one_back kind.Seed (λ seed. codes "seed" ∷ encode_lower seed ∷ []) seed_read script.seed l0
-      _ t0
+      let (l1, t1, seed) = one_back kind.Seed (λ octets. seed_line script) seed_read script.seed l0 _ t0
       (seed_back script.seed lawful.seed lawful.octets) in
-      let (l2, t2, key) = one_back kind.Key (λ (key : OtsKind × ℕ). codes "key" ∷ ots_word key.0
-      ∷ height_word key.1 ∷ []) key_read (script.kind, script.height) l1 _ t1 (key_back script.kind script.height
-      lawful.height) in
-      let (l3, t3, log) = one_back kind.Log (λ log. codes "log" ∷ decimal log ∷ []) (one_number 1 max_events)
-      script.log l2 _ t2 (number_back 1 max_events script.log lawful.log (omega arith)) in
-      let (l4, t4, link) = one_back kind.Link (λ link. codes "link" ∷ decimal link ∷ []) (one_number 1 max_link)
-      script.link l3 _ t3 (number_back 1 max_link script.link lawful.link (omega arith)) in
+      let (l2, t2, key) = one_back kind.Key (λ key. key_line script) key_read (script.kind, script.height) l1 _ t1
+      (key_back script.kind script.height lawful.height) in
+      let (l3, t3, log) = one_back kind.Log (λ log. log_line script) (one_number 1 max_events) script.log l2 _ t2
+      (number_back 1 max_events script.log lawful.log (omega arith)) in
+      let (l4, t4, link) = one_back kind.Link (λ link. link_line script) (one_number 1 max_link) script.link l3 _ t3
+      (number_back 1 max_link script.link lawful.link (omega arith)) in
       let t4' : Tells l4 (map machine_line (idle all) ++ do_lines) =
       subst (λ (lines : Lines). Tells l4 (lines ++ do_lines)) (sym (lines_busy 0 [] all)) t4 in
       let first = some_back kind.Machine machine_line cast_read (idle all) l4 do_lines
@@ -185,16 +174,16 @@ module _ (script : Script) (lawful : IsLawful script) (deeds : List (ℕ × Deed
       (past kind.Do (do_line script.version all) kind.Machine deeds lose_lines (omega arith)
       (past_loses kind.Machine (omega arith))) t4' in
       let (l6, t6, done) = each_back kind.Do (do_line script.version all) (do_read script.version (roles_of all))
-      (IsDone script.version all) max_actions refl (λ done (cast, there, own, in_version, among).
-      deed_back all lawful.machines.named lawful.machines.distinct script.version lawful.version done.0 done.1 cast
-      there own in_version among) deeds (deeds_done script deeds lawful are)
+      (IsDone script.version all) max_actions refl
+      (deed_back all lawful.machines.named lawful.machines.distinct script.version lawful.version) deeds
+      (deeds_done script deeds lawful are)
       (omega (arith, deed_count script deeds are, lawful.machines.in_all)) l5 lose_lines
       (past_loses kind.Do (omega arith)) t5 in
       let (l7, t7, loses) = each_back kind.Lose (lose_line all) (lose_read (roles_of all)) (IsLose all) max_loses refl
       (lose_back all lawful.machines.named lawful.machines.distinct) script.loses lawful.loses lawful.few_loses l6
       stop_lines (past_stops kind.Lose (omega arith)) t6 in
       let (l8, t8, stops) = many_back kind.Stop (stop_line all)
-      (λ stops. stop_read (roles_of (idle all)) (stopped_of (idle all) stops)) script.stops
+      (λ stops. stop_read (roles_of all) (stopped_of (idle all) stops)) script.stops
       (λ before stop after is. stop_is before after stop is) [] script.stops refl l7 step_lines
       (past_steps kind.Stop (omega arith)) t7 in
       let (l9, t9, steps) = each_back kind.Step (step_line all) (step_read (roles_of all)) (IsStep all) max_steps refl
@@ -202,23 +191,9 @@ module _ (script : Script) (lawful : IsLawful script) (deeds : List (ℕ × Deed
       tt t8 in
       let one : one_supervisor (idle all) l5 ≡ Ok tt =
       rw (supervisors_busy 0 [] all ∙ lawful.machines.supervisor) refl in
-      subst (λ v. script_after (v, l0) ≡ Ok script) (sym stated)
-      (then_is _ (script.seed, l1) _ script seed
-      (then_is _ ((script.kind, script.height), l2) _ script key
-      (then_is _ (script.log, l3) _ script log
-      (then_is _ (script.link, l4) _ script link
-      (then_is _ (idle all, l5) _ script (first ∙ machines)
-      (then_is _ tt _ script one
-      (then_is _ (deeds, l6) _ script
-      (ap (λ (m : Machines). many kind.Do (λ deeds. do_read script.version m) [] l5) roles ∙ done)
-      (then_is _ (script.loses, l7) _ script
-      (ap (λ (m : Machines). many kind.Lose (λ loses. lose_read m) [] l6) roles ∙ loses)
-      (then_is _ (script.stops, l8) _ script stops
-      (then_is _ (script.steps, l9) _ script
-      (ap (λ (m : Machines). many kind.Step (λ steps. step_read m) [] l8) roles ∙ steps)
-      (then_is _ tt _ script (none_back l9 t9)
+      rw (stated, seed, key, log, link, first ∙ machines, one, roles, done, loses, stops, steps, none_back l9 t9)
       (ap (λ (ms : List Cast0). Ok (record script { machines = ms })) (busy_back 0 deeds all
-      (λ k cast at. are.each k cast at ∙ ap (λ p. actions_at p deeds) (omega arith)))))))))))))))
+      (λ k cast at. are.each k cast at ∙ ap (λ p. actions_at p deeds) (omega arith))))
 
   -- the lines of the script are read as it
   pub script_back : (told : Bool) → (told ≡ false → script.version ≡ 1) → (left : Left) →
@@ -229,9 +204,9 @@ module _ (script : Script) (lawful : IsLawful script) (deeds : List (ℕ × Deed
         | inr is ↦ (omega (arith, is), omega (arith, is))
       ] in
       let (rest, more, is) = version_back script.version left (lines_of false script deeds) small tells in
-      then_is _ (script.version, rest) _ script is (from_seed_back (script.version, rest) refl more)
+      rw is (from_seed_back (script.version, rest) refl more)
   script_back false untold left tells =
-      then_is _ (1, left) _ script (version_none (encode_lower script.seed ∷ []) left _ tells)
+      rw (version_none (encode_lower script.seed ∷ []) left _ tells)
       (from_seed_back (1, left) (sym (untold refl)) tells)
 
 -- ---- machines
@@ -373,7 +348,7 @@ after_said version good l0 =
     let (link_good, link_front) = one_said kind.Link (λ link. codes "link" ∷ decimal link ∷ []) (one_number 1 max_link)
     (IsBetween 1 max_link) (one_gives 1 max_link) l3 (link, l4) link_is in
     let (new, machines_front) = some_said kind.Machine machine_line cast_read _ l4 (many_said kind.Machine machine_line
-    cast_read AreNew cast_gives (omega arith, All-nil _, λ i j d below within. absurd (omega arith)) l4)
+    cast_read AreNew cast_gives (omega arith, All-nil _, no_pairs (λ (cast : Cast0). cast.name)) l4)
     (machines, l5) machines_are in
     let ((done, few_deeds), deeds_front) = each_said kind.Do (do_line version all) (do_read version (roles_of all))
     (IsDone version all) max_actions refl (deed_gives all version good) l5 (deeds, l6)
@@ -390,7 +365,7 @@ after_said version good l0 =
     ∙ ap (λ stopped. stop_read (roles_of machines) stopped words) (same_stops deeds machines before) ∙ is) in
     let places = fresh_push (λ (stop : StopAt). stop.machine) before stop own new in
     ((All-push (IsStopAt all) before stop good lawful, places), are))
-    (All-nil _, λ i j d below within. absurd (omega arith)) l7 (stops, l8) stops_are in
+    (All-nil _, no_pairs (λ (stop : StopAt). stop.machine)) l7 (stops, l8) stops_are in
     let ((step, few_steps), steps_front) = each_said kind.Step (step_line all) (step_read (roles_of all)) (IsStep all)
     max_steps refl (step_gives all) l8 (steps, l9)
     (ap (λ (m : Machines). many kind.Step (λ steps. step_read m) [] l8) roles ∙ steps_are) in

@@ -1,48 +1,44 @@
 -- The words of a line are read as what they say, and no others are.
 use Rattle.election_script.proofs.Imports.{◌≡◌, ◌∙◌, ap, sym, subst, refl, arith, ℕ, ◌<◌, ◌≤◌, ◌^◌, true, false, List}
 use Rattle.election_script.proofs.Imports.{[], ◌∷◌, length, inl, inr, Some, Ok, All, Any, slice_get, decimal}
-use Rattle.election_script.proofs.Imports.{All-get_or, get_or_from_slice_get, slice_get_within, encode_lower}
-use Rattle.election_script.proofs.Imports.{decode_of-encode_lower, IsBytes, IsDeedOf, IsDigest, IsVersion, IsDeedIn}
-use Rattle.election_script.proofs.Imports.{how_word, How, Deed, Opened, Authorise, Override, Closed, Activate, Commit}
-use Rattle.election_script.proofs.Imports.{Cast, Cancel, Challenge, Step, Act, Hear, Stop, OtsKind, IsHeight}
-use Rattle.election_script.proofs.Imports.{height_word, Role, Supervisor, Booth, IsName, role_word, Cast0, Lose, StopAt}
-use Rattle.election_script.proofs.Imports.{IsBetween, IsSession, IsDeedAmong, IsLose, IsStopAt, IsStep, max_events}
-use Rattle.election_script.proofs.Imports.{ots_word, name_at, deed_words, step_words, HasRoleAt, bytes_eq}
+use Rattle.election_script.proofs.Imports.{slice_get_within, encode_lower, decode_of-encode_lower, IsBytes, IsDigest}
+use Rattle.election_script.proofs.Imports.{IsVersion, IsDeedIn, how_word, How, Deed, Opened, Authorise, Override}
+use Rattle.election_script.proofs.Imports.{Closed, Activate, Commit, Cast, Cancel, Challenge, Step, Act, Hear, Stop}
+use Rattle.election_script.proofs.Imports.{OtsKind, IsHeight, height_word, Role, Supervisor, Booth, IsName, role_word}
+use Rattle.election_script.proofs.Imports.{Cast0, Lose, StopAt, IsBetween, IsSession, IsLose, IsStopAt, IsStep}
+use Rattle.election_script.proofs.Imports.{max_events, ots_word, name_at, deed_words, step_words, bytes_eq}
 use Rattle.election_script.proofs.Imports.{bytes_eq-Decides, false_from_ne_true, is_name_word, roles_of, stopped_of}
 use Rattle.election_script.proofs.Imports.{number_within, session_read, ballot_read, machine_named, machine_of_role}
 use Rattle.election_script.proofs.Imports.{seed_read, key_read, machine_said, machine_and_session, override_deed}
 use Rattle.election_script.proofs.Imports.{ballot_deed, do_read, entry_read, receiver_read, lose_read, stopper_read}
-use Rattle.election_script.proofs.Imports.{stop_read, step_read, ◌≢◌, suc, ◌+◌, Option, None, Result, Err, and_parts}
-use Rattle.election_script.proofs.Imports.{nat_lt, ◌&&◌, decode_of-ok, IsDone, is_between, is_listed, is_same_role}
-use Rattle.election_script.proofs.Imports.{place_of, in_table, named, role_names, how_names, key_kinds, key_heights}
-use Rattle.election_script.proofs.Imports.{one_number}
+use Rattle.election_script.proofs.Imports.{stop_read, step_read, ◌≢◌, Option, None, Result, Err, and_parts, nat_lt}
+use Rattle.election_script.proofs.Imports.{◌&&◌, decode_of-ok, is_between, is_listed, is_same_role, in_table, named}
+use Rattle.election_script.proofs.Imports.{role_names, how_names, key_kinds, key_heights, one_number, codes, is_some}
+use Rattle.election_script.proofs.Imports.{not, true≢false}
+use Rattle.election_script.proofs.Places.{HasRoleAt, IsDone, AreDistinct, cast_at, place_back, place_none, own_role}
+use Rattle.election_script.proofs.Places.{same_place, stop_new, from, place_unknown, stop_among, name_is, place_is}
+use Rattle.election_script.proofs.Places.{IsNamedAt}
 use Rattle.hall_text.proofs.DigestText.{digest_decodes}
 use Rattle.hall_text.proofs.Numbers.{number-found}
-use Rattle.std.proofs.lemmas.Option.{slice_get-map}
-use Rattle.std.specs.Prelude.{option_map, is_some, not, codes}
+use Rattle.std.proofs.lemmas.Option.{slice_get-map, cond_some}
+use Rattle.std.specs.Prelude.{option_map}
 use Rattle.election_script.proofs.Names.{between_test, name_test}
-use Rattle.election_script.proofs.Places.{AreDistinct, cast_at, name_read, place_back, place_none, own_role, same_place}
-use Rattle.election_script.proofs.Places.{stop_new, from, place_unknown, stop_among}
 use Rattle.election_script.proofs.Spaceless.{AreNamed}
-use Rattle.election_script.proofs.Named.{role_named, how_named, kind_named, height_named}
-use Rattle.election_script.proofs.Named.{some_role, some_how, some_kind, some_height, AreRows, row_is}
-use Rattle.std.proofs.Common.{true≢false}
+use Rattle.election_script.proofs.Named.{role_named, how_named, kind_named, height_named, some_role, some_how}
+use Rattle.election_script.proofs.Named.{some_kind, some_height, AreRows, row_is}
 use Rattle.hall_text.specs.Words.{number_in, value_from, digest_in, in_lower_case}
 use Rattle.hex.specs.Hex.{decode_of, decode_sized}
 use Rattle.hex.specs.declared.error.FromHexError.{FromHexError}
 use Rattle.hex.proofs.HexLemmas.{decode_sized-ok, decode_sized-twice}
 use Rattle.election_script.specs.declared.kinds.DeedName.{DeedName}
 use Rattle.election_script.specs.declared.kinds.StepName.{StepName}
-use Rattle.entry_format.specs.declared.deed.How.{How}
-use Rattle.entry_format.specs.EntryText.{IsDeedIn}
 use Rattle.election_script.specs.Words.{octets_in}
 use Rattle.election_script.specs.Kinds.{deed_names, later_deeds, step_names}
 use Rattle.election_script.specs.Machines.{is_of_role}
 use Rattle.election_script.specs.Deeds.{plain_deed, session_deed, named_deed}
 use Rattle.election_script.specs.Lines.{own_step, named_step}
-use Rattle.election_script.proofs.KnownPlaces.{IsNamedAt}
 use Rattle.election_script.proofs.Gives.{Gives, value_gives, then_gives, if_gives, unless_gives, some_gives}
-use Rattle.election_script.proofs.Gives.{either_some, if_some, unnot}
+use Rattle.std.proofs.lemmas.Bool.{not-false}
 use Rattle.entry_format.specs.declared.deed.How.TheVariants as how
 use Rattle.election_script.specs.declared.kinds.DeedName.TheVariants as deed
 use Rattle.election_script.specs.declared.kinds.StepName.TheVariants as step
@@ -92,10 +88,9 @@ module _ (machines : List Cast0) (names : AreNamed machines) (distinct : AreDist
   -- each machine's name is a name
   is_name : (place : ℕ) → place < length machines → is_name_word (name_at machines place) ≡ true
   is_name place within =
-      let (found, is) = cast_at machines place within in
-      (name_test (name_at machines place)).1 (subst IsName (sym (name_read machines place found is))
-      (subst (λ (cast : Cast0). IsName cast.name) (get_or_from_slice_get machines place found found is)
-      (All-get_or (λ (cast : Cast0). IsName cast.name) machines place found within names)))
+      let (cast, there) = cast_at machines place within in
+      (name_test (name_at machines place)).1
+      (subst IsName (sym (name_is machines place cast within)) (names place cast within))
 
   -- and is read as the machine's place
   name_back : (place : ℕ) → place < length machines →
@@ -138,58 +133,31 @@ module _ (machines : List Cast0) (names : AreNamed machines) (distinct : AreDist
   entry_back maker number within most =
       rw (name_back maker within, number_back 0 4095 number (omega arith, most) (omega arith)) refl
 
-  -- the line of the machine's deed is read as it
-  abbrev IsReadBack : ℕ → ℕ → Deed → Type 0
-  IsReadBack place version deed =
-      do_read version (roles_of machines) (name_at machines place ∷ deed_words version machines deed) ≡ Ok (place, deed)
-
-  -- an override that the version has
-  override_in_version : (version : ℕ) → IsVersion version → (place session : ℕ) (how : How) →
-      HasRoleAt machines Supervisor place → IsSession session → IsDeedIn version (Override session how) →
-      IsReadBack place version (Override session how)
-  override_in_version version good place session how.Cast has is two =
-      subst (λ v. IsReadBack place v (Override session how.Cast)) (sym two)
-      (rw (override_back place session how.Cast has is) refl)
-  override_in_version version (inr two) place session how.Cancel has is among =
-      subst (λ v. IsReadBack place v (Override session how.Cancel)) (sym two)
-      (rw (override_back place session how.Cancel has is) refl)
-  override_in_version version (inl one) place session how.Cancel has is among =
-      subst (λ v. IsReadBack place v (Override session how.Cancel)) (sym one)
-      (rw (role_session_back place Supervisor session has is) refl)
-
-  -- each deed that a machine of the script may do
-  pub deed_back : (version : ℕ) → IsVersion version → (place : ℕ) (deed : Deed) (cast : Cast0) →
-      slice_get machines place ≡ Some cast → IsDeedOf cast.role deed → IsDeedIn version deed →
-      IsDeedAmong machines deed → IsReadBack place version deed
-  deed_back version good place Opened cast at own is among =
+  -- each deed that a machine of the script may do is read back from its line
+  pub deed_back : (version : ℕ) → IsVersion version → (done : ℕ × Deed) → IsDone version machines done →
+      do_read version (roles_of machines) (name_at machines done.0 ∷ deed_words version machines done.1) ≡ Ok done
+  deed_back version good (place, Opened) (cast, at, own, is, among) =
       rw (role_back place Supervisor (cast, at, own)) refl
-  deed_back version good place (Authorise booth session) cast at own is among =
-      rw (
-        role_back place Supervisor
-            (cast, at, own),
-        role_session_back booth Booth session among.0 among.1,
-      ) refl
-  deed_back version good place (Override session how) cast at own is among =
-      override_in_version version good place session how
-      (cast, at, own) among is
-  deed_back version good place Closed cast at own is among =
+  deed_back version good (place, Authorise booth session) (cast, at, own, is, among) =
+      rw (role_back place Supervisor (cast, at, own), role_session_back booth Booth session among.0 among.1) refl
+  deed_back version good (place, Override session how.Cast) (cast, at, own, two, among) =
+      rw (two, override_back place session how.Cast (cast, at, own) among) refl
+  deed_back version (inr two) (place, Override session how.Cancel) (cast, at, own, is, among) =
+      rw (two, override_back place session how.Cancel (cast, at, own) among) refl
+  deed_back version (inl one) (place, Override session how.Cancel) (cast, at, own, is, among) =
+      rw (one, role_session_back place Supervisor session (cast, at, own) among) refl
+  deed_back version good (place, Closed) (cast, at, own, is, among) =
       rw (role_back place Supervisor (cast, at, own)) refl
-  deed_back version good place (Activate session) cast at own is among =
-      rw (role_session_back place Booth session
-      (cast, at, own) among) refl
-  deed_back version good place (Commit session ballot) cast at own is among =
-      rw (ballot_deed_back place session ballot
-      (cast, at, own) among) refl
-  deed_back version good place (Cast session ballot) cast at own is among =
-      rw (ballot_deed_back place session ballot
-      (cast, at, own) among) refl
-  deed_back version good place (Cancel session) cast at own is among =
-      rw (role_session_back place Booth session
-      (cast, at, own) among) refl
-  deed_back version good place (Challenge session ballot) cast at own is among =
-      subst (λ v. IsReadBack place v (Challenge session ballot)) (sym is)
-      (rw (ballot_deed_back place session ballot
-      (cast, at, own) among) refl)
+  deed_back version good (place, Activate session) (cast, at, own, is, among) =
+      rw (role_session_back place Booth session (cast, at, own) among) refl
+  deed_back version good (place, Commit session ballot) (cast, at, own, is, among) =
+      rw (ballot_deed_back place session ballot (cast, at, own) among) refl
+  deed_back version good (place, Cast session ballot) (cast, at, own, is, among) =
+      rw (ballot_deed_back place session ballot (cast, at, own) among) refl
+  deed_back version good (place, Cancel session) (cast, at, own, is, among) =
+      rw (role_session_back place Booth session (cast, at, own) among) refl
+  deed_back version good (place, Challenge session ballot) (cast, at, own, two, among) =
+      rw (two, ballot_deed_back place session ballot (cast, at, own) among) refl
 
   -- an entry that is lost
   pub lose_back : (lose : Lose) → IsLose machines lose →
@@ -234,7 +202,7 @@ module _ (machines : List Cast0) (names : AreNamed machines) (distinct : AreDist
 decimal_is : (word : List ℕ) (n : ℕ) → number_in word ≡ Some n → word ≡ decimal n
 decimal_is word n is =
     let own : List ℕ = decimal (value_from 0 word) in
-    let (both, same) = if_some (nat_lt (value_from 0 word) (2 ^ 32) && bytes_eq word own) (value_from 0 word) n is in
+    let (both, same) = cond_some (nat_lt (value_from 0 word) (2 ^ 32) && bytes_eq word own) (value_from 0 word) n is in
     (bytes_eq-Decides word own).0 (and_parts (nat_lt (value_from 0 word) (2 ^ 32)) (bytes_eq word own) both).1
     ∙ ap decimal same
 
@@ -250,7 +218,7 @@ lower_is : (word : List ℕ) (read : Result (List ℕ) FromHexError) (octets : L
     in_lower_case word read ≡ Some octets →
     (read ≡ Ok octets) × (word ≡ encode_lower octets)
 lower_is word (Ok own) octets is =
-    let (equal, same) = if_some (bytes_eq (encode_lower own) word) own octets is in
+    let (equal, same) = cond_some (bytes_eq (encode_lower own) word) own octets is in
     (ap Ok same, sym ((bytes_eq-Decides (encode_lower own) word).0 equal) ∙ ap encode_lower same)
 lower_is word (Err fault) octets is = cc
 
@@ -297,26 +265,8 @@ one_gives least greatest words = λ a is. cc
 
 module _ (machines : List Cast0) where
   -- a place by its name
-  found_is : (all : List Cast0) (name : List ℕ) (at place : ℕ) → from name at all ≡ Some place →
-      (k : ℕ) × (at + k ≡ place) × IsNamedAt all name k
-  found_is [] name at place is = cc
-  found_is (cast ∷ all) name at place is =
-      elim (either_some (bytes_eq cast.name name) at place (from name (at + 1) all) is) [
-        | inl (equal, same) ↦ (0, omega (arith, same), (omega arith, (bytes_eq-Decides cast.name name).0 equal))
-        | inr later ↦
-            let (k, sum, (within, is_named)) = found_is all name (at + 1) place later in
-            (suc k, omega (arith, sum), (omega (arith, within), is_named))
-      ]
-
-  place_is : (name : List ℕ) (place : ℕ) → place_of (roles_of machines) name ≡ Some place →
-      IsNamedAt machines name place
-  place_is name place is =
-      let (k, sum, there) = found_is machines name 0 place is in
-      let same : k ≡ place = omega (arith, sum) in
-      subst (IsNamedAt machines name) same there
-
   named_gives : (name : List ℕ) → Gives (machine_named (roles_of machines) name) (IsNamedAt machines name)
-  named_gives name = if_gives (is_name_word name) _ _ _ (λ good. some_gives _ _ _ (place_is name))
+  named_gives name = if_gives (is_name_word name) _ _ _ (λ good. some_gives _ _ _ (place_is machines name))
 
   -- a machine of a role
   role_is : (role other : Role) → is_same_role role other ≡ true → other ≡ role
@@ -346,7 +296,7 @@ module _ (machines : List Cast0) where
   machine_gives (name ∷ word ∷ []) =
       then_gives _ _ (λ own. IsName own × (Any (λ (cast : Cast0). cast.name ≡ own) machines → ⊥) × (name ≡ own)) _
       (unless_gives _ _ _ _ (λ good. unless_gives _ _ _ _ (λ unknown.
-      value_gives _ name ((name_test name).0 (unnot _ good), place_unknown machines name (none_is _ unknown), refl))))
+      value_gives _ name ((name_test name).0 (not-false _ good), place_unknown machines name (none_is _ unknown), refl))))
       (λ own (good, new, same). then_gives _ _ _ _
       (some_gives (named role_names word) _ _ (role_named word)) (λ role is.
       value_gives _ (own, role) (good, new, cc)))
@@ -365,7 +315,7 @@ module _ (machines : List Cast0) where
   receiver_gives maker receiver =
       unless_gives (not (is_name_word receiver)) _ _ _ (λ good. unless_gives (bytes_eq receiver maker) _ _ _ (λ other.
       some_gives _ _ _ (λ place is.
-      (λ same. true≢false (sym ((bytes_eq-Decides receiver maker).1 same) ∙ other), place_is receiver place is))))
+      (λ same. true≢false (sym ((bytes_eq-Decides receiver maker).1 same) ∙ other), place_is machines receiver place is))))
 
   -- one that is lost
   pub lose_gives : (words : List (List ℕ)) → Gives (lose_read (roles_of machines) words)
@@ -387,7 +337,7 @@ module _ (machines : List Cast0) where
       unless_gives (not (is_name_word name)) _ _ _ (λ good. unless_gives (is_listed (stopped_of machines stops) name)
       _ _ _ (λ new.
       some_gives _ _ _ (λ place is.
-      let at = place_is name place is in (
+      let at = place_is machines name place is in (
         at,
         λ any. true≢false (sym (stop_among machines stops place any)
             ∙ ap (is_listed (stopped_of machines stops)) at.1 ∙ new),
@@ -477,16 +427,6 @@ module _ (machines : List Cast0) where
         value_gives _ (read.0, read.1, ballot) (has, ((good, digest, octets), cc))))
     ballot_deed_gives name words = λ a is. cc
 
-    open_is : IsDeedSaid (codes "open") deed.Open
-    open_is name words = then_gives _ _ _ _ (plain_gives Supervisor name words)
-        (λ place ((at, (cast, there, own)), is).
-        value_gives _ (place, Opened) ((cast, there, own, tt, tt), cc))
-
-    close_is : IsDeedSaid (codes "close") deed.Close
-    close_is name words = then_gives _ _ _ _ (plain_gives Supervisor name words)
-        (λ place ((at, (cast, there, own)), is).
-        value_gives _ (place, Closed) ((cast, there, own, tt, tt), cc))
-
     authorise_is : IsDeedSaid (codes "authorise") deed.Authorise
     authorise_is name (booth ∷ word ∷ []) = then_gives _ _ (λ read. (IsNamedAt machines name read.0
         × HasRoleAt machines Supervisor read.0) × ((IsNamedAt machines booth read.1 × HasRoleAt machines Booth read.1)
@@ -498,35 +438,28 @@ module _ (machines : List Cast0) where
         value_gives _ (read.0, Authorise read.1 read.2) ((cast, there, own, tt, (holds, good)), cc))
     authorise_is name words = λ a is. cc
 
-    activate_is : IsDeedSaid (codes "activate") deed.Activate
-    activate_is name words = then_gives _ _ _ _ (session_gives Booth name words)
-        (λ read ((at, (cast, there, own)), (good, is)).
-        value_gives _ (read.0, Activate read.1) ((cast, there, own, tt, good), cc))
-
-    cancel_is : IsDeedSaid (codes "cancel") deed.Cancel
-    cancel_is name words = then_gives _ _ _ _ (session_gives Booth name words)
-        (λ read ((at, (cast, there, own)), (good, is)).
-        value_gives _ (read.0, Cancel read.1) ((cast, there, own, tt, good), cc))
-
-    commit_is : IsDeedSaid (codes "commit") deed.Commit
-    commit_is name words = then_gives _ _ _ _ (ballot_deed_gives name words)
-        (λ read ((at, (cast, there, own)), (good, is)).
-        value_gives _ (read.0, Commit read.1 read.2) ((cast, there, own, tt, good), cc))
-
-    cast_is : IsDeedSaid (codes "cast") deed.Cast
-    cast_is name words = then_gives _ _ _ _ (ballot_deed_gives name words)
-        (λ read ((at, (cast, there, own)), (good, is)).
-        value_gives _ (read.0, Cast read.1 read.2) ((cast, there, own, tt, good), cc))
-
     -- the deeds of all versions, before those of one
     common : AreRows IsDeedSaid (later_deeds version) → AreRows IsDeedSaid (deed_names version)
-    common later = (open_is, (authorise_is, (close_is, (activate_is, (commit_is, (cast_is, (cancel_is, later)))))))
-
-  -- what only one version has
-  override_is : IsDeedSaid 1 (codes "override") deed.Override
-  override_is name words = then_gives _ _ _ _ (session_gives 1 Supervisor name words)
-      (λ read ((at, (cast, there, own)), (good, is)).
-      value_gives _ (read.0, Override read.1 how.Cancel) ((cast, there, own, tt, good), cc))
+    common later =
+        let open_is : IsDeedSaid (codes "open") deed.Open = λ name words.
+        then_gives _ _ _ _ (plain_gives Supervisor name words) (λ place ((at, (cast, there, own)), is).
+        value_gives _ (place, Opened) ((cast, there, own, tt, tt), cc)) in
+        let close_is : IsDeedSaid (codes "close") deed.Close = λ name words.
+        then_gives _ _ _ _ (plain_gives Supervisor name words) (λ place ((at, (cast, there, own)), is).
+        value_gives _ (place, Closed) ((cast, there, own, tt, tt), cc)) in
+        let activate_is : IsDeedSaid (codes "activate") deed.Activate = λ name words.
+        then_gives _ _ _ _ (session_gives Booth name words) (λ read ((at, (cast, there, own)), (good, is)).
+        value_gives _ (read.0, Activate read.1) ((cast, there, own, tt, good), cc)) in
+        let commit_is : IsDeedSaid (codes "commit") deed.Commit = λ name words.
+        then_gives _ _ _ _ (ballot_deed_gives name words) (λ read ((at, (cast, there, own)), (good, is)).
+        value_gives _ (read.0, Commit read.1 read.2) ((cast, there, own, tt, good), cc)) in
+        let cast_is : IsDeedSaid (codes "cast") deed.Cast = λ name words.
+        then_gives _ _ _ _ (ballot_deed_gives name words) (λ read ((at, (cast, there, own)), (good, is)).
+        value_gives _ (read.0, Cast read.1 read.2) ((cast, there, own, tt, good), cc)) in
+        let cancel_is : IsDeedSaid (codes "cancel") deed.Cancel = λ name words.
+        then_gives _ _ _ _ (session_gives Booth name words) (λ read ((at, (cast, there, own)), (good, is)).
+        value_gives _ (read.0, Cancel read.1) ((cast, there, own, tt, good), cc)) in
+        (open_is, (authorise_is, (close_is, (activate_is, (commit_is, (cast_is, (cancel_is, later)))))))
 
   how_in_two : (session : ℕ) (how : How) → IsDeedIn 2 (Override session how)
   how_in_two session how.Cancel = tt
@@ -543,18 +476,18 @@ module _ (machines : List Cast0) where
       value_gives _ (read.0, Override read.1 read.2) ((cast, there, own, how_in_two read.1 read.2, good), cc))
   override_how_is name words = λ a is. cc
 
-  challenge_is : IsDeedSaid 2 (codes "challenge") deed.Challenge
-  challenge_is name words = then_gives _ _ _ _ (ballot_deed_gives 2 name words)
-      (λ read ((at, (cast, there, own)), (good, is)).
-      value_gives _ (read.0, Challenge read.1 read.2) ((cast, there, own, refl, good), cc))
-
   -- what a version has
   deeds_are : (version : ℕ) → IsVersion version → AreRows (IsDeedSaid version) (deed_names version)
   deeds_are version (inl one) =
-      common version (subst (λ v. AreRows (IsDeedSaid v) (later_deeds v)) (sym one) (override_is, tt))
+      let override_is : IsDeedSaid 1 (codes "override") deed.Override = λ name words.
+      then_gives _ _ _ _ (session_gives 1 Supervisor name words) (λ read ((at, (cast, there, own)), (good, is)).
+      value_gives _ (read.0, Override read.1 how.Cancel) ((cast, there, own, tt, good), cc)) in
+      common version (rw one (override_is, tt))
   deeds_are version (inr two) =
-      common version (subst (λ v. AreRows (IsDeedSaid v) (later_deeds v)) (sym two)
-      (override_how_is, (challenge_is, tt)))
+      let challenge_is : IsDeedSaid 2 (codes "challenge") deed.Challenge = λ name words.
+      then_gives _ _ _ _ (ballot_deed_gives 2 name words) (λ read ((at, (cast, there, own)), (good, is)).
+      value_gives _ (read.0, Challenge read.1 read.2) ((cast, there, own, refl, good), cc)) in
+      common version (rw two (override_how_is, (challenge_is, tt)))
 
   pub deed_gives : (version : ℕ) → IsVersion version → (words : List (List ℕ)) →
       Gives (do_read version (roles_of machines) words)

@@ -1,13 +1,11 @@
 -- A text of a script is read as the script.
-use Rattle.std.proofs.Common.{◌↔◌, cond}
-use Rattle.std.specs.Prelude.{not, filter}
-use Rattle.election_script.proofs.Imports.{◌≡◌, ◌∙◌, ap, sym, refl, ℕ, ◌+◌, Bool, true, false, List, [], ◌∷◌, map, inl}
-use Rattle.election_script.proofs.Imports.{inr, list_all, list_all-from_AllPass, and_parts, cases_Bool, All-weaker}
-use Rattle.election_script.proofs.Imports.{Script, line_of, lines_of, is_passed_over, IsTextOf, Lines, Ok, text_lines}
-use Rattle.election_script.proofs.Imports.{is_between, ◌++◌, join_with_byte, join_with_byte-slice_split, Kind, words_of}
-use Rattle.election_script.proofs.Imports.{line_word, line_kinds, named, in_table}
-use Rattle.election_script.specs.Left.{Next, left_from, head_of, kind_and_words}
-use Rattle.election_script.specs.Reading.{script_of}
+use Rattle.std.proofs.Common.{◌↔◌}
+use Rattle.election_script.proofs.Imports.{cond, not, filter, ◌≡◌, ◌∙◌, ap, sym, refl, ℕ, ◌+◌, Bool, true, false, List}
+use Rattle.election_script.proofs.Imports.{[], ◌∷◌, map, inl, inr, list_all, list_all-from_AllPass, and_parts}
+use Rattle.election_script.proofs.Imports.{cases_Bool, All-weaker, Script, line_of, lines_of, is_passed_over, IsTextOf}
+use Rattle.election_script.proofs.Imports.{Lines, Ok, text_lines, is_between, ◌++◌, join_with_byte}
+use Rattle.election_script.proofs.Imports.{join_with_byte-slice_split, Kind, words_of, line_word, line_kinds, named}
+use Rattle.election_script.proofs.Imports.{in_table, Next, left_from, head_of, kind_and_words, script_of, LinesRead}
 use Rattle.election_script.proofs.LineWords.{IsPlain, is_line, is_own, own_line, plain_line, words_back}
 use Rattle.election_script.proofs.Names.{between_test}
 use Rattle.election_script.proofs.ScriptLines.{script_lines}
@@ -121,3 +119,9 @@ text_said text script is =
       spelt = (lines_tell 1 (text_lines text) (lines_of told script deeds)
           (script_lines told script deeds lawful in_order)).1 tells;
     }
+
+pub one_script : (text : List ℕ) (script other : Script) → IsTextOf text script → IsTextOf text other → script ≡ other
+one_script text script other is also =
+    let same : ◌≡◌ {A = LinesRead Script} (Ok script) (Ok other) =
+    sym (text_read text script is) ∙ text_read text other also in
+    cc

@@ -1,8 +1,7 @@
 -- Entries with different digests, among others.
 use Rattle.entry_order.proofs.Imports.{◌≡◌, ◌≢◌, ℕ, ◌≤◌, inl, inr, List, [], ◌∷◌, ◌++◌, length, refl, sym, ap, subst}
-use Rattle.entry_order.proofs.Imports.{arith, Contains, sum_by, Contains-append_left, Contains-append_right}
-use Rattle.entry_order.proofs.Imports.{Contains-append_cases, sum_by-append, sum_by-cons, Node}
-use Rattle.entry_order.proofs.Lists.{Contains-head, Contains-later, Contains-cons_cases}
+use Rattle.entry_order.proofs.Imports.{arith, Contains, sum_by, sum_by-append, sum_by-cons, Node}
+use Rattle.entry_order.proofs.Lists.{Contains-head, Contains-later, Contains-without}
 use Rattle.entry_order.proofs.Orders.{member_split}
 
 module _ {T : Type 0} (node : T → Node) where
@@ -19,13 +18,10 @@ module _ {T : Type 0} (node : T → Node) where
       let (before, later, is) = member_split ys x (among x (Contains-head x xs)) in
       let rest : sum_by f xs ≤ sum_by f (before ++ later) =
       sum_among f xs (before ++ later) apart.1 (λ y c.
-      elim (Contains-append_cases before (x ∷ later) y
+      elim (Contains-without before x later y
       (subst (λ (zs : List T). Contains zs y) is (among y (Contains-later x xs y c)))) [
-        | inl first ↦ Contains-append_left before later y first
-        | inr last ↦ elim (Contains-cons_cases x later y last) [
-          | inl same ↦ absurd (apart.0 y c (ap (λ (z : T). (node z).digest) (sym same)))
-          | inr following ↦ Contains-append_right before later y following
-        ]
+        | inl same ↦ absurd (apart.0 y c (ap (λ (z : T). (node z).digest) (sym same)))
+        | inr there ↦ there
       ]) in
       omega (
         arith,

@@ -1,10 +1,10 @@
 -- Ascending digests: what is in such a list, and that its members say which list it is.
-use Rattle.entry_order.proofs.Imports.{◌≡◌, ℕ, Bool, true, false, cond, List, [], ◌∷◌, refl, sym, ap, subst, ◌∙◌, ◌⊎◌}
-use Rattle.entry_order.proofs.Imports.{inl, inr, ◌+◌, ◌≤◌, length, arith, Contains, filter, slice_cmp, nat_cmp}
-use Rattle.entry_order.proofs.Imports.{ordering_reverse, Ordering, Less, Equal, Greater, nat_list_cmp_total}
-use Rattle.entry_order.proofs.Imports.{exact_bytes, inserted, insert_digest, ascending, IsAscending, IsAscendingOf}
-use Rattle.entry_order.proofs.Imports.{AscendingIsUnique}
-use Rattle.entry_order.proofs.Lists.{Contains-none, Contains-later, Contains-at, Contains-cons_cases}
+use Rattle.entry_order.proofs.Imports.{◌≡◌, ℕ, zero, suc, Bool, true, false, cond, List, [], ◌∷◌, refl, sym, ap, subst}
+use Rattle.entry_order.proofs.Imports.{◌∙◌, ◌⊎◌, inl, inr, ◌+◌, ◌≤◌, ◌↔◌, length, not, arith, Contains, filter}
+use Rattle.entry_order.proofs.Imports.{slice_cmp, nat_cmp, ordering_reverse, Ordering, Less, Equal, Greater}
+use Rattle.entry_order.proofs.Imports.{nat_list_cmp_total, exact_bytes, not-true, not_from_false, inserted}
+use Rattle.entry_order.proofs.Imports.{insert_digest, ascending, IsAscending, IsAscendingOf, AscendingIsUnique}
+use Rattle.entry_order.proofs.Lists.{Contains-none, Contains-later, Contains-at, Contains-cons_cases, Contains-filter}
 use Rattle.entry_order.proofs.Lists.{Contains-filter_cases}
 use Rattle.entry_order.proofs.Rising.{Rises, same_rising}
 use Rattle.entry_order.proofs.Comparisons.{not_both}
@@ -13,16 +13,14 @@ use Rattle.entry_order.proofs.Comparisons.{not_both}
 added : (o : Ordering) (d c : List ℕ) (cs : List (List ℕ)) (y : List ℕ) → slice_cmp nat_cmp d c ≡ o →
     (d ≡ y) ⊎ Contains (c ∷ cs) y → ((d ≡ y) ⊎ Contains cs y → Contains (insert_digest d cs) y) →
     Contains (inserted o d c cs (insert_digest d cs)) y
-added Less d c cs y is h rest = elim h [ inl e ↦ Contains-at d (c ∷ cs) y e | inr g ↦ Contains-later d (c ∷ cs) y g ]
-added Equal d c cs y is h rest = elim h [ inl e ↦ Contains-at c cs y (sym (exact_bytes d c is) ∙ e) | inr g ↦ g ]
-added Greater d c cs y is h rest =
-    let deeper : (d ≡ y) ⊎ Contains cs y → Contains (c ∷ insert_digest d cs) y =
-    λ g. Contains-later c (insert_digest d cs) y (rest g) in
-    elim h [
-      | inl e ↦ deeper (inl e)
-      | inr g ↦ elim
-          (Contains-cons_cases c cs y g) [ inl e ↦ Contains-at c (insert_digest d cs) y e | inr f ↦ deeper (inr f) ]
-    ]
+added Less d c cs y is (inl e) rest = Contains-at d (c ∷ cs) y e
+added Less d c cs y is (inr g) rest = Contains-later d (c ∷ cs) y g
+added Equal d c cs y is (inl e) rest = Contains-at c cs y (sym (exact_bytes d c is) ∙ e)
+added Equal d c cs y is (inr g) rest = g
+added Greater d c cs y is (inl e) rest = Contains-later c (insert_digest d cs) y (rest (inl e))
+added Greater d c cs y is (inr (zero, l, e)) rest = Contains-at c (insert_digest d cs) y e
+added Greater d c cs y is (inr (suc k, l, e)) rest =
+    Contains-later c (insert_digest d cs) y (rest (inr (k, omega arith, e)))
 
 -- a list into which a digest was put has that digest and all that it had
 pub Contains-insert_digest : (d : List ℕ) (ds : List (List ℕ)) (y : List ℕ) → (d ≡ y) ⊎ Contains ds y →
@@ -36,12 +34,9 @@ taken_out : (o : Ordering) (d c : List ℕ) (cs : List (List ℕ)) (y : List ℕ
     (Contains (insert_digest d cs) y → (d ≡ y) ⊎ Contains cs y) → (d ≡ y) ⊎ Contains (c ∷ cs) y
 taken_out Less d c cs y h rest = Contains-cons_cases d (c ∷ cs) y h
 taken_out Equal d c cs y h rest = inr h
-taken_out Greater d c cs y h rest =
-    elim (Contains-cons_cases c (insert_digest d cs) y h) [
-      | inl e ↦ inr (Contains-at c cs y e)
-      | inr g ↦ elim
-          (rest g) [ inl e ↦ inl e | inr f ↦ inr (Contains-later c cs y f) ]
-    ]
+taken_out Greater d c cs y (zero, l, e) rest = inr (Contains-at c cs y e)
+taken_out Greater d c cs y (suc k, l, e) rest =
+    elim (rest (k, omega arith, e)) [ inl is ↦ inl is | inr g ↦ inr (Contains-later c cs y g) ]
 
 -- what is in the list was put in or was there
 pub Contains-insert_digest_cases : (d : List ℕ) (ds : List (List ℕ)) (y : List ℕ) →
@@ -53,10 +48,9 @@ Contains-insert_digest_cases d (c ∷ cs) y h =
 -- the ascending list has each of the digests
 pub Contains-ascending : (ds : List (List ℕ)) (y : List ℕ) → Contains ds y → Contains (ascending ds) y
 Contains-ascending [] y h = h
-Contains-ascending (d ∷ ds) y h =
-    let deeper : Contains ds y → Contains (insert_digest d (ascending ds)) y =
-    λ g. Contains-insert_digest d (ascending ds) y (inr (Contains-ascending ds y g)) in
-    elim (Contains-cons_cases d ds y h) [ inl e ↦ Contains-insert_digest d (ascending ds) y (inl e) | inr g ↦ deeper g ]
+Contains-ascending (d ∷ ds) y (zero, l, e) = Contains-insert_digest d (ascending ds) y (inl e)
+Contains-ascending (d ∷ ds) y (suc k, l, e) =
+    Contains-insert_digest d (ascending ds) y (inr (Contains-ascending ds y (k, omega arith, e)))
 
 -- sorting adds no digest to a list
 pub Contains-ascending_cases : (ds : List (List ℕ)) (y : List ℕ) → Contains (ascending ds) y → Contains ds y
@@ -84,12 +78,10 @@ inserted_ascending : (o : Ordering) (d c : List ℕ) (cs after : List (List ℕ)
     IsAscending (c ∷ cs) → IsAscending after → ((x : List ℕ) → Contains after x → (d ≡ x) ⊎ Contains cs x) →
     IsAscending (inserted o d c cs after)
 inserted_ascending Less d c cs after is a b from = (
-  λ x h. elim
-      (Contains-cons_cases c cs x h) [
-        | inl e ↦ subst
-            (λ u. IsBelow d u) e is
-        | inr l ↦ nat_list_cmp_total.trans d c x is (a.0 x l)
-      ],
+  λ x h. elim (Contains-cons_cases c cs x h) [
+    | inl e ↦ subst (IsBelow d) e is
+    | inr l ↦ nat_list_cmp_total.trans d c x is (a.0 x l)
+  ],
   a,
 )
 inserted_ascending Equal d c cs after is a b from = a
@@ -109,28 +101,41 @@ pub ascending_ascending : (ds : List (List ℕ)) → IsAscending (ascending ds)
 ascending_ascending [] = tt
 ascending_ascending (d ∷ ds) = insert_digest_ascending d (ascending ds) (ascending_ascending ds)
 
+-- what is ascending and has the members of an ascending list is that list
+pub only_ascending : (ds : List (List ℕ)) (P : List ℕ → Type 0) → ((d : List ℕ) → Contains (ascending ds) d ↔ P d) →
+    (ordered : List (List ℕ)) → IsAscending ordered → ((d : List ℕ) → Contains ordered d ↔ P d) →
+    ordered ≡ ascending ds
+only_ascending ds P members ordered rises same =
+    same_ascending ordered (ascending ds) rises (ascending_ascending ds) (λ d c. (members d).1 ((same d).0 c))
+    (λ d c. (same d).1 ((members d).0 c))
+
 -- exactly the ascending list is ascending and has these members
 pub ascending_is_unique : AscendingIsUnique
-ascending_is_unique ds ordered = (
-  λ is. subst (λ o. IsAscendingOf ds o) (sym is) (record {
-    rises = ascending_ascending ds;
-    members = λ d. (Contains-ascending_cases ds d, Contains-ascending ds d);
-  }),
-  λ is.
-      same_ascending ordered (ascending ds) is.rises (ascending_ascending ds)
-      (λ d c. Contains-ascending ds d ((is.members d).0 c)) (λ d c. (is.members d).1 (Contains-ascending_cases ds d c)),
-)
+ascending_is_unique ds ordered =
+    let members : (d : List ℕ) → Contains (ascending ds) d ↔ Contains ds d =
+    λ d. (Contains-ascending_cases ds d, Contains-ascending ds d) in (
+      λ is. subst (IsAscendingOf ds) (sym is) (record { rises = ascending_ascending ds; members = members }),
+      λ is. only_ascending ds (Contains ds) members ordered is.rises is.members,
+    )
+
+-- the ascending ones of those that a test leaves are those that are given and don't pass it
+pub in_left : (test : List ℕ → Bool) (ds : List (List ℕ)) (d : List ℕ) →
+    Contains (ascending (filter (λ c. not (test c)) ds)) d ↔ (Contains ds d × (test d ≡ false))
+in_left test ds d =
+    let left = λ (c : List ℕ). not (test c) in (
+      λ c.
+          let (there, passes) = Contains-filter_cases left ds d (Contains-ascending_cases (filter left ds) d c) in
+          (there, not-true (test d) passes),
+      λ (there, fails). Contains-ascending (filter left ds) d
+          (Contains-filter left ds d there (not_from_false (test d) fails)),
+    )
 
 -- a part of an ascending list is ascending
 pub filter_ascending : (p : List ℕ → Bool) (ds : List (List ℕ)) → IsAscending ds → IsAscending (filter p ds)
 filter_ascending p [] a = tt
 filter_ascending p (d ∷ ds) (d_is_first, ds_rise) =
     elim (p d) as (λ b. IsAscending (cond b (d ∷ filter p ds) (filter p ds))) [
-      | true ↦ (
-        λ c h. d_is_first c
-            (Contains-filter_cases p ds c h).0,
-        filter_ascending p ds ds_rise,
-      )
+      | true ↦ (λ c h. d_is_first c (Contains-filter_cases p ds c h).0, filter_ascending p ds ds_rise)
       | false ↦ filter_ascending p ds ds_rise
     ]
 

@@ -1,30 +1,31 @@
 -- What is the same in every completion.
-use Rattle.entry_order.proofs.Imports.{◌≡◌, ℕ, Bool, true, false, List, [], ◌∷◌, refl, sym, subst, ◌∙◌, ◌⊎◌, inl, inr}
-use Rattle.entry_order.proofs.Imports.{◌↔◌, not, Contains, filter, flat_map, not_from_false, not-true, true≢false}
-use Rattle.entry_order.proofs.Imports.{false_from_ne_true, Node, Names, IsNamedIn, IsBorneIn, has_digest, IsPath}
-use Rattle.entry_order.proofs.Imports.{Precedes, gaps, IsGaps, Completion, NamesNoGap, IsWhole, PathsAreSettled}
-use Rattle.entry_order.proofs.Lists.{Contains-filter, Contains-filter_cases, Contains-flat_map, Contains-flat_map_cases}
-use Rattle.entry_order.proofs.Ascending.{Contains-ascending, Contains-ascending_cases, same_ascending}
-use Rattle.entry_order.proofs.Ascending.{ascending_ascending}
+use Rattle.entry_order.proofs.Imports.{◌≡◌, ℕ, List, [], ◌∷◌, refl, sym, subst, ◌∙◌, ◌⊎◌, inl, inr, ◌↔◌, not, Contains}
+use Rattle.entry_order.proofs.Imports.{filter, flat_map, true≢false, false_from_ne_true, Node, Names, IsNamedIn}
+use Rattle.entry_order.proofs.Imports.{IsBorneIn, has_digest, IsPath, Precedes, gaps, IsGaps, Completion, IsInPast}
+use Rattle.entry_order.proofs.Imports.{IsWhole, PathsAreSettled, cases_Bool}
+use Rattle.entry_order.proofs.Lists.{Contains-flat_map, Contains-flat_map_cases}
+use Rattle.entry_order.proofs.Ascending.{ascending_ascending, in_left, only_ascending}
 use Rattle.entry_order.proofs.Naming.{has_digest_of, has_digest_from}
+use Rattle.entry_order.proofs.Paths.{IsNoLater, precedes_on}
 
 module _ {T : Type 0} (node : T → Node) (S : List T) where
+  -- the digests that an entry names
+  abbrev named : List (List ℕ)
+  named = flat_map (λ y. (node y).names) S
+
   -- the gaps are the digests that an entry names and none has
   gap_members : (d : List ℕ) → Contains (gaps node S) d ↔ (IsNamedIn node S d × (¬ (IsBorneIn node S d)))
-  gap_members d =
-      let names = flat_map (λ y. (node y).names) S in
-      let free = λ (c : List ℕ). not (has_digest node S c) in (
-        λ c.
-            let kept = Contains-filter_cases free names d (Contains-ascending_cases (filter free names) d c) in (
-              Contains-flat_map_cases (λ y. (node y).names) S d kept.0,
-              λ borne. true≢false (sym (has_digest_of node S d borne) ∙ not-true (has_digest node S d) kept.1),
-            ),
-        λ ((e, in_e, named), lost).
-            let there = Contains-flat_map (λ y. (node y).names) S e d in_e named in
-            let none = false_from_ne_true (has_digest node S d) (λ t. lost (has_digest_from node S d t)) in
-            Contains-ascending (filter free names) d
-            (Contains-filter free names d there (not_from_false (has_digest node S d) none)),
-      )
+  gap_members d = (
+    λ c.
+        let (there, free) = (in_left (has_digest node S) named d).0 c in (
+          Contains-flat_map_cases (λ y. (node y).names) S d there,
+          λ borne. true≢false (sym (has_digest_of node S d borne) ∙ free),
+        ),
+    λ ((e, in_e, names), lost). (in_left (has_digest node S) named d).1 (
+      Contains-flat_map (λ y. (node y).names) S e d in_e names,
+      false_from_ne_true (has_digest node S d) (λ t. lost (has_digest_from node S d t)),
+    ),
+  )
 
   -- an entry names a gap and none has it
   pub gap_cases : (d : List ℕ) → Contains (gaps node S) d → IsNamedIn node S d × (¬ (IsBorneIn node S d))
@@ -33,26 +34,21 @@ module _ {T : Type 0} (node : T → Node) (S : List T) where
   -- exactly the gaps are ascending and have these members
   pub gaps_are_unique : (ds : List (List ℕ)) → (ds ≡ gaps node S) ↔ IsGaps node S ds
   gaps_are_unique ds =
-      let digests = filter (λ d. not (has_digest node S d)) (flat_map (λ y. (node y).names) S) in (
-        λ is. subst (λ o. IsGaps node S o) (sym is)
-            (record { rises = ascending_ascending digests; members = gap_members }),
-        λ is.
-            same_ascending ds (gaps node S) is.rises (ascending_ascending digests)
-            (λ d c. (gap_members d).1 ((is.members d).0 c)) (λ d c. (is.members d).1 ((gap_members d).0 c)),
+      let lost = filter (λ d. not (has_digest node S d)) named in (
+        λ is. subst (IsGaps node S) (sym is) (record { rises = ascending_ascending lost; members = gap_members }),
+        λ is. only_ascending lost (λ d. IsNamedIn node S d × (¬ (IsBorneIn node S d))) gap_members ds is.rises
+            is.members,
       )
 
   -- a named digest is a gap, or an entry has it
   pub gap_or_bearer : (x : T) (d : List ℕ) → Contains S x → Contains (node x).names d →
       Contains (gaps node S) d ⊎ IsBorneIn node S d
-  gap_or_bearer x d c n = by (has_digest node S d) refl
-    where
-      by : (b : Bool) → has_digest node S d ≡ b → Contains (gaps node S) d ⊎ IsBorneIn node S d
-      by true e = inr (has_digest_from node S d e)
-      by false e =
-          let named = Contains-flat_map (λ y. (node y).names) S x d c n in
-          inl (Contains-ascending (filter (λ c. not (has_digest node S c)) (flat_map (λ y. (node y).names) S)) d
-          (Contains-filter (λ c. not (has_digest node S c)) (flat_map (λ y. (node y).names) S) d named
-          (not_from_false (has_digest node S d) e)))
+  gap_or_bearer x d c n =
+      elim (cases_Bool (has_digest node S d)) [
+        | inl has ↦ inr (has_digest_from node S d has)
+        | inr free ↦ inl
+            ((in_left (has_digest node S) named d).1 (Contains-flat_map (λ y. (node y).names) S x d c n, free))
+      ]
 
   module _ (machines : ℕ) (G : List T) (completion : Completion node machines S G) where
     -- a path among survivors is one in the completion
@@ -65,27 +61,52 @@ module _ {T : Type 0} (node : T → Node) (S : List T) where
     before_in_completion y x (in_y, in_x, gs, path) =
         (completion.keeps y in_y, completion.keeps x in_x, gs, kept_path y gs x path)
 
-    -- an entry of the completion that a survivor names is a survivor, where that survivor names no
-    -- gap
-    named_survives : (x f : T) → Contains S x → NamesNoGap node S x → Contains G f → Names node x f → Contains S f
-    named_survives x f cx whole cf n =
-        elim (gap_or_bearer x (node f).digest cx n) [
-          | inl gap ↦ absurd (whole (node f).digest n gap)
-          | inr (g, there, same) ↦ subst (Contains S) (completion.distinct g f (completion.keeps g there) cf same) there
+    -- what is or precedes an entry among the survivors is or precedes it in the completion
+    pub no_later_in_completion : (y x : T) → IsNoLater node S y x → IsNoLater node G y x
+    no_later_in_completion y x near = elim near [ inl is ↦ inl is | inr early ↦ inr (before_in_completion y x early) ]
+
+    -- an entry of the completion whose digest a survivor has is that survivor
+    pub survives : (f : T) → Contains G f → IsBorneIn node S (node f).digest → Contains S f
+    survives f cf (g, there, same) =
+        subst (Contains S) (completion.distinct g f (completion.keeps g there) cf same) there
+
+    -- f precedes x among the survivors, or it is or precedes an entry that was lost in x's past
+    abbrev pub IsReached : T → T → Type 0
+    IsReached x f =
+        Precedes node S f x
+        ⊎ ((h : T) × Contains G h × IsInPast node S (node h).digest x × IsNoLater node G f h)
+
+    -- what a survivor names that is x or precedes x is reached
+    arrow_back : (x g f : T) → Contains S g → Contains S x → IsNoLater node S g x → Contains G f → Names node g f →
+        IsReached x f
+    arrow_back x g f cg cx near cf names =
+        elim (gap_or_bearer g (node f).digest cg names) [
+          | inl gap ↦ inr (f, cf, (gap, (g, near, names)), inl refl)
+          | inr borne ↦
+              let there = survives f cf borne in
+              inl (precedes_on node S f g x (there, cg, [], names) near)
         ]
 
-    -- a path of the completion to a whole survivor is one among survivors
-    survives : (x : T) → Contains S x → IsWhole node S x → (f : T) (between : List T) → Contains G f →
-        IsPath node G f between x → Contains S f × IsPath node S f between x
-    survives x cx whole f [] cf n = (named_survives x f cx whole.itself cf n, n)
-    survives x cx whole f (g ∷ gs) cf (in_g, names, path_g) =
-        let (there, path) = survives x cx whole g gs in_g path_g in
-        (named_survives g f there (whole.ancestors g (there, cx, gs, path)) cf names, (there, names, path))
+    -- so is what precedes x in the completion
+    pub back : (x : T) → Contains S x → (f : T) (between : List T) → Contains G f → IsPath node G f between x →
+        IsReached x f
+    back x cx f [] cf names = arrow_back x x f cx cx (inl refl) cf names
+    back x cx f (g ∷ gs) cf (cg, names, path) =
+        elim (back x cx g gs cg path) [
+          | inl before ↦ arrow_back x g f before.0 cx (inr before) cf names
+          | inr (h, ch, lost, near) ↦ inr (h, ch, lost, inr (precedes_on node G f g h (cf, cg, [], names) near))
+        ]
 
     -- where x is whole, its ancestors in the completion are its ancestors among the survivors
     pub before_among_survivors : (y x : T) → Contains S x → IsWhole node S x → Precedes node G y x → Precedes node S y x
-    before_among_survivors y x cx whole (in_y, _, gs, path) =
-        let (there, kept) = survives x cx whole y gs in_y path in (there, cx, gs, kept)
+    before_among_survivors y x cx whole (cy, _, between, path) =
+        elim (back x cx y between cy path) [
+          | inl before ↦ before
+          | inr (h, _, (gap, (e, near, names)), _) ↦ absurd (elim near [
+            | inl is ↦ whole.itself (node h).digest (subst (λ u. Contains (node u).names (node h).digest) is names) gap
+            | inr early ↦ whole.ancestors e early (node h).digest names gap
+          ])
+        ]
 
 -- both, for all survivors and completions
 pub paths_are_settled : {T : Type 0} (node : T → Node) → PathsAreSettled node

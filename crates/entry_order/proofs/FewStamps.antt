@@ -1,31 +1,11 @@
 -- In an orderly world a stamp is at most how many entries were sent.
-use Rattle.entry_order.proofs.Imports.{◌≡◌, ℕ, zero, suc, ◌≤◌, max, List, [], ◌∷◌, ◌++◌, length, map, refl, sym, ap}
-use Rattle.entry_order.proofs.Imports.{◌∙◌, subst, arith, ◌⊎◌, inl, inr, length-append, Contains, fold, cases_eq}
-use Rattle.entry_order.proofs.Imports.{cases_lt, length-map, Contains-append_left, Contains-append_right}
-use Rattle.entry_order.proofs.Imports.{Contains-append_cases, Node, held, World, sent_in, IsOrderly}
-use Rattle.entry_order.proofs.Lists.{Contains-head, Contains-later, Contains-cons_cases, Contains-map}
-use Rattle.entry_order.proofs.Orders.{member_split, was_sent, held_was_sent, next_of}
-
--- a list with each number from 1 to s has at least s members
-pub many : (s : ℕ) (xs : List ℕ) → ((t : ℕ) → 1 ≤ t → t ≤ s → Contains xs t) → s ≤ length xs
-many zero xs all = omega arith
-many (suc s) xs all =
-    let (front, back, split) = member_split xs (suc s) (all (suc s) (omega arith) (omega arith)) in
-    let rest : List ℕ = front ++ back in
-    let others : (t : ℕ) → 1 ≤ t → t ≤ s → Contains rest t =
-    λ t low high.
-    let there : Contains (front ++ suc s ∷ back) t =
-    subst (λ (l : List ℕ). Contains l t) split (all t low (omega arith)) in
-    elim (Contains-append_cases front (suc s ∷ back) t there) [
-      | inl h ↦ Contains-append_left front back t h
-      | inr h ↦ elim (Contains-cons_cases (suc s) back t h) [
-        | inl e ↦ absurd (omega arith)
-        | inr k ↦
-            Contains-append_right front back t k
-      ]
-    ] in
-    let fewer = many s rest others in
-    omega (arith, ap length split, length-append front (suc s ∷ back), length-append front back)
+use Rattle.entry_order.proofs.Imports.{◌≡◌, ℕ, zero, suc, ◌≤◌, max, List, [], ◌∷◌, length, map, refl, arith, ◌⊎◌, inl}
+use Rattle.entry_order.proofs.Imports.{inr, Contains, fold, cases_eq, cases_lt, length-map, Node, held, World, sent_in}
+use Rattle.entry_order.proofs.Imports.{IsOrderly, ◌+◌, ◌<◌, ◌==◌, list_any, true, eq-eqb}
+use Rattle.entry_order.proofs.Lists.{Contains-head, Contains-later, Contains-map, list_any_of}
+use Rattle.entry_order.proofs.Orders.{was_sent, held_was_sent, next_of}
+use Rattle.std.proofs.lemmas.Map.Steps.{le-length_from_below}
+use Rattle.std.proofs.Common.{◌-◌}
 
 module _ {T : Type 0} (node : T → Node) where
   -- the greatest stamp is one of them, or what it began with
@@ -34,15 +14,8 @@ module _ {T : Type 0} (node : T → Node) where
   attained_from top [] = inl refl
   attained_from top (z ∷ es) =
       elim (attained_from (max top (node z).stamp) es) [
-        | inl same ↦ elim (cases_lt top (node z).stamp) [
-          | inl lt ↦ inr (
-            z,
-            Contains-head z es,
-            (let m : max top (node z).stamp ≡ (node z).stamp = omega arith in
-                sym (same ∙ m)),
-          )
-          | inr le ↦ inl (let m : max top (node z).stamp ≡ top = omega arith in same ∙ m)
-        ]
+        | inl same ↦ elim (cases_lt top (node z).stamp)
+            [ inl lt ↦ inr (z, Contains-head z es, omega arith) | inr le ↦ inl (omega arith) ]
         | inr (g, there, is) ↦ inr (g, Contains-later z es g there, is)
       ]
 
@@ -65,12 +38,16 @@ module _ {T : Type 0} (node : T → Node) where
               ])
         ]
 
+    -- the number of stamps below an entry's, which count from 1
+    abbrev before : T → ℕ
+    before x = (node x).stamp - 1
+
     -- a stamp is at most the number of entries that were sent
     pub stamps_are_few : (e : T) → Contains (sent_in w) e → (node e).stamp ≤ length (sent_in w)
     stamps_are_few e c =
-        let all = many (node e).stamp (map (λ (x : T). (node x).stamp) (sent_in w))
-        (λ t low high.
-        let (g, there, is) = each_stamp (node e).stamp e c (omega arith) t low high in
-        subst (λ n. Contains (map (λ (x : T). (node x).stamp) (sent_in w)) n) is
-        (Contains-map (λ (x : T). (node x).stamp) (sent_in w) g there)) in
-        omega (arith, length-map (sent_in w) (λ (x : T). (node x).stamp))
+        let each : (q : ℕ) → q < (node e).stamp → list_any (λ k. q == k) (map before (sent_in w)) ≡ true =
+        λ q low.
+        let (g, there, is) = each_stamp (node e).stamp e c (omega arith) (q + 1) (omega arith) (omega arith) in
+        list_any_of (λ k. q == k) (map before (sent_in w)) (before g) (Contains-map before (sent_in w) g there)
+        (eq-eqb q (before g) (omega arith)) in
+        omega (arith, length-map (sent_in w) before, le-length_from_below (map before (sent_in w)) (node e).stamp each)

@@ -1,10 +1,13 @@
 -- The survivors with one entry more for each gap.
-use Rattle.entry_order.proofs.Imports.{◌≡◌, ◌∙◌, ℕ, ◌<◌, ◌++◌, List, [], ◌∷◌, map, sym, ap, subst, inl, inr, arith}
-use Rattle.entry_order.proofs.Imports.{Contains, Contains-append_left, Contains-append_right, Contains-append_cases}
-use Rattle.entry_order.proofs.Imports.{Node, Names, IsNamedIn, IsBorneIn, Distinct, IsPath, Precedes, gaps, IsWhole}
-use Rattle.entry_order.proofs.Imports.{Completion, AreSurvivors, CompletionsExist, OrderIsExact}
-use Rattle.entry_order.proofs.Lists.{Contains-none, Contains-head, Contains-cons_cases, Contains-map, Contains-map_cases}
+use Rattle.entry_order.proofs.Imports.{◌≡◌, ◌∙◌, ℕ, ◌<◌, ◌++◌, List, [], ◌∷◌, map, refl, sym, ap, subst, ◌⊎◌, inl, inr}
+use Rattle.entry_order.proofs.Imports.{arith, Contains, Contains-append_left, Contains-append_right}
+use Rattle.entry_order.proofs.Imports.{Contains-append_cases, Node, Names, IsNamedIn, IsBorneIn, Distinct, IsPath}
+use Rattle.entry_order.proofs.Imports.{Precedes, gaps, NamesNoGap, IsWhole, Completion, AreSurvivors, CompletionsExist}
+use Rattle.entry_order.proofs.Imports.{OrderIsExact}
+use Rattle.entry_order.proofs.Lists.{Contains-none, Contains-head, Contains-one, Contains-map, Contains-map_cases}
+use Rattle.entry_order.proofs.Paths.{IsNoLater, precedes_on, is_there}
 use Rattle.entry_order.proofs.Completions.{gap_cases, gap_or_bearer, before_in_completion, before_among_survivors}
+use Rattle.entry_order.proofs.Completions.{no_later_in_completion}
 
 -- an entry for each digest, of machine 0, which names this of the survivors
 pub record Fills {T : Type 0} (node : T → Node) (S : List T) (fill : List ℕ → T) : Type 0 where
@@ -18,52 +21,43 @@ module _ {T : Type 0} (node : T → Node) (machines : ℕ) (S : List T) (fill : 
   abbrev pub filled : List T
   filled = S ++ map fill (gaps node S)
 
-  -- those that fill the gaps
-  filling : (e : T) → Contains (map fill (gaps node S)) e → (d : List ℕ) × Contains (gaps node S) d × (fill d ≡ e)
-  filling e c = Contains-map_cases fill (gaps node S) e c
+  -- each is a survivor, or fills a gap
+  pub filled_cases : (e : T) → Contains filled e → Contains S e ⊎ ((d : List ℕ) × Contains (gaps node S) d × (fill d ≡ e))
+  filled_cases e c =
+      elim (Contains-append_cases S (map fill (gaps node S)) e c)
+      [ inl old ↦ inl old | inr new ↦ inr (Contains-map_cases fill (gaps node S) e new) ]
 
-  -- where there is a gap there is a machine
-  some_machine : (d : List ℕ) → Contains (gaps node S) d → 0 < machines
-  some_machine d gap =
-      let ((e, there, names), unborne) = gap_cases node S d gap in
-      let few = are.in_roster e there in omega (arith, few)
+  -- what fills a gap is one of them
+  pub in_filled : (d : List ℕ) → Contains (gaps node S) d → Contains filled (fill d)
+  in_filled d gap = Contains-append_right S (map fill (gaps node S)) (fill d) (Contains-map fill (gaps node S) d gap)
 
   in_roster : (e : T) → Contains filled e → (node e).maker < machines
   in_roster e c =
-      elim (Contains-append_cases S (map fill (gaps node S)) e c) [
+      elim (filled_cases e c) [
         | inl old ↦ are.in_roster e old
-        | inr new ↦
-            let (d, gap, same) = filling e new in
-            let some = some_machine d gap in
-            let maker : (node e).maker ≡ 0 = subst (λ (x : T). (node x).maker ≡ 0) same (fills.maker d) in
-            omega (arith, some, maker)
+        | inr (d, gap, is) ↦
+            let ((g, there, _), _) = gap_cases node S d gap in
+            let few = are.in_roster g there in
+            subst (λ v. (node v).maker < machines) is (omega (arith, fills.maker d))
       ]
 
   -- an entry that fills a gap has a digest that no survivor has
-  apart : (e f : T) → Contains S e → Contains (map fill (gaps node S)) f → (node e).digest ≡ (node f).digest → ⊥
-  apart e f old new is =
-      let (d, gap, same) = filling f new in
-      (gap_cases node S d gap).1 (e, old, is ∙ ap (λ (x : T). (node x).digest) (sym same) ∙ fills.bears d)
+  apart : (e f : T) (d : List ℕ) → Contains S e → Contains (gaps node S) d → fill d ≡ f →
+      (node e).digest ≡ (node f).digest → ⊥
+  apart e f d old gap same is =
+      (gap_cases node S d gap).1 (e, old, is ∙ ap (λ v. (node v).digest) (sym same) ∙ fills.bears d)
 
   distinct : Distinct node filled
   distinct e f ce cf is =
-      elim (Contains-append_cases S (map fill (gaps node S)) e ce) [
-        | inl old ↦
-            elim (Contains-append_cases S (map fill (gaps node S)) f cf) [
-              | inl other ↦ are.distinct e f old other is
-              | inr new ↦ absurd (apart e f old new is)
-            ]
-        | inr new ↦
-            elim (Contains-append_cases S (map fill (gaps node S)) f cf) [
-              | inl old ↦ absurd (apart f e old new (sym is))
-              | inr other ↦
-                  let (d, _, this) = filling e new in
-                  let (c, _, that) = filling f other in
-                  let digests : d ≡ c =
-                  sym (fills.bears d) ∙ ap (λ (x : T). (node x).digest) this ∙ is
-                  ∙ ap (λ (x : T). (node x).digest) (sym that) ∙ fills.bears c in
-                  sym this ∙ ap fill digests ∙ that
-            ]
+      elim (filled_cases e ce) [
+        | inl old ↦ elim (filled_cases f cf) [
+          | inl other ↦ are.distinct e f old other is
+          | inr (d, gap, same) ↦ absurd (apart e f d old gap same is)
+        ]
+        | inr (d, gap, same) ↦ elim (filled_cases f cf) [
+          | inl old ↦ absurd (apart f e d old gap same (sym is))
+          | inr (c, _, other) ↦ cc (fills.bears d, fills.bears c)
+        ]
       ]
 
   -- the filled entries have every digest that the survivors have
@@ -72,47 +66,34 @@ module _ {T : Type 0} (node : T → Node) (machines : ℕ) (S : List T) (fill : 
 
   lacks_nothing : (d : List ℕ) → IsNamedIn node filled d → IsBorneIn node filled d
   lacks_nothing d (e, c, names) =
-      elim (Contains-append_cases S (map fill (gaps node S)) e c) [
-        | inl old ↦
-            elim (gap_or_bearer node S e d old names) [
-              | inl gap ↦ (
-                fill d,
-                Contains-append_right S (map fill (gaps node S)) (fill d)
-                    (Contains-map fill (gaps node S) d gap),
-                fills.bears d,
-              )
-              | inr has ↦ borne d has
-            ]
-        | inr new ↦
-            let (g, gap, same) = filling e new in
-            borne d (fills.names g d (subst (λ (x : T). Contains (node x).names d) (sym same) names))
+      elim (filled_cases e c) [
+        | inl old ↦ elim (gap_or_bearer node S e d old names)
+            [ inl gap ↦ (fill d, in_filled d gap, fills.bears d) | inr has ↦ borne d has ]
+        | inr (g, _, same) ↦ borne d (fills.names g d (subst (λ v. Contains (node v).names d) (sym same) names))
       ]
 
   -- they complete the survivors
   pub completes : Completion node machines S filled
-  completes =
-      record {
-        in_roster = in_roster;
-        keeps = λ e there. Contains-append_left S (map fill (gaps node S)) e there;
-        distinct = distinct;
-        lacks_nothing = lacks_nothing;
-      }
+  completes = record {
+    in_roster = in_roster;
+    keeps = Contains-append_left S (map fill (gaps node S));
+    distinct = distinct;
+    lacks_nothing = lacks_nothing;
+  }
 
   module _ (nothing : (d c : List ℕ) → Contains (node (fill d)).names c → ⊥) where
     -- where they name nothing no path goes through them
     old_path : (f : T) (between : List T) (e : T) → Contains S f → IsPath node filled f between e → IsPath node S f between e
     old_path f [] e there p = p
     old_path f (g ∷ gs) e there (c, names, rest) =
-        elim (Contains-append_cases S (map fill (gaps node S)) g c) [
+        elim (filled_cases g c) [
           | inl old ↦ (old, names, old_path g gs e old rest)
-          | inr new ↦
-              let (d, gap, same) = filling g new in
-              absurd (nothing d (node f).digest
-              (subst (λ (x : T). Contains (node x).names (node f).digest) (sym same) names))
+          | inr (d, _, same) ↦ absurd (nothing d (node f).digest
+              (subst (λ v. Contains (node v).names (node f).digest) (sym same) names))
         ]
 
     -- nothing precedes a survivor in the completion that doesn't among survivors
-    pub old_order : (y x : T) → Contains S y → Contains S x → Precedes node filled y x → Precedes node S y x
+    old_order : (y x : T) → Contains S y → Contains S x → Precedes node filled y x → Precedes node S y x
     old_order y x cy cx (_, _, between, path) = (cy, cx, between, old_path y between x cy path)
 
 -- all such entries have a completion, where there is an entry for each digest
@@ -132,18 +113,14 @@ module _ {T : Type 0} (node : T → Node) (made : List (List ℕ) → List ℕ �
   no_names : (d c : List ℕ) → Contains (node (made [] d)).names c → ⊥
   no_names d c there = Contains-none c (subst (λ ns. Contains ns c) (named [] d) there)
 
+  -- they fill the gaps
+  bare : (S : List T) → Fills node S (made [])
+  bare S = record { bears = bears []; maker = maker []; names = λ d c names. absurd (no_names d c names) }
+
   module _ (machines : ℕ) (S : List T) (are : AreSurvivors node machines S) (y x : T) (cy : Contains S y)
       (cx : Contains S x) where
-    -- what precedes in each completion precedes among the survivors
-    pub always_is_known : ((G : List T) → Completion node machines S G → Precedes node G y x) → Precedes node S y x
-    always_is_known always =
-        let bare : Fills node S (made []) =
-        record { bears = bears []; maker = maker []; names = λ d c names. absurd (no_names d c names) } in
-        old_order node machines S (made []) bare are no_names y x cy cx
-        (always (filled node machines S (made []) bare are) (completes node machines S (made []) bare are))
-
     -- what precedes in no completion is known not to: the later one is whole
-    pub never_is_known : ((G : List T) → Completion node machines S G → ¬ Precedes node G y x) → IsWhole node S x
+    never_is_known : ((G : List T) → Completion node machines S G → ¬ Precedes node G y x) → IsWhole node S x
     never_is_known never =
         let target : List ℕ = (node y).digest in
         let only : List (List ℕ) = target ∷ [] in
@@ -151,53 +128,35 @@ module _ {T : Type 0} (node : T → Node) (made : List (List ℕ) → List ℕ �
         record {
           bears = bears only;
           maker = maker only;
-          names = λ d c names.
-              elim (Contains-cons_cases target [] c (subst (λ ns. Contains ns c) (named only d) names)) [
-                | inl is ↦ (y, cy, is)
-                | inr none ↦ absurd (Contains-none c none)
-              ];
+          names = λ d c names. (y, cy, Contains-one target c (subst (λ ns. Contains ns c) (named only d) names));
         } in
         let all : List T = filled node machines S (made only) tying are in
         let whole : Completion node machines S all = completes node machines S (made only) tying are in
-        let there : (d : List ℕ) → Contains (gaps node S) d → Contains all (made only d) =
-        λ d gap. Contains-append_right S (map (made only) (gaps node S)) (made only d)
-        (Contains-map (made only) (gaps node S) d gap) in
-        let ties : (d : List ℕ) → Names node (made only d) y =
-        λ d. subst (λ ns. Contains ns target) (sym (named only d)) (Contains-head target []) in
-        let is_named : (z : T) (d : List ℕ) → Contains (node z).names d → Names node z (made only d) =
-        λ z d n. subst (λ c. Contains (node z).names c) (sym (bears only d)) n in
-        record {
-          itself = λ d n gap. never all whole
-              (whole.keeps y cy, whole.keeps x cx, made only d ∷ [], (there d gap, ties d, is_named x d n));
-          ancestors = λ z before d n gap.
-              let (in_z, _, between, path) = before_in_completion node S machines all whole z x before in
-              never all whole (
-                whole.keeps y cy,
-                whole.keeps x cx,
-                made only d ∷ z ∷ between,
-                (there d gap, ties d, (in_z, is_named z d n, path)),
-              );
-        }
+        let ties : (z : T) → IsNoLater node S z x → NamesNoGap node S z =
+        λ z near d names gap.
+        let there = in_filled node machines S (made only) tying are d gap in
+        let first : Names node (made only d) y = subst (λ ns. Contains ns target) (sym (named only d)) (Contains-head target []) in
+        let then : Names node z (made only d) = subst (Contains (node z).names) (sym (bears only d)) names in
+        never all whole (precedes_on node all y z x
+        (whole.keeps y cy, whole.keeps z (is_there node S z x cx near), made only d ∷ [], (there, first, then))
+        (no_later_in_completion node S machines all whole z x near)) in
+        record { itself = ties x (inl refl); ancestors = λ z before. ties z (inr before) }
 
   -- what is reported of the order is exact
   pub order_is_exact : OrderIsExact node
-  order_is_exact machines S are y x cy cx = (
-    (
-      λ before G all. before_in_completion node S machines G all y x before,
-      always_is_known machines S are y x cy cx,
-    ),
-    (
-      λ (whole, not_before) G all path.
-          not_before (before_among_survivors node S machines G all y x cx whole path),
-      λ never. (
-        never_is_known machines S are y x cy cx never,
-        λ before.
-            let bare : Fills node S (made []) =
-            record { bears = bears []; maker = maker []; names = λ d c names. absurd (no_names d c names) } in
-            let all : Completion node machines S (filled node machines S (made []) bare are) =
-            completes node machines S (made []) bare are in
-            never (filled node machines S (made []) bare are) all
-            (before_in_completion node S machines (filled node machines S (made []) bare are) all y x before),
-      ),
-    ),
-  )
+  order_is_exact machines S are y x cy cx =
+      let all : List T = filled node machines S (made []) (bare S) are in
+      let complete : Completion node machines S all = completes node machines S (made []) (bare S) are in (
+        (
+          λ before G some. before_in_completion node S machines G some y x before,
+          λ always. old_order node machines S (made []) (bare S) are no_names y x cy cx (always all complete),
+        ),
+        (
+          λ (whole, not_before) G some path.
+              not_before (before_among_survivors node S machines G some y x cx whole path),
+          λ never. (
+            never_is_known machines S are y x cy cx never,
+            λ before. never all complete (before_in_completion node S machines all complete y x before),
+          ),
+        ),
+      )

@@ -1,30 +1,14 @@
 -- Survivors that are sorted by stamp have a graph whose nodes are their places.
-use Rattle.entry_order.proofs.Imports.{◌≡◌, ℕ, zero, suc, ◌<◌, Bool, true, false, List, [], ◌∷◌, ◌++◌, length, refl}
-use Rattle.entry_order.proofs.Imports.{sym, ap, subst, ◌∙◌, inl, inr, arith, None, Option, ◌↔◌, slice_get, Contains}
-use Rattle.entry_order.proofs.Imports.{filter, list_any, bytes_eq, true≢false, false_from_ne_true, cases_eq}
-use Rattle.entry_order.proofs.Imports.{Contains-append_left, Contains-append_right, slice_get_within}
-use Rattle.entry_order.proofs.Imports.{bytes_eq-Decides, Node, Names, names_digest, IsStray, gaps, NamesNoGap}
-use Rattle.entry_order.proofs.Imports.{SurvivorsHaveAGraph}
-use Rattle.std.proofs.Common.{Some}
-use Rattle.entry_order.proofs.Lists.{Contains-head, Contains-filter, Contains-filter_cases, list_any_some, list_any_of}
-use Rattle.entry_order.proofs.Naming.{names_digest_of, names_digest_from}
-use Rattle.entry_order.proofs.Strays.{survivors_are_no_strays}
-use Rattle.entry_order.proofs.Numbered.{descends_by_stamp}
-
--- the numbers below n
-abbrev numbers : ℕ → List ℕ
-numbers zero = []
-numbers (suc n) = numbers n ++ n ∷ []
-
--- each number below n is among them
-in_numbers : (n p : ℕ) → p < n → Contains (numbers n) p
-in_numbers zero p l = absurd (omega arith)
-in_numbers (suc n) p l =
-    elim (cases_eq p n) [
-      | inl e ↦ Contains-append_right (numbers n) (n ∷ []) p
-          (subst (λ u. Contains (n ∷ []) u) (sym e) (Contains-head n []))
-      | inr e ↦ Contains-append_left (numbers n) (n ∷ []) p (in_numbers n p (omega arith))
-    ]
+use Rattle.entry_order.proofs.Imports.{◌≡◌, ℕ, Bool, true, false, List, length, refl, sym, ap, subst, ◌∙◌, None, Option}
+use Rattle.entry_order.proofs.Imports.{◌↔◌, slice_get, Contains, filter, list_any, bytes_eq, true≢false}
+use Rattle.entry_order.proofs.Imports.{false_from_ne_true, slice_get_within, Node, Names, names_digest, IsStray, gaps}
+use Rattle.entry_order.proofs.Imports.{NamesNoGap, SurvivorsHaveAGraph, ◌≤◌, inl, inr, arith, IsNonDecreasingBy}
+use Rattle.entry_order.proofs.Imports.{cases_lt, get_or_from_slice_get, Descends, Some}
+use Rattle.entry_order.proofs.Lists.{Contains-filter, Contains-filter_cases, list_any_some, list_any_of, numbers}
+use Rattle.entry_order.proofs.Lists.{in_numbers}
+use Rattle.entry_order.proofs.Naming.{names_digest_of, names_digest_from, is_among}
+use Rattle.entry_order.proofs.Strays.{survivors_are_no_strays, stamp_rises}
+use Rattle.entry_order.proofs.Places.{member_at, one_at}
 
 module _ {T : Type 0} (node : T → Node) (S : List T) where
   -- whether the entry at one place, if there is one, names that at another
@@ -70,27 +54,30 @@ module _ {T : Type 0} (node : T → Node) (S : List T) where
   arrow_from i p e f ie pf n =
       Contains-filter (λ p. names_both (slice_get S i) (slice_get S p)) (numbers (length S)) p
       (in_numbers (length S) p (slice_get_within S p f pf))
-      (ap (λ o. names_both o (slice_get S p)) ie ∙ ap (names_both (Some e)) pf
-      ∙ names_digest_of node e (node f).digest n)
+      (rw (ie, pf) (names_digest_of node e (node f).digest n))
 
-  -- a gap is found
-  is_gap_of : (d : List ℕ) → Contains (gaps node S) d → is_gap d ≡ true
-  is_gap_of d c = list_any_of (λ c. bytes_eq c d) (gaps node S) d c ((bytes_eq-Decides d d).1 refl)
-
-  -- what is found is a gap
-  is_gap_from : (d : List ℕ) → is_gap d ≡ true → Contains (gaps node S) d
-  is_gap_from d t =
-      let (g, there, same) = list_any_some (λ c. bytes_eq c d) (gaps node S) t in
-      subst (λ u. Contains (gaps node S) u) ((bytes_eq-Decides g d).0 same) there
+  -- where places go by stamps, what an entry names is below it
+  descends : IsNonDecreasingBy (λ e. (node e).stamp) S → ((e : T) → Contains S e → ¬ (IsStray node S e)) →
+      Descends parents_of
+  descends sorted sound i p c =
+      let (e, f, at_i, at_p, names) = arrow_cases i p c in
+      let up = stamp_rises node S e f (sound e (member_at S i e at_i)) (member_at S p f at_p) names in
+      let high : i ≤ p → ⊥ =
+      λ le.
+      let s = sorted i p e le (slice_get_within S p f at_p) in
+      let a = ap (λ e. (node e).stamp) (get_or_from_slice_get S i e e at_i) in
+      let b = ap (λ e. (node e).stamp) (get_or_from_slice_get S p f e at_p) in
+      omega arith in
+      elim (cases_lt p i) [ inl l ↦ l | inr l ↦ absurd (high l) ]
 
   -- a place isn't ragged exactly when its entry names no gap
   gaps_shown : (i : ℕ) (e : T) → slice_get S i ≡ Some e → (ragged_of i ≡ false) ↔ NamesNoGap node S e
   gaps_shown i e ie = (
     λ clean d named gap.
-        true≢false (sym (list_any_of is_gap (node e).names d named (is_gap_of d gap)) ∙ sym (ap is_ragged ie) ∙ clean),
+        true≢false (sym (list_any_of is_gap (node e).names d named ((is_among (gaps node S) d).1 gap)) ∙ sym (ap is_ragged ie) ∙ clean),
     λ free.
         let none : list_any is_gap (node e).names ≡ true → ⊥ =
-        λ t. let (d, named, gap) = list_any_some is_gap (node e).names t in free d named (is_gap_from d gap) in
+        λ t. let (d, named, gap) = list_any_some is_gap (node e).names t in free d named ((is_among (gaps node S) d).0 gap) in
         ap is_ragged ie ∙ false_from_ne_true (list_any is_gap (node e).names) none,
   )
 
@@ -100,14 +87,13 @@ survivors_have_a_graph {T} node S sorted kept = (
   parents_of node S,
   ragged_of node S,
   record {
-    descends = descends_by_stamp node S (parents_of node S) sorted sound (arrow_cases node S);
+    descends = descends node S sorted sound;
     inside = λ i p c. let (_, f, _, at_p, _) = arrow_cases node S i p c in (f, at_p);
     arrows = λ i p e f ie pf. (
       λ c.
           let (g, h, at_i, at_p, names) = arrow_cases node S i p c in
-          let first : g ≡ e = (let two = sym at_i ∙ ie in cc) in
-          let second : h ≡ f = (let two = sym at_p ∙ pf in cc) in
-          subst (λ u. Names node u f) first (subst (λ u. Names node g u) second names),
+          subst (λ u. Names node u f) (one_at S i g e at_i ie)
+          (subst (λ u. Names node g u) (one_at S p h f at_p pf) names),
       arrow_from node S i p e f ie pf,
     );
     gaps_shown = gaps_shown node S;

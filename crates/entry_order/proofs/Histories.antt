@@ -1,10 +1,10 @@
 -- Histories with one event more: what is sent and held then, and whether they stay legal.
-use Rattle.entry_order.proofs.Imports.{◌≡◌, ℕ, zero, suc, ◌+◌, ◌≤◌, max, List, [], ◌∷◌, ◌++◌, length, refl, sym, ap}
-use Rattle.entry_order.proofs.Imports.{subst, ◌∙◌, ◌⊎◌, inl, inr, append_assoc, arith, slice_get, Contains}
-use Rattle.entry_order.proofs.Imports.{append-nil, fold-append, map-append, Event, Sent, Got, Node, IsNew, entry_of}
-use Rattle.entry_order.proofs.Imports.{held, sent, greatest_stamp, MayFollow, IsLegal}
-use Rattle.std.specs.Prelude.{Some}
+use Rattle.entry_order.proofs.Imports.{◌≡◌, ℕ, zero, suc, ◌+◌, ◌≤◌, max, List, [], ◌∷◌, ◌++◌, length, refl, ap, subst}
+use Rattle.entry_order.proofs.Imports.{◌∙◌, ◌⊎◌, inl, inr, append_assoc, arith, slice_get, Contains, append-nil}
+use Rattle.entry_order.proofs.Imports.{fold-append, map-append, Event, Sent, Got, Node, IsNew, entry_of, held, sent}
+use Rattle.entry_order.proofs.Imports.{greatest_stamp, MayFollow, IsLegal, Some}
 use Rattle.entry_order.proofs.Lists.{Contains-at, Contains-later}
+use Rattle.std.proofs.lemmas.List.{length_push}
 
 -- ---- one more at the end
 
@@ -48,15 +48,11 @@ module _ {T : Type 0} where
 
   -- a step that sends adds one entry to those sent
   pub sent_one_more : (p : List (Event T)) (e : T) → length (sent (p ++ Sent e ∷ [])) ≡ length (sent p) + 1
-  sent_one_more [] e = refl
-  sent_one_more (Sent g ∷ p) e = omega (arith, sent_one_more p e)
-  sent_one_more (Got g ∷ p) e = sent_one_more p e
+  sent_one_more p e = ap length (sent-append p (Sent e ∷ [])) ∙ length_push (sent p) e
 
   -- a receipt is none
   pub sent_as_many : (p : List (Event T)) (e : T) → length (sent (p ++ Got e ∷ [])) ≡ length (sent p)
-  sent_as_many [] e = refl
-  sent_as_many (Sent g ∷ p) e = omega (arith, sent_as_many p e)
-  sent_as_many (Got g ∷ p) e = sent_as_many p e
+  sent_as_many p e = ap length (sent-append p (Got e ∷ []) ∙ append-nil (sent p))
 
   -- no more entries were sent than there are events
   pub sent_few : (h : List (Event T)) → length (sent h) ≤ length h
@@ -83,8 +79,7 @@ module _ {T : Type 0} (node : T → Node) where
   IsLegal-push owner h x legal may before y later e =
       elim (last_or_earlier h x before y later e) [
         | inl (rest, is) ↦ legal before y rest is
-        | inr (is, same) ↦ subst (λ (u : Event T). MayFollow node owner before u) same
-            (subst (λ (p : List (Event T)). MayFollow node owner p x) is may)
+        | inr (is, same) ↦ subst (MayFollow node owner before) same (subst (λ p. MayFollow node owner p x) is may)
       ]
 
   -- the empty history is legal
@@ -117,13 +112,11 @@ module _ {T : Type 0} (node : T → Node) where
   few_sent_from : (owner : ℕ) (p q : List (Event T)) → IsLegal node owner (p ++ q) →
       length (sent p) ≤ greatest_stamp node (held p) →
       length (sent (p ++ q)) ≤ greatest_stamp node (held (p ++ q))
-  few_sent_from owner p [] legal few =
-      subst (λ (h : List (Event T)). length (sent h) ≤ greatest_stamp node (held h)) (sym (append-nil p)) few
+  few_sent_from owner p [] legal few = rw (append-nil p) few
   few_sent_from owner p (x ∷ q) legal few =
-      let same : (p ++ x ∷ []) ++ q ≡ p ++ x ∷ q = append_assoc p (x ∷ []) q in
-      let one = few_sent_push owner p x (legal p x q refl) few in
-      subst (λ (h : List (Event T)). length (sent h) ≤ greatest_stamp node (held h)) same
-      (few_sent_from owner (p ++ x ∷ []) q (subst (λ (h : List (Event T)). IsLegal node owner h) (sym same) legal) one)
+      rw (append_assoc p (x ∷ []) q) at
+      (few_sent_from owner (p ++ x ∷ []) q (rw (append_assoc p (x ∷ []) q) legal)
+      (few_sent_push owner p x (legal p x q refl) few))
 
   -- in a legal history at most as many entries were sent as the greatest stamp says
   pub few_sent : (owner : ℕ) (h : List (Event T)) → IsLegal node owner h →

@@ -1,15 +1,14 @@
 -- What is left of an honest place.
 use Rattle.entry_order.proofs.Imports.{◌≡◌, ℕ, ◌<◌, false, List, [], ◌∷◌, ◌++◌, length, refl, sym, ap, subst, ◌∙◌}
-use Rattle.entry_order.proofs.Imports.{arith, not, Contains, not_from_false, Event, Sent, Got, Node, IsNamedIn}
-use Rattle.entry_order.proofs.Imports.{IsBorneIn, Distinct, held, sent, World, start, history, sent_in, play}
-use Rattle.entry_order.proofs.Imports.{IsOrderly, is_stray, gaps, Completion, HasNoFork, OrderIsHeld, IsAllKnown}
-use Rattle.entry_order.proofs.Imports.{AgreesWith, HonestEntriesAgree, HonestEntriesAgreeInOrderlyWorlds}
-use Rattle.entry_order.proofs.Imports.{NumberedIsDistinct}
+use Rattle.entry_order.proofs.Imports.{arith, not, Contains, not_from_false, Event, Sent, Node, IsNamedIn, IsBorneIn}
+use Rattle.entry_order.proofs.Imports.{Distinct, held, sent, World, start, history, sent_in, play, IsOrderly, is_stray}
+use Rattle.entry_order.proofs.Imports.{gaps, Completion, HasNoFork, OrderIsHeld, IsAllKnown, AgreesWith}
+use Rattle.entry_order.proofs.Imports.{HonestEntriesAgree, HonestEntriesAgreeInOrderlyWorlds, NumberedIsDistinct}
 use Rattle.entry_order.proofs.Lists.{Contains-head, filter_all}
 use Rattle.entry_order.proofs.Frontiers.{frontier_entry}
 use Rattle.entry_order.proofs.Strays.{no_stray_from}
 use Rattle.entry_order.proofs.Completions.{gap_cases}
-use Rattle.entry_order.proofs.Machines.{in_world, length_start, length_play}
+use Rattle.entry_order.proofs.Machines.{in_world, length_start, length_play, nth_of_sent}
 use Rattle.entry_order.proofs.Orders.{was_sent, held_was_sent, next_of, rises, one_order}
 use Rattle.entry_order.proofs.Plays.{IsOrderly-play, IsOrderly-start}
 use Rattle.entry_order.proofs.Settled.{settled}
@@ -18,17 +17,7 @@ use Rattle.entry_order.proofs.Places.{member_at}
 -- in one history, the entry that was sent after a given number of others is one
 nth_sent : {T : Type 0} (p q : List (Event T)) (e f : T) (l m : List (Event T)) →
     p ++ Sent e ∷ l ≡ q ++ Sent f ∷ m → length (sent p) ≡ length (sent q) → e ≡ f
-nth_sent [] [] e f l m s n = cc
-nth_sent [] (Sent g ∷ q) e f l m s n = absurd (omega arith)
-nth_sent [] (Got g ∷ q) e f l m s n = cc
-nth_sent (Sent g ∷ p) [] e f l m s n = absurd (omega arith)
-nth_sent (Got g ∷ p) [] e f l m s n = cc
-nth_sent (Sent g ∷ p) (Sent h ∷ q) e f l m s n =
-    let tail : p ++ Sent e ∷ l ≡ q ++ Sent f ∷ m = cc in nth_sent p q e f l m tail (omega arith)
-nth_sent (Sent g ∷ p) (Got h ∷ q) e f l m s n = cc
-nth_sent (Got g ∷ p) (Sent h ∷ q) e f l m s n = cc
-nth_sent (Got g ∷ p) (Got h ∷ q) e f l m s n =
-    let tail : p ++ Sent e ∷ l ≡ q ++ Sent f ∷ m = cc in nth_sent p q e f l m tail n
+nth_sent p q e f l m s n = cc (nth_of_sent p e l, nth_of_sent q f m)
 
 -- a list without a member is empty
 pub none_inside : {X : Type 0} (xs : List X) → ((x : X) → Contains xs x → ⊥) → xs ≡ []

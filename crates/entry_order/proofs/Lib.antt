@@ -5,6 +5,7 @@ pub mod Comparisons
 pub mod Rising
 pub mod Naming
 pub mod Stamps
+pub mod Paths
 pub mod Ascending
 pub mod Frontiers
 pub mod Held
@@ -26,6 +27,5 @@ pub mod Made
 pub mod Ranks
 pub mod Merged
 pub mod MergedOrder
-pub mod Numbered
 pub mod Forms
 pub mod Graphs

@@ -1,9 +1,8 @@
 -- Worlds of which one machine is changed, and how many machines they have.
-use Rattle.std.proofs.Common.{Some}
 use Rattle.entry_order.proofs.Imports.{◌≡◌, ℕ, zero, suc, ◌<◌, true, false, cond, List, [], ◌∷◌, ◌++◌, length, Option}
 use Rattle.entry_order.proofs.Imports.{refl, ap, ◌∙◌, arith, slice_get, ◌==◌, Event, Sent, Got, Step, Act, Hear, Stop}
 use Rattle.entry_order.proofs.Imports.{Node, sent, Machine, World, start, history, with_machine, stop, send, hear}
-use Rattle.entry_order.proofs.Imports.{happens, play}
+use Rattle.entry_order.proofs.Imports.{happens, play, Some}
 
 -- a world has as many machines as it was started with
 pub length_start : (T : Type 0) (n : ℕ) → length (start {T = T} n) ≡ n

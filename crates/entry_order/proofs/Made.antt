@@ -1,8 +1,7 @@
 -- What is made of the frontier is what a legal history asks.
-use Rattle.std.proofs.Common.{Some}
-use Rattle.entry_order.proofs.Imports.{◌≡◌, ℕ, ◌+◌, Bool, true, false, cond, List, None, length, refl, subst, not}
-use Rattle.entry_order.proofs.Imports.{◌&&◌, and_parts, not-true, Sent, Node, has_digest, frontier, held, sent}
-use Rattle.entry_order.proofs.Imports.{greatest_stamp, MayFollow, made_after, MadeIsLawful}
+use Rattle.entry_order.proofs.Imports.{◌≡◌, ℕ, ◌+◌, Bool, true, false, cond, List, None, length, refl, subst, not, ◌&&◌}
+use Rattle.entry_order.proofs.Imports.{and_parts, not-true, Sent, Node, has_digest, frontier, held, sent}
+use Rattle.entry_order.proofs.Imports.{greatest_stamp, MayFollow, made_after, MadeIsLawful, Some}
 use Rattle.entry_order.proofs.Plays.{IsNew-from_test}
 
 -- its digest is tested, and its parts are what is asked

@@ -1,54 +1,32 @@
 -- The two orders are one, in each world whose histories are legal and whose entries were sent
 -- before they were got.
-use Rattle.entry_order.proofs.Imports.{◌≡◌, ℕ, zero, suc, ◌+◌, ◌<◌, Bool, true, false, List, [], ◌∷◌, ◌++◌, length}
-use Rattle.entry_order.proofs.Imports.{refl, sym, ap, subst, inl, inr, Option, arith, slice_get, ◌↔◌, Contains}
-use Rattle.entry_order.proofs.Imports.{Contains-append_left, Contains-append_right, slice_get_read, Event, Sent, Got}
-use Rattle.entry_order.proofs.Imports.{Node, Names, is_named, Distinct, entry_of, held, sent, greatest_stamp, IsNext}
-use Rattle.entry_order.proofs.Imports.{Machine, World, history, history_of, sent_in, WasSentAfter, HeldBefore}
-use Rattle.entry_order.proofs.Imports.{HeldBefore.itself, HeldBefore.descendant, IsPath, Precedes, IsOrderly}
-use Rattle.entry_order.proofs.Imports.{NamesWereHeld, StampsRise}
-use Rattle.std.proofs.Common.{Some}
-use Rattle.entry_order.proofs.Lists.{Contains-none, Contains-head, Contains-later, Contains-at, Contains-cons_cases}
-use Rattle.entry_order.proofs.Lists.{Contains-map_cases, Contains-flat_map_cases}
-use Rattle.entry_order.proofs.Frontiers.{frontier_entry, in_frontier}
-use Rattle.entry_order.proofs.Naming.{is_named_from}
+use Rattle.entry_order.proofs.Imports.{◌≡◌, ℕ, zero, suc, ◌+◌, ◌<◌, List, [], ◌∷◌, ◌++◌, sym, subst, inl, inr, arith}
+use Rattle.entry_order.proofs.Imports.{◌↔◌, Contains, Contains-append_left, Contains-append_right, Event, Sent, Got}
+use Rattle.entry_order.proofs.Imports.{Node, Names, Distinct, entry_of, held, sent, greatest_stamp, IsNext, Machine}
+use Rattle.entry_order.proofs.Imports.{World, history, sent_in, WasSentAfter, HeldBefore, HeldBefore.itself, IsPath}
+use Rattle.entry_order.proofs.Imports.{HeldBefore.descendant, Precedes, IsOrderly, NamesWereHeld, StampsRise}
+pub use Rattle.entry_order.proofs.Lists.{member_split}
+use Rattle.entry_order.proofs.Lists.{Contains-none, Contains-middle, Contains-map_cases, Contains-flat_map_cases}
+use Rattle.entry_order.proofs.Places.{place_of}
+use Rattle.entry_order.proofs.Histories.{sent-append, nth_split}
+use Rattle.entry_order.proofs.Paths.{path_over}
+use Rattle.entry_order.proofs.Frontiers.{frontier_entry, frontier_or_named}
 use Rattle.entry_order.proofs.Stamps.{stamp_below}
 
 -- ---- what was sent
 
--- a member is between what is before it and what is later
-pub member_split : {X : Type 0} (xs : List X) (x : X) → Contains xs x →
-    (before : List X) × (later : List X) × (xs ≡ before ++ x ∷ later)
-member_split [] x c = absurd (Contains-none x c)
-member_split {X} (z ∷ xs) x c =
-    let deeper : Contains xs x → (before : List X) × (later : List X) × (z ∷ xs ≡ before ++ x ∷ later) =
-    λ l. let (before, later, is) = member_split xs x l in (z ∷ before, later, ap (λ ys. z ∷ ys) is) in
-    elim (Contains-cons_cases z xs x c) [ inl s ↦ ([], xs, ap (λ u. u ∷ xs) s) | inr l ↦ deeper l ]
-
 module _ {T : Type 0} where
   -- an entry that was sent is among those sent
   pub Contains-sent : (h : List (Event T)) (e : T) → Contains h (Sent e) → Contains (sent h) e
-  Contains-sent [] e c = absurd (Contains-none (Sent e) c)
-  Contains-sent (Sent g ∷ h) e c =
-      let first : Sent g ≡ Sent e → g ≡ e = λ s. cc in
-      elim (Contains-cons_cases (Sent g) h (Sent e) c) [
-        | inl s ↦ Contains-at g (sent h) e
-            (first s)
-        | inr l ↦ Contains-later g (sent h) e (Contains-sent h e l)
-      ]
-  Contains-sent (Got g ∷ h) e c =
-      elim (Contains-cons_cases (Got g) h (Sent e) c) [ inl s ↦ cc | inr l ↦ Contains-sent h e l ]
+  Contains-sent h e c =
+      let (p, l, is) = member_split h (Sent e) c in
+      rw (is, sent-append p (Sent e ∷ l)) (Contains-middle (sent p) e (sent l))
 
   -- an entry among those sent was sent
   pub Contains-sent_cases : (h : List (Event T)) (e : T) → Contains (sent h) e → Contains h (Sent e)
-  Contains-sent_cases [] e c = absurd (Contains-none e c)
-  Contains-sent_cases (Sent g ∷ h) e c =
-      elim (Contains-cons_cases g (sent h) e c) [
-        | inl s ↦ Contains-at (Sent g) h (Sent e)
-            (ap Sent s)
-        | inr l ↦ Contains-later (Sent g) h (Sent e) (Contains-sent_cases h e l)
-      ]
-  Contains-sent_cases (Got g ∷ h) e c = Contains-later (Got g) h (Sent e) (Contains-sent_cases h e c)
+  Contains-sent_cases h e c =
+      let (i, at) = place_of (sent h) e c in
+      let (p, l, is, _) = nth_split h i e at in rw is (Contains-middle p (Sent e) l)
 
   -- what a machine sent was sent in the world
   pub sent_in_from : (w : World T) (m : ℕ) (e : T) → Contains (history w m) (Sent e) → Contains (sent_in w) e
@@ -59,12 +37,8 @@ module _ {T : Type 0} where
   -- what was sent in the world a machine sent
   pub sent_in_cases : (w : World T) (e : T) → Contains (sent_in w) e → (m : ℕ) × Contains (history w m) (Sent e)
   sent_in_cases w e c =
-      let (a, (m, within, is), there) = Contains-flat_map_cases (λ (a : Machine T). sent a.history) w e c in
-      let at : slice_get w m ≡ Some a = slice_get_read w (length w) m a refl within (sym is) in (
-        m,
-        subst (λ (o : Option (Machine T)). Contains (history_of o) (Sent e)) (sym at)
-            (Contains-sent_cases a.history e there),
-      )
+      let (a, at_a, there) = Contains-flat_map_cases (λ (a : Machine T). sent a.history) w e c in
+      let (m, at) = place_of w a at_a in (m, rw at (Contains-sent_cases a.history e there))
 
   -- each entry that was sent was sent after some history
   pub was_sent : (w : World T) (e : T) → Contains (sent_in w) e → (past : List (Event T)) × WasSentAfter w past e
@@ -75,16 +49,7 @@ module _ {T : Type 0} where
 
   -- what was sent after a history was sent
   pub sent_from_after : (w : World T) (past : List (Event T)) (e : T) → WasSentAfter w past e → Contains (sent_in w) e
-  sent_from_after w past e (m, later, is) =
-      sent_in_from w m e
-      (subst (λ (h : List (Event T)). Contains h (Sent e)) (sym is)
-      (Contains-append_right past (Sent e ∷ later) (Sent e) (Contains-head (Sent e) later)))
-
--- two paths make one
-join : {T : Type 0} (node : T → Node) (E : List T) (f : T) (bs : List T) (g : T) (cs : List T) (e : T) →
-    IsPath node E f bs g → Contains E g → IsPath node E g cs e → IsPath node E f (bs ++ g ∷ cs) e
-join node E f [] g cs e p c q = (c, p, q)
-join node E f (b ∷ bs) g cs e (there, names, rest) c q = (there, names, join node E b bs g cs e rest c q)
+  sent_from_after w past e (m, later, is) = sent_in_from w m e (rw is (Contains-middle past (Sent e) later))
 
 -- who held g held what g's maker held
 pub along : {T : Type 0} (w : World T) (f g e : T) → HeldBefore w f g → HeldBefore w g e → HeldBefore w f e
@@ -97,13 +62,11 @@ module _ {T : Type 0} (node : T → Node) (w : World T) (orderly : IsOrderly nod
       Contains (sent_in w) f
   held_was_sent past e (m, later, is) f c =
       let (x, there, same) = Contains-map_cases entry_of past f c in
-      of_event x
-      (subst (λ (h : List (Event T)). Contains h x) (sym is)
-      (Contains-append_left past (Sent e ∷ later) x there)) same
+      of_event x (rw is (Contains-append_left past (Sent e ∷ later) x there)) same
     where
       of_event : (x : Event T) → Contains (history w m) x → entry_of x ≡ f → Contains (sent_in w) f
-      of_event (Sent g) h s = subst (λ (u : T). Contains (sent_in w) u) s (sent_in_from w m g h)
-      of_event (Got g) h s = subst (λ (u : T). Contains (sent_in w) u) s (orderly.heard m g h)
+      of_event (Sent g) h s = subst (Contains (sent_in w)) s (sent_in_from w m g h)
+      of_event (Got g) h s = subst (Contains (sent_in w)) s (orderly.heard m g h)
 
   -- what a legal history asks of e
   pub next_of : (past : List (Event T)) (e : T) (s : WasSentAfter w past e) → IsNext node s.0 past e
@@ -135,32 +98,19 @@ module _ {T : Type 0} (node : T → Node) (w : World T) (orderly : IsOrderly nod
         let (past, s) = was_sent w g cg in held_lower past g s f (named_held past g s f cf n)
 
     -- from each entry that e's maker held there is a path to e: it is in the frontier, or a later
-    -- one held names it
-    covered_by : (past : List (Event T)) (e : T) → WasSentAfter w past e → (fuel : ℕ) (f : T) →
-        Contains (held past) f → greatest_stamp node (held past) < (node f).stamp + suc fuel → (b : Bool) →
-        is_named node (held past) (node f).digest ≡ b
-        → ((g : T) → Contains (held past) g → greatest_stamp node (held past) < (node g).stamp + fuel →
-        (between : List T) × IsPath node (sent_in w) g between e)
-        → (between : List T) × IsPath node (sent_in w) f between e
-    covered_by past e s fuel f c enough false free from = (
-      [],
-      subst (λ (ds : List (List ℕ)). Contains ds (node f).digest) (sym (next_of past e s).names)
-          (in_frontier node (held past) f c free),
-    )
-    covered_by past e s fuel f c enough true named from =
-        let (g, there, names) = is_named_from node (held past) (node f).digest named in
-        let cg = held_was_sent past e s g there in
-        let up = rises f g (held_was_sent past e s f c) cg names in
-        let (between, path) = from g there (omega arith) in
-        (g ∷ between, (cg, names, path))
-
-    -- so it is by induction on how far the stamp is below the greatest
+    -- one held names it; by induction on how far the stamp is below the greatest
     covered : (past : List (Event T)) (e : T) → WasSentAfter w past e → (fuel : ℕ) (f : T) →
         Contains (held past) f → greatest_stamp node (held past) < (node f).stamp + fuel →
         (between : List T) × IsPath node (sent_in w) f between e
     covered past e s zero f c enough = absurd (let below = stamp_below node (held past) f c in omega arith)
     covered past e s (suc fuel) f c enough =
-        covered_by past e s fuel f c enough (is_named node (held past) (node f).digest) refl (covered past e s fuel)
+        elim (frontier_or_named node (held past) f c) [
+          | inl free ↦ ([], subst (λ ds. Contains ds (node f).digest) (sym (next_of past e s).names) free)
+          | inr (g, there, names) ↦
+              let cg = held_was_sent past e s g there in
+              let up = rises f g (held_was_sent past e s f c) cg names in
+              let (between, path) = covered past e s fuel g there (omega arith) in (g ∷ between, (cg, names, path))
+        ]
 
     -- what was held reaches what was sent by a path
     reached : (past : List (Event T)) (e : T) → WasSentAfter w past e → (f : T) → Contains (held past) f →
@@ -173,7 +123,7 @@ module _ {T : Type 0} (node : T → Node) (w : World T) (orderly : IsOrderly nod
     path_from_held f e (descendant {g = g} past s c h) =
         let (front, to_g) = path_from_held f g h in
         let (back, to_e) = reached past e s g c in
-        (front ++ g ∷ back, join node (sent_in w) f front g back e to_g (held_was_sent past e s g c) to_e)
+        (front ++ g ∷ back, path_over node (sent_in w) f front g back e to_g (held_was_sent past e s g c) to_e)
 
     -- what an entry names was held before it
     held_from_name : (f e : T) → Contains (sent_in w) f → Contains (sent_in w) e → Names node e f → HeldBefore w f e

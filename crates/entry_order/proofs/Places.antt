@@ -1,9 +1,8 @@
 -- What is at the places of a list.
-use Rattle.std.proofs.Common.{Some}
 use Rattle.entry_order.proofs.Imports.{◌≡◌, ℕ, zero, suc, ◌<◌, List, [], ◌∷◌, ◌++◌, length, refl, sym, subst, arith}
 use Rattle.entry_order.proofs.Imports.{◌∙◌, ◌⊎◌, inl, inr, ◌+◌, take, get_or, ap, slice_get, All, Contains, All-nil}
 use Rattle.entry_order.proofs.Imports.{All-cons, take_more, slice_get_within, get_or_from_slice_get, slice_get_read}
-use Rattle.entry_order.proofs.Imports.{none-some, same_Some}
+use Rattle.entry_order.proofs.Imports.{none-some, same_Some, Some}
 
 module _ {X : Type 0} where
   -- what is at a place is a member

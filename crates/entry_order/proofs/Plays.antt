@@ -1,14 +1,14 @@
 -- Each world that steps lead to has legal histories, and each entry that was got had been sent.
 use Rattle.entry_order.proofs.Imports.{◌≡◌, ◌≢◌, ℕ, zero, suc, Bool, true, false, cond, List, [], ◌∷◌, ◌++◌, length}
-use Rattle.entry_order.proofs.Imports.{refl, sym, ap, subst, ◌∙◌, ◌⊎◌, inl, inr, None, Option, slice_get, ◌||◌}
-use Rattle.entry_order.proofs.Imports.{nat_le, ◌==◌, Contains, bytes_eq, or_parts, eqb-false, false≢true}
-use Rattle.entry_order.proofs.Imports.{slice_get_within, get_or_from_slice_get, bytes_eq-Decides}
-use Rattle.entry_order.proofs.Imports.{Contains-append_left, Contains-append_cases, list_any_at, Event, Sent, Got}
-use Rattle.entry_order.proofs.Imports.{Step, Act, Hear, Stop, Node, has_digest, IsNew, held, sent, MayFollow, IsLegal}
-use Rattle.entry_order.proofs.Imports.{Machine, World, start, history, sent_in, with_machine, append, stop, send}
-use Rattle.entry_order.proofs.Imports.{cannot_hear, hear, IsLegalNext, happens, play, IsOrderly, OrderIsReceipt}
-use Rattle.std.proofs.Common.{Some}
-use Rattle.entry_order.proofs.Lists.{Contains-none, Contains-cons_cases}
+use Rattle.entry_order.proofs.Imports.{refl, sym, ap, subst, ◌∙◌, ◌⊎◌, inl, inr, None, Option, slice_get, ◌||◌, nat_le}
+use Rattle.entry_order.proofs.Imports.{◌==◌, Contains, or_parts, eqb-false, false≢true, Contains-append_left, Event}
+use Rattle.entry_order.proofs.Imports.{Sent, Got, Step, Act, Hear, Stop, Node, has_digest, IsNew, held, sent, MayFollow}
+use Rattle.entry_order.proofs.Imports.{IsLegal, Machine, World, start, history, sent_in, with_machine, append, stop}
+use Rattle.entry_order.proofs.Imports.{send, cannot_hear, hear, IsLegalNext, happens, play, IsOrderly, OrderIsReceipt}
+use Rattle.entry_order.proofs.Imports.{Some, Contains-push_cases}
+use Rattle.entry_order.proofs.Lists.{Contains-none}
+use Rattle.entry_order.proofs.Naming.{has_digest_of}
+use Rattle.entry_order.proofs.Places.{member_at}
 use Rattle.entry_order.proofs.Histories.{IsLegal-push, IsLegal-none}
 use Rattle.entry_order.proofs.Orders.{Contains-sent_cases, member_split, sent_in_from, sent_in_cases, one_order}
 
@@ -16,12 +16,7 @@ module _ {T : Type 0} (node : T → Node) where
   -- the test of a digest says that the entry is new
   pub IsNew-from_test : (es : List T) (e : T) → has_digest node es (node e).digest ≡ false → IsNew node es e
   IsNew-from_test es e free g c s =
-      let (i, l, at) = c in
-      let found : has_digest node es (node e).digest ≡ true =
-      list_any_at (λ u. bytes_eq (node u).digest (node e).digest) es i g l
-      (ap (λ u. bytes_eq (node u).digest (node e).digest) at
-      ∙ (bytes_eq-Decides (node g).digest (node e).digest).1 s) in
-      false≢true (sym free ∙ found)
+      false≢true (sym free ∙ has_digest_of node es (node e).digest (g, c, s))
 
 -- ---- one machine changed
 
@@ -38,109 +33,86 @@ changed (suc m) change (a ∷ w) (suc n) = elim (changed m change w n) [ inl e �
 
 -- ---- one step
 
-module _ {T : Type 0} (node : T → Node) (w : World T) where
-  -- x was sent by someone, if it is got
-  abbrev WasSentIfGot : Event T → Type 0
-  WasSentIfGot (Sent e) = Unit {0}
-  WasSentIfGot (Got e) = Contains (sent_in w) e
+module _ {T : Type 0} (node : T → Node) (next : ℕ → List (Event T) → Option T) (log : ℕ) (w : World T) where
+  -- why x comes after the history h of machine n: it is what n sends next, or another sent it
+  abbrev pub Cause : ℕ → List (Event T) → Event T → Type 0
+  Cause n h (Sent e) = next n h ≡ Some e
+  Cause n h (Got e) =
+      (has_digest node (held h) (node e).digest ≡ false)
+      × ((from : ℕ) × (n ≢ from) × Contains (sent (history w from)) e)
 
-  -- a history stays, or has one event more that may follow it
-  abbrev Grows : ℕ → List (Event T) → List (Event T) → Type 0
-  Grows n h new = (new ≡ h) ⊎ ((x : Event T) × (new ≡ h ++ x ∷ []) × MayFollow node n h x × WasSentIfGot x)
+  -- a history stays, or has one event more that has a cause
+  abbrev pub Grows : ℕ → List (Event T) → List (Event T) → Type 0
+  Grows n h new = (new ≡ h) ⊎ ((x : Event T) × (new ≡ h ++ x ∷ []) × Cause n h x)
 
   -- what a change does to one history is what the step does to the world's
   Grows-changed : (m : ℕ) (change : Machine T → Machine T) →
-      ((a : Machine T) → history w m ≡ a.history → Grows m a.history (change a).history) → (n : ℕ) →
+      ((a : Machine T) → Grows m a.history (change a).history) → (n : ℕ) →
       Grows n (history w n) (history (with_machine m change w) n)
   Grows-changed m change grows n =
-      let at : (n ≡ m)
-      × ((a : Machine T) × (history w n ≡ a.history)
-      × (history (with_machine m change w) n ≡ (change a).history)) →
-      Grows n (history w n) (history (with_machine m change w) n) =
-      λ (is, (a, was, new)).
-      let here : Grows n a.history (change a).history =
-      subst (λ (i : ℕ). Grows i a.history (change a).history) (sym is)
-      (grows a (subst (λ (i : ℕ). history w i ≡ a.history) is was)) in
-      subst (λ (h : List (Event T)). Grows n h (history (with_machine m change w) n)) (sym was)
-      (subst (λ (h : List (Event T)). Grows n a.history h) (sym new) here) in
-      elim (changed m change w n) [ inl e ↦ inl e | inr r ↦ at r ]
+      elim (changed m change w n) [
+        | inl same ↦ inl same
+        | inr (is, (a, was, now)) ↦ rw (was, now, is) (grows a)
+      ]
 
-  -- a machine that sends has one event more that may follow
-  Grows-send : (m : ℕ) (o : Option T) (a : Machine T) →
-      ((e : T) → o ≡ Some e → MayFollow node m a.history (Sent e)) → Grows m a.history (send o a).history
-  Grows-send m None a may = inl refl
-  Grows-send m (Some e) a may = by a.stopped
-    where
-      by : (b : Bool) → Grows m a.history (cond b a (append (Sent e) a)).history
-      by true = inl refl
-      by false = inr (Sent e, refl, may e refl, tt)
+  -- a machine that sends has its next entry more
+  Grows-send : (m : ℕ) (a : Machine T) (o : Option T) → next m a.history ≡ o → Grows m a.history (send o a).history
+  Grows-send m a None is = inl refl
+  Grows-send m a (Some e) is =
+      elim a.stopped as (λ b. Grows m a.history (cond b a (append (Sent e) a)).history)
+      [ true ↦ inl refl | false ↦ inr (Sent e, refl, is) ]
 
-  -- and so has a machine that hears
-  Grows-hear : (m log : ℕ) (o : Option T) (a : Machine T) →
-      ((e : T) → o ≡ Some e → ((node e).maker ≢ m) × Contains (sent_in w) e) →
-      Grows m a.history (hear node log o a).history
-  Grows-hear m log None a from = inl refl
-  Grows-hear m log (Some e) a from = by (cannot_hear node log a (node e).digest) refl
+  -- a machine that hears another's entry has it more
+  Grows-hear : (m from : ℕ) (a : Machine T) (o : Option T) → m ≢ from →
+      ((e : T) → o ≡ Some e → Contains (sent (history w from)) e) → Grows m a.history (hear node log o a).history
+  Grows-hear m from a None apart there = inl refl
+  Grows-hear m from a (Some e) apart there = by (cannot_hear node log a (node e).digest) refl
     where
       by : (b : Bool) → cannot_hear node log a (node e).digest ≡ b →
           Grows m a.history (cond b a (append (Got e) a)).history
       by true s = inl refl
       by false s =
-          let free =
-          (or_parts a.stopped (has_digest node (held a.history) (node e).digest)
-          (or_parts (a.stopped || has_digest node (held a.history) (node e).digest)
-          (nat_le log (length a.history)) s).0).1 in
-          let sure = from e refl in
-          inr (Got e, refl, (IsNew-from_test node (held a.history) e free, sure.0), sure.1)
+          let (able, _) = or_parts (a.stopped || has_digest node (held a.history) (node e).digest)
+          (nat_le log (length a.history)) s in
+          let (_, free) = or_parts a.stopped (has_digest node (held a.history) (node e).digest) able in
+          inr (Got e, refl, (free, (from, apart, there e refl)))
 
-  module _ (next : ℕ → List (Event T) → Option T) (log : ℕ) (lawful : IsLegalNext node next)
-      (orderly : IsOrderly node w) where
+  -- a step does one of these
+  pub Grows-step : (s : Step) (n : ℕ) → Grows n (history w n) (history (happens node next log w s) n)
+  Grows-step (Act m) n =
+      Grows-changed m (λ a. send (next m a.history) a) (λ a. Grows-send m a (next m a.history) refl) n
+  Grows-step (Hear at from number) n = by (at == from) refl
+    where
+      by : (b : Bool) → (at == from) ≡ b →
+          Grows n (history w n)
+          (history (cond b w (with_machine at (hear node log (slice_get (sent (history w from)) number)) w)) n)
+      by true s = inl refl
+      by false s =
+          Grows-changed at (hear node log (slice_get (sent (history w from)) number))
+          (λ a. Grows-hear at from a (slice_get (sent (history w from)) number) (eqb-false at from s)
+          (member_at (sent (history w from)) number)) n
+  Grows-step (Stop m) n = Grows-changed m stop (λ a. inl refl) n
+
+  module _ (lawful : IsLegalNext node next) (orderly : IsOrderly node w) where
     -- what a machine sent has it as its maker
     made_by : (from : ℕ) (e : T) → Contains (sent (history w from)) e → (node e).maker ≡ from
     made_by from e c =
         let (past, later, is) = member_split (history w from) (Sent e) (Contains-sent_cases (history w from) e c) in
         (orderly.legal from past (Sent e) later is).1.maker
 
-    -- an entry found by its number was sent
-    nth_was_sent : (from number : ℕ) (e : T) → slice_get (sent (history w from)) number ≡ Some e →
-        Contains (sent (history w from)) e
-    nth_was_sent from number e s = (
-      number,
-      slice_get_within (sent (history w from)) number e s,
-      get_or_from_slice_get
-          (sent (history w from)) number e e s,
-    )
-
-    -- a step does one of these
-    Grows-step : (s : Step) (n : ℕ) → Grows n (history w n) (history (happens node next log w s) n)
-    Grows-step (Act m) n =
-        Grows-changed m (λ a. send (next m a.history) a)
-        (λ a was. Grows-send m (next m a.history) a (λ e is. lawful m a.history e is)) n
-    Grows-step (Hear at from number) n = by (at == from) refl
-      where
-        by : (b : Bool) → (at == from) ≡ b →
-            Grows n (history w n)
-            (history (cond b w (with_machine at (hear node log (slice_get (sent (history w from)) number)) w)) n)
-        by true s = inl refl
-        by false s =
-            Grows-changed at (hear node log (slice_get (sent (history w from)) number))
-            (λ a was. Grows-hear at log (slice_get (sent (history w from)) number) a
-            (λ e is. let c = nth_was_sent from number e is in (
-              λ me. eqb-false at from s (sym me ∙ made_by from e c),
-              sent_in_from w from e
-                  (Contains-sent_cases (history w from) e c),
-            )))
-            n
-    Grows-step (Stop m) n = Grows-changed m stop (λ a was. inl refl) n
+    -- what has a cause may follow
+    may_follow : (n : ℕ) (x : Event T) → Cause n (history w n) x → MayFollow node n (history w n) x
+    may_follow n (Sent e) is = lawful n (history w n) e is
+    may_follow n (Got e) (free, (from, apart, there)) =
+        (IsNew-from_test node (held (history w n)) e free, λ me. apart (sym me ∙ made_by from e there))
 
     -- what was in a history still is
     Contains-step : (s : Step) (m : ℕ) (x : Event T) → Contains (history w m) x →
         Contains (history (happens node next log w s) m) x
     Contains-step s m x c =
         elim (Grows-step s m) [
-          | inl e ↦ subst (λ (h : List (Event T)). Contains h x) (sym e) c
-          | inr (added, is, _, _) ↦ subst (λ (h : List (Event T)). Contains h x) (sym is)
-              (Contains-append_left (history w m) (added ∷ []) x c)
+          | inl same ↦ rw same c
+          | inr (added, more, _) ↦ rw more (Contains-append_left (history w m) (added ∷ []) x c)
         ]
 
     -- what was sent in the world still is
@@ -151,34 +123,26 @@ module _ {T : Type 0} (node : T → Node) (w : World T) where
 
     -- a step keeps the world orderly
     IsOrderly-step : (s : Step) → IsOrderly node (happens node next log w s)
-    IsOrderly-step s = record { legal = legal; heard = heard }
+    IsOrderly-step s = record { legal = legal; heard = λ m e c. sent_in-step s e (got_before m e (Grows-step s m) c) }
       where
         legal : (m : ℕ) → IsLegal node m (history (happens node next log w s) m)
         legal m =
             elim (Grows-step s m) [
-              | inl e ↦ subst (λ (h : List (Event T)). IsLegal node m h) (sym e) (orderly.legal m)
-              | inr (added, is, may, _) ↦ subst (λ (h : List (Event T)). IsLegal node m h) (sym is)
-                  (IsLegal-push node m (history w m) added (orderly.legal m) may)
+              | inl same ↦ rw same (orderly.legal m)
+              | inr (x, more, cause) ↦
+                  rw more (IsLegal-push node m (history w m) x (orderly.legal m) (may_follow m x cause))
             ]
 
         got_before : (m : ℕ) (e : T) → Grows m (history w m) (history (happens node next log w s) m) →
             Contains (history (happens node next log w s) m) (Got e) → Contains (sent_in w) e
-        got_before m e (inl is) c = orderly.heard m e (subst (λ (h : List (Event T)). Contains h (Got e)) is c)
-        got_before m e (inr (x, is, may, was)) c =
-            let new : Contains (x ∷ []) (Got e) → Contains (sent_in w) e =
-            λ h. elim
-            (Contains-cons_cases x [] (Got e) h) [
-              | inl y ↦ subst WasSentIfGot y was
-              | inr n ↦ absurd
-                  (Contains-none (Got e) n)
-            ] in
-            elim (Contains-append_cases (history w m) (x ∷ []) (Got e)
-            (subst (λ (h : List (Event T)). Contains h
-            (Got e)) is c)) [ inl h ↦ orderly.heard m e h | inr h ↦ new h ]
-
-        heard : (m : ℕ) (e : T) → Contains (history (happens node next log w s) m) (Got e) →
-            Contains (sent_in (happens node next log w s)) e
-        heard m e c = sent_in-step s e (got_before m e (Grows-step s m) c)
+        got_before m e (inl same) c = orderly.heard m e (rw same at c)
+        got_before m e (inr (x, more, cause)) c =
+            elim (Contains-push_cases (history w m) x (Got e) (rw more at c)) [
+              | inl old ↦ orderly.heard m e old
+              | inr is ↦
+                  let (_, (from, _, there)) = subst (Cause m (history w m)) is cause in
+                  sent_in_from w from e (Contains-sent_cases (history w from) e there)
+            ]
 
 -- ---- the whole run
 
@@ -192,10 +156,8 @@ module _ {T : Type 0} (node : T → Node) where
   -- at the start a world is orderly
   pub IsOrderly-start : (machines : ℕ) → IsOrderly node (start machines)
   IsOrderly-start machines = record {
-    legal = λ m. subst (λ (h : List (Event T)). IsLegal node m h) (sym (start_is_empty machines m))
-        (IsLegal-none node m);
-    heard = λ m e c. absurd
-        (Contains-none (Got e) (subst (λ (h : List (Event T)). Contains h (Got e)) (start_is_empty machines m) c));
+    legal = λ m. rw (start_is_empty machines m) (IsLegal-none node m);
+    heard = λ m e c. absurd (Contains-none (Got e) (rw (start_is_empty machines m) at c));
   }
 
   -- steps keep it orderly
@@ -203,7 +165,7 @@ module _ {T : Type 0} (node : T → Node) where
       (w : World T) (steps : List Step) → IsOrderly node w → IsOrderly node (play node next log w steps)
   IsOrderly-play next log lawful w [] o = o
   IsOrderly-play next log lawful w (s ∷ steps) o =
-      IsOrderly-play next log lawful (happens node next log w s) steps (IsOrderly-step node w next log lawful o s)
+      IsOrderly-play next log lawful (happens node next log w s) steps (IsOrderly-step node next log w lawful o s)
 
   -- the law, after every list of steps
   pub order_is_receipt : OrderIsReceipt node

@@ -9,6 +9,15 @@ module _ {X : Type 0} (Below : X → X → Type 0) where
   Rises (x ∷ xs) = ((y : X) → Contains xs y → Below x y) × Rises xs
 
   module _ (not_both : (x y : X) → Below x y → Below y x → ⊥) where
+    -- what is after the first of one list is after the same first of another that has all its members
+    below_first : (x y : X) (xs ys : List X) → x ≡ y → ((d : X) → Contains xs d → Below x d) →
+        ((d : X) → Contains (x ∷ xs) d → Contains (y ∷ ys) d) → (d : X) → Contains xs d → Contains ys d
+    below_first x y xs ys heads x_below to d c =
+        elim (Contains-cons_cases y ys d (to d (Contains-later x xs d c))) [
+          | inl e ↦ absurd (let m : Below x x = subst (Below x) (sym (heads ∙ e)) (x_below d c) in not_both x x m m)
+          | inr u ↦ u
+        ]
+
     -- two lists that rise and have the same members are equal
     pub same_rising : (xs ys : List X) → Rises xs → Rises ys → ((d : X) → Contains xs d → Contains ys d) →
         ((d : X) → Contains ys d → Contains xs d) → xs ≡ ys
@@ -24,15 +33,7 @@ module _ {X : Type 0} (Below : X → X → Type 0) where
             | inr v ↦ absurd (not_both x y (x_below y v) (y_below x u))
           ]
         ] in
-        let forth : (d : X) → Contains xs d → Contains ys d =
-        λ d c. elim (Contains-cons_cases y ys d (to d (Contains-later x xs d c))) [
-          | inl e ↦ absurd (let m : Below x x = subst (Below x) (sym (heads ∙ e)) (x_below d c) in not_both x x m m)
-          | inr u ↦ u
-        ] in
-        let back : (d : X) → Contains ys d → Contains xs d =
-        λ d c. elim (Contains-cons_cases x xs d (from d (Contains-later y ys d c))) [
-          | inl e ↦ absurd (let m : Below y y = subst (Below y) (sym e ∙ heads) (y_below d c) in not_both y y m m)
-          | inr u ↦ u
-        ] in
+        let forth = below_first x y xs ys heads x_below to in
+        let back = below_first y x ys xs (sym heads) y_below from in
         let tails : xs ≡ ys = same_rising xs ys xs_rise ys_rise forth back in
         λ i. heads i ∷ tails i

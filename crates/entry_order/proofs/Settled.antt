@@ -1,35 +1,29 @@
 -- The three values are the ancestors by walks, and so what holds in every completion.
-use Rattle.entry_order.proofs.Imports.{◌≡◌, ℕ, zero, suc, ◌≤◌, Bool, true, false, cond, List, [], ◌∷◌, ◌++◌, refl}
-use Rattle.entry_order.proofs.Imports.{sym, subst, ◌∙◌, inl, inr, arith, slice_get, not, ◌||◌, ◌==◌, Contains}
-use Rattle.entry_order.proofs.Imports.{list_all, or_cases, or_left, or_right, and_parts, and_from, eqb-true, eq-eqb}
-use Rattle.entry_order.proofs.Imports.{not-true, not_from_false, true≢false, false≢true, False, Unknown, True, Node}
-use Rattle.entry_order.proofs.Imports.{Names, IsPath, Precedes, Completion, IsWalk, IsAncestor, Descends, reaches}
-use Rattle.entry_order.proofs.Imports.{is_whole, before, IsWhole, IsGraphOf, GraphsAreExact, OrderIsSettled}
-use Rattle.std.proofs.Common.{Some}
-use Rattle.entry_order.proofs.Lists.{Contains-none, Contains-head, Contains-later, Contains-cons_cases, list_any_some}
-use Rattle.entry_order.proofs.Lists.{list_any_of}
+use Rattle.entry_order.proofs.Imports.{◌≡◌, ℕ, zero, suc, ◌≤◌, Bool, true, false, cond, List, [], ◌∷◌, ◌++◌, refl, sym}
+use Rattle.entry_order.proofs.Imports.{subst, ◌∙◌, inl, inr, arith, slice_get, not, ◌||◌, ◌==◌, Contains, list_all}
+use Rattle.entry_order.proofs.Imports.{or_cases, or_left, or_right, and_parts, and_from, eqb-true, eq-eqb, not-true}
+use Rattle.entry_order.proofs.Imports.{not_from_false, true≢false, false≢true, False, Unknown, True, Node, IsPath}
+use Rattle.entry_order.proofs.Imports.{Precedes, Completion, IsWalk, IsAncestor, Descends, reaches, is_whole, before}
+use Rattle.entry_order.proofs.Imports.{IsWhole, IsGraphOf, GraphsAreExact, OrderIsSettled, Some, All-contains}
+use Rattle.entry_order.proofs.Imports.{All-contains_itself}
+use Rattle.std.proofs.lemmas.List.Elements.{All-weaker}
+use Rattle.std.proofs.lemmas.List.Sums.{AllPass-from_list_all, list_all-from_AllPass}
+use Rattle.entry_order.specs.declared.three.Three.{Three}
+use Rattle.entry_order.proofs.Lists.{list_any_some, list_any_of}
+use Rattle.entry_order.proofs.Paths.{path_over}
 use Rattle.entry_order.proofs.Completions.{before_in_completion, before_among_survivors}
 use Rattle.entry_order.proofs.Places.{member_at, place_of}
 
 -- a test that passes all members passes each
 pub list_all_each : {X : Type 0} (p : X → Bool) (xs : List X) → list_all p xs ≡ true → (x : X) → Contains xs x →
     p x ≡ true
-list_all_each p [] e x c = absurd (Contains-none x c)
-list_all_each p (z ∷ xs) e x c =
-    let parts = and_parts (p z) (list_all p xs) e in
-    elim (Contains-cons_cases z xs x c) [
-      | inl s ↦ subst
-          (λ u. p u ≡ true) s parts.0
-      | inr l ↦ list_all_each p xs parts.1 x l
-    ]
+list_all_each p xs e x c = All-contains (λ u. p u ≡ true) xs x (AllPass-from_list_all p xs e) c
 
 -- where each passes, all do
 pub list_all_from_each : {X : Type 0} (p : X → Bool) (xs : List X) → ((x : X) → Contains xs x → p x ≡ true) →
     list_all p xs ≡ true
-list_all_from_each p [] each = refl
-list_all_from_each p (z ∷ xs) each =
-    and_from (p z) (list_all p xs) (each z (Contains-head z xs))
-    (list_all_from_each p xs (λ x c. each x (Contains-later z xs x c)))
+list_all_from_each p xs each =
+    list_all-from_AllPass p xs (All-weaker (Contains xs) (λ u. p u ≡ true) each xs (All-contains_itself xs))
 
 module _ (parents : ℕ → List ℕ) where
   -- what is reached is an ancestor
@@ -37,11 +31,10 @@ module _ (parents : ℕ → List ℕ) where
   ancestor_from_reaches zero y x e = absurd (true≢false (sym e))
   ancestor_from_reaches (suc n) y x e =
       let (z, arrow, test) = list_any_some (λ z. (z == y) || reaches parents n y z) (parents x) e in
-      let deeper : reaches parents n y z ≡ true → IsAncestor parents y x =
-      λ h. let (zs, walk) = ancestor_from_reaches n y z h in (z ∷ zs, (arrow, walk)) in
-      let here : (z == y) ≡ true → IsAncestor parents y x =
-      λ h. ([], subst (λ (u : ℕ). Contains (parents x) u) (eqb-true z y h) arrow) in
-      elim (or_cases (z == y) (reaches parents n y z) test) [ inl h ↦ here h | inr h ↦ deeper h ]
+      elim (or_cases (z == y) (reaches parents n y z) test) [
+        | inl here ↦ ([], subst (Contains (parents x)) (eqb-true z y here) arrow)
+        | inr further ↦ let (zs, walk) = ancestor_from_reaches n y z further in (z ∷ zs, (arrow, walk))
+      ]
 
   module _ (descends : Descends parents) where
     -- an ancestor is reached in no more arrows than the place's number
@@ -67,19 +60,21 @@ module _ (parents : ℕ → List ℕ) where
       abbrev pub IsClean : ℕ → Type 0
       IsClean x = (ragged x ≡ false) × ((y : ℕ) → IsAncestor parents y x → ragged y ≡ false)
 
+      -- a parent of a whole place is whole
+      whole_parent : (n x z : ℕ) → x ≤ n → is_whole parents ragged n x ≡ true → Contains (parents x) z →
+          (m : ℕ) × (z ≤ m) × (is_whole parents ragged m z ≡ true)
+      whole_parent zero x z l e arrow = absurd (omega (arith, descends x z arrow))
+      whole_parent (suc n) x z l e arrow =
+          let parts = and_parts (not (ragged x)) (list_all (λ z. is_whole parents ragged n z) (parents x)) e in
+          let d = descends x z arrow in
+          (n, omega arith, list_all_each (λ z. is_whole parents ragged n z) (parents x) parts.1 z arrow)
+
       -- no ancestor of a place that is whole is ragged
       pub clean_ancestor : (n x : ℕ) → x ≤ n → is_whole parents ragged n x ≡ true → (y : ℕ) (zs : List ℕ) →
           IsWalk parents x zs y → ragged y ≡ false
-      clean_ancestor zero x l e y [] w = absurd (let d = descends x y w in omega arith)
-      clean_ancestor zero x l e y (z ∷ zs) w = absurd (let d = descends x z w.0 in omega arith)
-      clean_ancestor (suc n) x l e y [] w =
-          let parts = and_parts (not (ragged x)) (list_all (λ z. is_whole parents ragged n z) (parents x)) e in
-          clean_itself n y (list_all_each (λ z. is_whole parents ragged n z) (parents x) parts.1 y w)
-      clean_ancestor (suc n) x l e y (z ∷ zs) (arrow, walk) =
-          let parts = and_parts (not (ragged x)) (list_all (λ z. is_whole parents ragged n z) (parents x)) e in
-          let d = descends x z arrow in
-          clean_ancestor n z (omega arith)
-          (list_all_each (λ z. is_whole parents ragged n z) (parents x) parts.1 z arrow) y zs walk
+      clean_ancestor n x l e y [] w = let (m, _, whole) = whole_parent n x y l e w in clean_itself m y whole
+      clean_ancestor n x l e y (z ∷ zs) (arrow, walk) =
+          let (m, below, whole) = whole_parent n x z l e arrow in clean_ancestor m z below whole y zs walk
 
       -- a place without a ragged ancestor is whole
       pub is_whole_from_clean : (n x : ℕ) → IsClean x → is_whole parents ragged n x ≡ true
@@ -98,12 +93,6 @@ pub walk_on : (parents : ℕ → List ℕ) (x : ℕ) (zs : List ℕ) (y z : ℕ)
 walk_on parents x [] y z w c = (w, c)
 walk_on parents x (v ∷ zs) y z w c = (w.0, walk_on parents v zs y z w.1 c)
 
--- a path with one entry more before its last
-path_on : {T : Type 0} (node : T → Node) (S : List T) (f : T) (gs : List T) (g e : T) → IsPath node S f gs g →
-    Contains S g → Names node e g → IsPath node S f (gs ++ g ∷ []) e
-path_on node S f [] g e p c n = (c, p, n)
-path_on node S f (h ∷ gs) g e (there, names, rest) c n = (there, names, path_on node S h gs g e rest c n)
-
 module _ {T : Type 0} (node : T → Node) (machines : ℕ) (S : List T) (parents : ℕ → List ℕ) (ragged : ℕ → Bool)
     (graph : IsGraphOf node S parents ragged) where
   -- a walk through places is a path through their entries
@@ -114,7 +103,7 @@ module _ {T : Type 0} (node : T → Node) (machines : ℕ) (S : List T) (parents
       let (g, gz) = graph.inside x z arrow in
       let (gs, path) = path_from_walk z y zs g f gz fy walk in (
         gs ++ g ∷ [],
-        path_on node S f gs g e path (member_at S z g gz) ((graph.arrows x z e g ex gz).0 arrow),
+        path_over node S f gs g [] e path (member_at S z g gz) ((graph.arrows x z e g ex gz).0 arrow),
       )
 
   -- and a path is a walk
@@ -175,32 +164,27 @@ module _ {T : Type 0} (node : T → Node) (machines : ℕ) (S : List T) (parents
     whole_test_from whole = is_whole_from_clean parents graph.descends ragged x x (clean_from_whole whole)
 
     -- what each of the three values says
-    pub settled : (before parents ragged y x ≡ True → (G : List T) → Completion node machines S G → Precedes node G f e)
-        × (before parents ragged y x ≡ False → (G : List T) → Completion node machines S G → ¬ (Precedes node G f e))
-        × (before parents ragged y x ≡ Unknown → ¬ (IsWhole node S e))
+    abbrev Says : Three → Type 0
+    Says value =
+        (value ≡ True → (G : List T) → Completion node machines S G → Precedes node G f e)
+        × (value ≡ False → (G : List T) → Completion node machines S G → ¬ (Precedes node G f e))
+        × (value ≡ Unknown → ¬ (IsWhole node S e))
+
+    -- the graph's value says so
+    pub settled : Says (before parents ragged y x)
     settled = by (reaches parents x y x) refl (is_whole parents ragged x x) refl
       where
         by : (r : Bool) → reaches parents x y x ≡ r → (c : Bool) → is_whole parents ragged x x ≡ c →
-            (cond r True (cond c False Unknown) ≡ True → (G : List T) → Completion node machines S G →
-            Precedes node G f e)
-            × (cond r True (cond c False Unknown) ≡ False → (G : List T) → Completion node machines S G →
-            ¬ (Precedes node G f e))
-            × (cond r True (cond c False Unknown) ≡ Unknown → ¬ (IsWhole node S e))
+            Says (cond r True (cond c False Unknown))
         by true er c ec =
             (λ _ G h. before_in_completion node S machines G h f e (precedes_from_reaches er), λ o. cc, λ o. cc)
         by false er true ec = (
           λ o. cc,
-          λ _ G h p. false≢true
-              (sym er ∙ reaches_from_precedes
+          λ _ G h p. false≢true (sym er ∙ reaches_from_precedes
               (before_among_survivors node S machines G h f e (member_at S x e ex) (whole_from_test ec) p)),
           λ o. cc,
         )
-        by false er false ec = (
-          λ o. cc,
-          λ o. cc,
-          λ _ whole. false≢true
-              (sym ec ∙ whole_test_from whole),
-        )
+        by false er false ec = (λ o. cc, λ o. cc, λ _ whole. false≢true (sym ec ∙ whole_test_from whole))
 
 -- the order is settled of any survivors and their graph
 pub order_is_settled : {T : Type 0} (node : T → Node) → OrderIsSettled node

@@ -1,7 +1,7 @@
 -- The greatest stamp is at least each stamp.
-use Rattle.entry_order.proofs.Imports.{◌≡◌, ℕ, ◌≤◌, max, List, [], ◌∷◌, ap, inl, inr, arith, Contains, fold, Node}
+use Rattle.entry_order.proofs.Imports.{ℕ, zero, suc, ◌≤◌, max, List, [], ◌∷◌, ap, arith, Contains, fold, Node}
 use Rattle.entry_order.proofs.Imports.{greatest_stamp}
-use Rattle.entry_order.proofs.Lists.{Contains-none, Contains-cons_cases}
+use Rattle.entry_order.proofs.Lists.{Contains-none}
 
 module _ {T : Type 0} (node : T → Node) where
   -- a greatest stamp is at least what it began with
@@ -13,10 +13,9 @@ module _ {T : Type 0} (node : T → Node) where
   top_above : (top : ℕ) (es : List T) (e : T) → Contains es e →
       (node e).stamp ≤ fold (λ top e. max top (node e).stamp) top es
   top_above top [] e c = absurd (Contains-none e c)
-  top_above top (z ∷ es) e c =
-      let first : z ≡ e → (node e).stamp ≤ fold (λ top e. max top (node e).stamp) (max top (node z).stamp) es =
-      λ s. let at = ap (λ u. (node u).stamp) s in let rest = top_at_least (max top (node z).stamp) es in omega arith in
-      elim (Contains-cons_cases z es e c) [ inl s ↦ first s | inr h ↦ top_above (max top (node z).stamp) es e h ]
+  top_above top (z ∷ es) e (zero, l, s) =
+      omega (arith, ap (λ u. (node u).stamp) s, top_at_least (max top (node z).stamp) es)
+  top_above top (z ∷ es) e (suc k, l, s) = top_above (max top (node z).stamp) es e (k, omega arith, s)
 
   -- each stamp is at most the greatest
   pub stamp_below : (es : List T) (e : T) → Contains es e → (node e).stamp ≤ greatest_stamp node es

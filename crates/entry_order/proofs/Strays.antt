@@ -1,22 +1,18 @@
 -- Survivors are no strays, and so stamps rise along their names.
-use Rattle.entry_order.proofs.Imports.{◌≡◌, ◌<◌, true, false, List, [], ◌∷◌, sym, ap, ◌∙◌, inl, inr, arith, not, ◌&&◌}
+use Rattle.entry_order.proofs.Imports.{◌≡◌, ◌<◌, true, false, List, [], ◌∷◌, sym, ◌∙◌, inl, inr, arith, not, ◌&&◌}
 use Rattle.entry_order.proofs.Imports.{nat_le, Contains, cases_lt, and_parts, and_from, le-leb, leb-true, not-true}
-use Rattle.entry_order.proofs.Imports.{not_from_false, true≢false, false_from_ne_true, list_any_at, Node, Names}
-use Rattle.entry_order.proofs.Imports.{names_digest, IsPath, IsStray, is_stray, survivors, SurvivorsAreNoStrays}
-use Rattle.entry_order.proofs.Imports.{SurvivorsHaveNoCycle}
-use Rattle.entry_order.proofs.Lists.{Contains-filter, Contains-filter_cases, list_any_some}
+use Rattle.entry_order.proofs.Imports.{not_from_false, true≢false, false_from_ne_true, Node, Names, names_digest}
+use Rattle.entry_order.proofs.Imports.{IsPath, IsStray, is_stray, survivors, SurvivorsAreNoStrays, SurvivorsHaveNoCycle}
+use Rattle.entry_order.proofs.Lists.{Contains-filter, Contains-filter_cases, list_any_some, list_any_of}
 use Rattle.entry_order.proofs.Naming.{names_digest_of, names_digest_from}
 
 module _ {T : Type 0} (node : T → Node) where
   -- a stray is found
   pub is_stray_of : (given : List T) (e : T) → IsStray node given e → is_stray node given e ≡ true
-  is_stray_of given e (g, (i, l, at), names, high) =
-      let test = λ (g : T). names_digest node e (node g).digest && nat_le (node e).stamp (node g).stamp in
-      let named = names_digest_of node e (node g).digest names in
-      let both =
-      and_from (names_digest node e (node g).digest) (nat_le (node e).stamp (node g).stamp) named
-      (le-leb (node e).stamp (node g).stamp high) in
-      list_any_at test given i g l (ap test at ∙ both)
+  is_stray_of given e (g, there, names, high) =
+      list_any_of (λ g. names_digest node e (node g).digest && nat_le (node e).stamp (node g).stamp) given g there
+      (and_from (names_digest node e (node g).digest) (nat_le (node e).stamp (node g).stamp)
+      (names_digest_of node e (node g).digest names) (le-leb (node e).stamp (node g).stamp high))
 
   -- what is found is a stray
   pub is_stray_from : (given : List T) (e : T) → is_stray node given e ≡ true → IsStray node given e

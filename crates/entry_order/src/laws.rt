@@ -33,11 +33,13 @@ ghost use Rattle.std.specs.Prelude.{ℕ, List};
 use crate::Knot;
 /// In every world whose histories are legal and where what was got was sent, an entry precedes
 /// another exactly when it was held before it.
+#[tactic(auto, using(crate::proofs::Orders::one_order))]
 pub fn order_is_receipt_in_orderly_worlds<T: Knot>()
     ensures { OrderIsReceiptInOrderlyWorlds T.node }
 {}
 
 /// The same after every list of steps of machines that send what a legal history asks.
+#[tactic(auto, using(crate::proofs::Plays::order_is_receipt))]
 pub fn order_is_receipt<T: Knot>()
     ensures { OrderIsReceipt T.node }
 {}
@@ -48,6 +50,7 @@ pub fn names_were_held<T: Knot>()
 {}
 
 /// In an orderly world stamps rise from what was held before to what was sent after it.
+#[tactic(auto, using(crate::proofs::Orders::stamps_rise))]
 pub fn stamps_rise<T: Knot>()
     ensures { StampsRise T.node }
 {}
@@ -87,28 +90,33 @@ pub fn honest_entries_agree<T: Knot>()
 {}
 
 /// Every world has its events in one order by logical clock, and in no other.
+#[tactic(auto, using(crate::proofs::MergedOrder::worlds_have_one_merged_order))]
 pub fn worlds_have_one_merged_order<T: Knot>()
     ensures { WorldsHaveOneMergedOrder T.node }
 {}
 
 /// The events of an orderly world, sorted by logical clock, can be played again and give its
 /// histories.
+#[tactic(auto, using(crate::proofs::Merged::merged_is_played_again))]
 pub fn merged_is_played_again<T: Knot>()
     ensures { MergedIsPlayedAgain T.node }
 {}
 
 /// Three forms of being held before are one.
+#[tactic(auto, using(crate::proofs::Forms::forms_agree))]
 pub fn forms_agree<T: Knot>()
     ensures { FormsAgree T.node }
 {}
 
 /// After any steps each entry was its machine's next when it was sent.
+#[tactic(auto, using(crate::proofs::MadePlays::plays_are_made))]
 pub fn plays_are_made<T: Knot>()
     ensures { PlaysAreMade T.node }
 {}
 
 /// What is made of its number, its stamp and the frontier is what a legal history asks, whatever
 /// the rules allow.
+#[tactic(auto, using(crate::proofs::Made::made_is_lawful))]
 pub fn made_is_lawful<T: Knot>()
     ensures { (made : ℕ → ℕ → ℕ → List (List ℕ) → T) → MadeIsLawful T.node made }
 {}

@@ -1,9 +1,8 @@
 -- Machines before anything happened.
-use Rattle.finished_floor.proofs.Imports.{◌≡◌, ◌∙◌, ℕ, zero, suc, ◌+◌, List, [], ◌∷◌, ◌++◌, length, length-append}
-use Rattle.finished_floor.proofs.Imports.{Option, Some, refl, sym, ap, subst, arith, slice_get, node_of_sealed, Event}
-use Rattle.finished_floor.proofs.Imports.{SealedEntry, sent, history, Script, Loss, IsBalanced, AreOnce, arriving}
-use Rattle.finished_floor.proofs.Imports.{got_from, MachineState, IsFresh, IsMachine, world_of, AreOfSent, IsAt}
-use Rattle.finished_floor.proofs.Imports.{AreOnWay, waits_of, Waiting}
+use Rattle.finished_floor.proofs.Imports.{Script, node_of_sealed, history, AreOnce, IsBalanced, AreOfSent, IsAt}
+use Rattle.finished_floor.proofs.Imports.{AreOnWay, waits_of, Loss, Waiting, IsFresh, IsMachine, MachineState, world_of}
+use Rattle.finished_floor.proofs.Imports.{List, Option, Some, [], ap, arith, length, length-append, refl, subst, suc}
+use Rattle.finished_floor.proofs.Imports.{sym, zero, ℕ, slice_get, ◌++◌, ◌+◌, ◌∙◌, ◌∷◌, ◌≡◌}
 
 -- a fresh machine has its place, and no events
 pub fresh_at : (script : Script) (at : ℕ) (stop : Option ℕ) (m : MachineState) → IsFresh script at stop m →
@@ -23,18 +22,18 @@ fresh_events script at stop m fresh = ap (λ (u : MachineState). u.events) fresh
 pub each_push : (P : ℕ → MachineState → Type 0) (ms : List MachineState) (m : MachineState) →
     ((k : ℕ) (u : MachineState) → slice_get ms k ≡ Some u → P k u) → P (length ms) m →
     (k : ℕ) (u : MachineState) → slice_get (ms ++ m ∷ []) k ≡ Some u → P k u
-each_push P [] m each last zero u is = let same : m ≡ u = cc in subst (P 0) same last
+each_push P [] m each last zero u is = let same : m ≡ u = cc in rw (← same) last
 each_push P [] m each last (suc k) u is = cc
 each_push P (x ∷ ms) m each last zero u is = each zero u is
 each_push P (x ∷ ms) m each last (suc k) u is =
     each_push (λ i. P (suc i)) ms m (λ i v h. each (suc i) v h) last k u is
 
 -- none of the machines has events
-abbrev AreEmpty : List MachineState → Type 0
+abbrev pub AreEmpty : List MachineState → Type 0
 AreEmpty ms = (k : ℕ) (u : MachineState) → slice_get ms k ≡ Some u → u.events ≡ []
 
 -- so all histories of their world are empty
-none_in : (ms : List MachineState) → AreEmpty ms → (k : ℕ) → history (world_of ms) k ≡ []
+pub none_in : (ms : List MachineState) → AreEmpty ms → (k : ℕ) → history (world_of ms) k ≡ []
 none_in [] empty k = refl
 none_in (m ∷ ms) empty zero = empty zero m refl
 none_in (m ∷ ms) empty (suc k) = none_in ms (λ i u is. empty (suc i) u is) k
@@ -43,10 +42,7 @@ none_in (m ∷ ms) empty (suc k) = none_in ms (λ i u is. empty (suc i) u is) k
 pub new_balanced : (ms : List MachineState) → AreEmpty ms →
     IsBalanced node_of_sealed (length ms) (history (world_of ms)) [] (λ a b. [])
 new_balanced ms empty a b la lb apart =
-    let P : List (Event SealedEntry) → List (Event SealedEntry) → Type 0 = λ x y.
-    got_from node_of_sealed a y ++ [] ≡ arriving node_of_sealed [] a b (sent x) in
-    subst (λ x. P x (history (world_of ms) b)) (sym (none_in ms empty a))
-    (subst (λ y. P [] y) (sym (none_in ms empty b)) refl)
+    rw (none_in ms empty a, none_in ms empty b)
 
 -- and no list that is empty asks for anything
 module _ (ms : List MachineState) (losses : List Loss) (ws : List Waiting) (no_losses : losses ≡ [])
@@ -54,23 +50,19 @@ module _ (ms : List MachineState) (losses : List Loss) (ws : List Waiting) (no_l
   -- what was got and what waits is what was sent and isn't lost: nothing
   pub start_balanced : AreEmpty ms →
       IsBalanced node_of_sealed (length ms) (history (world_of ms)) losses (waits_of ws)
-  start_balanced empty =
-      subst (λ (l : List Loss). IsBalanced node_of_sealed (length ms) (history (world_of ms)) l (waits_of ws))
-      (sym no_losses)
-      (subst (λ (v : List Waiting). IsBalanced node_of_sealed (length ms) (history (world_of ms)) [] (waits_of v))
-      (sym none) (new_balanced ms empty))
+  start_balanced empty = rw (no_losses, none) (new_balanced ms empty)
 
   -- no entry is lost twice on one way
   pub start_once : AreOnce losses
-  start_once = subst AreOnce (sym no_losses) (λ i j d lt within. absurd (omega arith))
+  start_once = rw no_losses (λ i j d lt within. absurd (omega arith))
 
   -- each loss is of an entry that was sent, for there is none
   pub start_of_sent : AreOfSent ms losses
-  start_of_sent = subst (AreOfSent ms) (sym no_losses) (λ k d lt. absurd (omega arith))
+  start_of_sent = rw no_losses (λ k d lt. absurd (omega arith))
 
   -- at the start nothing waits, so all that waits is on its way
   pub start_on_way : AreOnWay (length ms) ws
-  start_on_way = subst (AreOnWay (length ms)) (sym none) (λ k d lt. absurd (omega arith))
+  start_on_way = rw none (λ k d lt. absurd (omega arith))
 
 -- one machine more, in its place and without events
 pub new_push : (ms more : List MachineState) (m : MachineState) (at : ℕ) → length ms ≡ at →

@@ -1,12 +1,12 @@
 -- A whole run of a floor's machines has no stamp that is spent.
-use Rattle.finished_floor.proofs.Imports.{◌≡◌, ℕ, ◌*◌, ◌≤◌, inl, inr, List, length, Some, ap, arith, slice_get}
-use Rattle.finished_floor.proofs.Imports.{slice_get-get_or, slice_index_or, node_of_sealed, SealedEntry, IsOrderly}
-use Rattle.finished_floor.proofs.Imports.{StampsAreFew, Machine, sent_in, Script, IsLawful, max_events, IsWholeRun}
-use Rattle.finished_floor.proofs.Imports.{MachineState, IsStampSpent, machine_of, world_of, sent_in_few, get-map_from}
-use Rattle.finished_floor.proofs.Imports.{AreMachinesOf, IsAtEnd}
+use Rattle.finished_floor.proofs.Imports.{IsLawful, max_events, Script, node_of_sealed, SealedEntry, held, IsOrderly}
+use Rattle.finished_floor.proofs.Imports.{StampsAreFew, Machine, sent_in, AreMachinesOf, IsAtEnd, IsWholeRun}
+use Rattle.finished_floor.proofs.Imports.{sent_in_few, get-map_from, MachineState, IsStampSpent, machine_of, world_of}
+use Rattle.finished_floor.proofs.Imports.{List, Some, ap, arith, inl, inr, length, ℕ, slice_get-get_or, slice_get}
+use Rattle.finished_floor.proofs.Imports.{slice_index_or, ◌*◌, ◌≡◌, ◌≤◌}
 use Rattle.std.specs.Prelude.{All}
+use Rattle.finished_floor.proofs.Grown.{log_is, are_placed}
 use Rattle.finished_floor.proofs.Places.{length_world}
-use Rattle.finished_floor.proofs.Grown.{are_placed, log_is}
 use Rattle.finished_floor.proofs.Roomy.{held_sent}
 
 module _ (script : Script) (lawful : IsLawful script) (ms : List MachineState) (of : AreMachinesOf script ms)

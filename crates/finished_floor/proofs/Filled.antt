@@ -1,26 +1,18 @@
 -- Lists that are filled up, and lists place by place.
-use Rattle.finished_floor.proofs.Imports.{◌≡◌, ◌≢◌, ◌∙◌, ℕ, zero, suc, ◌+◌, ◌-◌, ◌<◌, ◌≤◌, inl, inr, List, [], ◌∷◌}
-use Rattle.finished_floor.proofs.Imports.{◌++◌, length, map, replicate, Option, Some, None, refl, sym, ap, subst}
-use Rattle.finished_floor.proofs.Imports.{arith, get_or, length-append, slice_get, slice_set, AllZip, cases_eq}
-use Rattle.finished_floor.proofs.Imports.{length-map, replicate-append-replicate, slice_get_within, slice_get-get_or}
-use Rattle.finished_floor.proofs.Imports.{SealedEntry, Event, one_at, MachineState, set_cases, set_get, IsBy, pass_of}
-use Rattle.finished_floor.proofs.Imports.{passes_of, IsBegunBy}
+use Rattle.finished_floor.proofs.Imports.{SealedEntry, one_at, Event, IsBy, pass_of, IsBegunBy, set_cases, set_get}
+use Rattle.finished_floor.proofs.Imports.{MachineState, List, None, Option, Some, [], ap, arith, inl, inr, length}
+use Rattle.finished_floor.proofs.Imports.{length-append, map, refl, replicate, suc, sym, zero, ℕ, cases_eq, length-map}
+use Rattle.finished_floor.proofs.Imports.{replicate-append-replicate, slice_get_within, AllZip, slice_get, slice_set}
+use Rattle.finished_floor.proofs.Imports.{◌++◌, ◌+◌, ◌-◌, ◌<◌, ◌∙◌, ◌∷◌, ◌≡◌, ◌≢◌, ◌≤◌}
 use Rattle.std.proofs.lemmas.List.{append_assoc}
 use Rattle.finished_floor.proofs.Places.{length_set}
 
-module _ {X : Type 0} (row : List X) (x : X) where
-  -- one more is added
-  pub filled_more : (now more : List X) (at : ℕ) → length row ≤ at → now ≡ row ++ replicate (at - length row) x →
-      more ≡ now ++ x ∷ [] → more ≡ row ++ replicate (at + 1 - length row) x
-  filled_more now more at low is pushed =
-      let next : (at - length row) + 1 ≡ at + 1 - length row = omega arith in
-      pushed ∙ ap (λ (l : List X). l ++ x ∷ []) is ∙ append_assoc row (replicate (at - length row) x) (x ∷ [])
-      ∙ ap (λ (l : List X). row ++ l)
-      (replicate-append-replicate (at - length row) 1 x ∙ ap (λ n. replicate n x) next)
-
--- what an index reads
-pub stands : {X : Type 0} (xs : List X) (i : ℕ) (x : X) → i < length xs → x ≡ get_or xs i x → slice_get xs i ≡ Some x
-stands {X} xs i x within is = slice_get-get_or xs i x within ∙ ap (λ (y : X). Some y) (sym is)
+-- one more is added
+pub filled_more : {X : Type 0} (row : List X) (x : X) (now more : List X) (at : ℕ) → length row ≤ at →
+    now ≡ row ++ replicate (at - length row) x → more ≡ now ++ x ∷ [] → more ≡ row ++ replicate (at + 1 - length row) x
+filled_more row x now more at low is pushed =
+    let next : at + 1 - length row ≡ (at - length row) + 1 = omega arith in
+    rw (pushed, is, append_assoc, next, ← replicate-append-replicate (at - length row) 1 x)
 
 module _ {A B C : Type 0} (R : A → C → Type 0) (f : B → C) where
   -- what holds place by place holds at each place
@@ -30,9 +22,7 @@ module _ {A B C : Type 0} (R : A → C → Type 0) (f : B → C) where
   zip_at [] (v ∷ ys) all k x y is there = cc
   zip_at (u ∷ xs) [] all k x y is there = cc
   zip_at (u ∷ xs) (v ∷ ys) all zero x y is there =
-      let a : u ≡ x = cc in
-      let b : v ≡ y = cc in
-      subst (λ (z : A). R z (f y)) a (subst (λ (z : B). R u (f z)) b all.0)
+      let a : u ≡ x = cc in let b : v ≡ y = cc in rw (a, b) at all.0
   zip_at (u ∷ xs) (v ∷ ys) all (suc k) x y is there = zip_at xs ys all.1 k x y is there
 
   -- there are as many
@@ -54,31 +44,14 @@ module _ {A B C : Type 0} (R : A → C → Type 0) (f : B → C) where
     zip_from xs ys (omega arith) (λ k x y is there. each (suc k) x y is there),
   )
 
--- what the workers did is reported, and that none did the rest
-by_filled : (events : List (Event SealedEntry)) (row filled : List (Option ℕ)) → IsBegunBy events row →
-    filled ≡ row ++ replicate (length events - length row) None → IsBy events filled
-by_filled events row filled (first, later, whole, row_is) is =
-    let all = ap length whole in
-    let both = length-append first later in
-    let told = ap length row_is in
-    let many = length-map first (λ x. Some (pass_of x)) in
-    let rest : length events - length row ≡ length later = omega arith in (
-      first,
-      later,
-      whole,
-      is ∙ ap (λ (l : List (Option ℕ)). l ++ replicate (length events - length row) None) row_is
-          ∙ ap (λ n. passes_of first ++ replicate n None) rest,
-    )
-
--- it reports on no more events than there are
+-- the workers that are reported did no more events than there are, and none did the rest
 pub begun_few : (events : List (Event SealedEntry)) (row : List (Option ℕ)) → IsBegunBy events row →
-    length row ≤ length events
+    (length row ≤ length events) × IsBy events (row ++ replicate (length events - length row) None)
 begun_few events row (first, later, whole, row_is) =
-    let all = ap length whole in
-    let both = length-append first later in
-    let told = ap length row_is in
-    let many = length-map first (λ x. Some (pass_of x)) in
-    omega arith
+    let all = ap length whole ∙ length-append first later in
+    let told = ap length row_is ∙ length-map first (λ x. Some (pass_of x)) in
+    let rest : length events - length row ≡ length later = omega arith in
+    (omega arith, (first, later, whole, rw (rest, row_is)))
 
 module _ {B : Type 0} (f : B → List (Option ℕ)) (ms : List MachineState) where
   -- the lists of the machines below `at` are filled up
@@ -109,13 +82,10 @@ module _ {B : Type 0} (f : B → List (Option ℕ)) (ms : List MachineState) whe
     many = length_set by at new ∙ filling.many;
     done = λ k u z here has lt.
         elim (cases_eq k at) [
-          | inl s ↦ (let a : m ≡ u = one_at ms at m u stood (ap (slice_get ms) (sym s) ∙ here) in
-              let b : new ≡ z = one_at (slice_set by at new) at new z (set_get by at row new there)
+          | inl s ↦ (let a : m ≡ u = one_at ms at m u stood (rw (← s) here) in
+              let b : new ≡ z = one_at _ at new z (set_get by at row new there)
               (ap (slice_get (slice_set by at new)) (sym s) ∙ has) in
-              subst (λ (v : MachineState). IsBy v.events (f z)) a
-              (subst (λ (v : B). IsBy m.events (f v)) b
-              (by_filled m.events (f row) (f new)
-              (filling.rest at m row stood there (omega arith)) is)))
+              rw (← is, a, b) at (begun_few m.events (f row) (filling.rest at m row stood there (omega arith))).1)
           | inr differs ↦ filling.done k u z here (others k z differs has) (omega arith)
         ];
     rest = λ k u z here has le.

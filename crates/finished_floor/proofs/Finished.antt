@@ -1,17 +1,17 @@
 -- What the sweep leaves, sorted, is what a run comes to.
-use Rattle.finished_floor.proofs.Imports.{◌≡◌, ◌∙◌, ℕ, List, [], ◌++◌, length, map, Option, Some, sym, slice_get}
-use Rattle.finished_floor.proofs.Imports.{AllPairs, AllZip, IsPermutation, node_of_sealed, IsOrderly, history}
-use Rattle.finished_floor.proofs.Imports.{IsLawful, Script, Loss, IsBalanced, AreOnce, stamps_are_few, Waiting}
-use Rattle.finished_floor.proofs.Imports.{AreMadeByThese, ArePlaced, HaveGrown, AreScripted, IsLicensed, IsWholeRun}
-use Rattle.finished_floor.proofs.Imports.{MachineState, world_of, Post, AreGathered, ArePlayedAgain, IsFloorOf}
-use Rattle.finished_floor.proofs.Imports.{passes_of, IsToldBefore, AreMachinesOf, IsBegunBy}
+use Rattle.finished_floor.proofs.Imports.{IsLawful, Script, node_of_sealed, stamps_are_few, IsOrderly, history, AreOnce}
+use Rattle.finished_floor.proofs.Imports.{IsBalanced, AreGathered, ArePlayedAgain, IsFloorOf, passes_of, IsToldBefore}
+use Rattle.finished_floor.proofs.Imports.{AreMadeByThese, ArePlaced, HaveGrown, AreMachinesOf, AreScripted, IsLicensed}
+use Rattle.finished_floor.proofs.Imports.{IsWholeRun, Loss, Waiting, IsBegunBy, MachineState, world_of, Post, List}
+use Rattle.finished_floor.proofs.Imports.{Option, Some, [], length, map, sym, ℕ, AllPairs, AllZip, IsPermutation}
+use Rattle.finished_floor.proofs.Imports.{slice_get, ◌++◌, ◌∙◌, ◌≡◌}
 use Rattle.std.specs.Prelude.{All}
-use Rattle.finished_floor.proofs.Once.{each_is_heard_or_lost}
-use Rattle.finished_floor.proofs.Caused.{all_caused, all_on_way, all_scripted}
+use Rattle.finished_floor.proofs.Caused.{all_on_way, all_caused, all_scripted}
 use Rattle.finished_floor.proofs.Ended.{all_at_end}
-use Rattle.finished_floor.proofs.Filled.{zip_from, zip_at, zip_many}
-use Rattle.finished_floor.proofs.Grown.{machines_still, was_at}
-use Rattle.finished_floor.proofs.Heard.{all_known, balanced_moved, got_or_lost}
+use Rattle.finished_floor.proofs.Filled.{zip_at, zip_many, zip_from}
+use Rattle.finished_floor.proofs.Grown.{was_at, machines_still}
+use Rattle.finished_floor.proofs.Heard.{balanced_moved, got_or_lost, all_known}
+use Rattle.finished_floor.proofs.Once.{each_is_heard_or_lost}
 use Rattle.finished_floor.proofs.Played.{are_orderly, played_again}
 use Rattle.finished_floor.proofs.Roomy.{loses_nothing}
 use Rattle.finished_floor.proofs.Sorted.{told_once}

@@ -1,18 +1,11 @@
 -- Machines that have grown: what they are made of stays, and so does what they sent and held.
-use Rattle.finished_floor.proofs.Imports.{◌≡◌, ◌∙◌, ℕ, zero, suc, ◌≤◌, inl, inr, Bool, List, [], ◌∷◌, ◌++◌, length}
-use Rattle.finished_floor.proofs.Imports.{Some, None, refl, sym, ap, subst, arith, length-append, slice_get, Contains}
-use Rattle.finished_floor.proofs.Imports.{map-append, Contains-append_left, slice_get_cases, slice_get_past}
-use Rattle.finished_floor.proofs.Imports.{slice_get_within, node_of_sealed, SealedEntry, Event, entry_of, held, sent}
-use Rattle.finished_floor.proofs.Imports.{IsBorneIn, history, sent-append, Cast0, Script, IsAt, ArePlaced, HasGrown}
-use Rattle.finished_floor.proofs.Imports.{HaveGrown, count_sent, Config, config_of, MachineState, world_of}
-use Rattle.finished_floor.proofs.Imports.{history_there, IsStopOf, IsMachineOf, AreMachinesOf}
-use Rattle.finished_floor.proofs.Places.{get_within}
-
--- where there is no machine there is no history
-pub nothing_at : (ms : List MachineState) (k : ℕ) → slice_get ms k ≡ None → history (world_of ms) k ≡ []
-nothing_at [] k none = refl
-nothing_at (m ∷ ms) zero none = cc
-nothing_at (m ∷ ms) (suc k) none = nothing_at ms k none
+use Rattle.finished_floor.proofs.Imports.{Cast0, Script, node_of_sealed, SealedEntry, sent-append, entry_of, held, sent}
+use Rattle.finished_floor.proofs.Imports.{IsBorneIn, history, Event, ArePlaced, HasGrown, HaveGrown, IsAt, count_sent}
+use Rattle.finished_floor.proofs.Imports.{AreMachinesOf, IsMachineOf, history_there, Config, config_of, MachineState}
+use Rattle.finished_floor.proofs.Imports.{world_of, List, Some, ap, arith, inl, inr, length, length-append, ℕ}
+use Rattle.finished_floor.proofs.Imports.{map-append, Contains-append_left, slice_get_within, Contains, slice_get, ◌++◌}
+use Rattle.finished_floor.proofs.Imports.{◌∙◌, ◌≡◌, ◌≤◌}
+use Rattle.finished_floor.proofs.Places.{get_within, history_cases}
 
 module _ (script : Script) (place : ℕ) (m : MachineState) (of : IsMachineOf script place m) where
   -- what the script's machine is made of
@@ -39,16 +32,9 @@ module _ (script : Script) (place : ℕ) (m : MachineState) (of : IsMachineOf sc
   -- a machine that has grown is still the script's machine at its place
   pub grown_of : (n : MachineState) → HasGrown m n → IsAt place n → IsMachineOf script place n
   grown_of n grown at =
-      let fresh : Config → Bool → MachineState =
-      λ config marked. record { config = config; stop = n.stop; marked = marked; events = [] } in
       let (cast, named, of_cast) = config_is in record {
-        stop = subst (IsStopOf script.stops place) (sym grown.stop) of.stop;
-        made = (
-          cast,
-          named,
-          ap (λ (c : Config). fresh c n.marked) (grown.config ∙ of_cast)
-              ∙ ap (fresh (config_of script place cast)) at.unmarked,
-        );
+        stop = rw grown.stop of.stop;
+        made = (cast, named, rw (grown.config ∙ of_cast, at.unmarked));
         machine = at.machine;
       }
 
@@ -61,16 +47,13 @@ pub held_still : (m n : MachineState) (d : List ℕ) → HasGrown m n → IsBorn
     IsBorneIn node_of_sealed (held n.events) d
 held_still m n d grown (entry, there, same) = (
   entry,
-  subst (λ (l : List SealedEntry). Contains l entry)
-      (sym (ap held grown.events ∙ map-append entry_of m.events grown.later))
-      (Contains-append_left (held m.events) (held grown.later) entry there),
+  rw (grown.events, map-append entry_of m.events grown.later) (Contains-append_left (held m.events) _ entry there),
   same,
 )
 
 -- there are at least as many events
 pub longer : (m n : MachineState) → HasGrown m n → length m.events ≤ length n.events
-longer m n grown =
-    let all = ap length grown.events in let both = length-append m.events grown.later in omega arith
+longer m n grown = rw grown.events (let both = length-append m.events grown.later in omega arith)
 
 module _ (ms ns : List MachineState) (grown : HaveGrown ms ns) where
   -- the machine that has grown
@@ -99,18 +82,10 @@ module _ (ms ns : List MachineState) (grown : HaveGrown ms ns) where
   pub history_more : (k : ℕ) →
       (later : List (Event SealedEntry)) × (history (world_of ns) k ≡ history (world_of ms) k ++ later)
   history_more k =
-      elim ((slice_get_cases ms k).1) [
-        | inl (m, _, is, _) ↦ (let (n, there, grows) = now_at k m is in (
-          grows.later,
-          history_there ns k n there ∙ grows.events
-              ∙ ap (λ (h : List (Event SealedEntry)). h ++ grows.later) (sym (history_there ms k m is)),
-        ))
-        | inr none ↦ (
-          [],
-          (let c = grown.count in let l = none.0 in
-              nothing_at ns k (slice_get_past ns k (omega arith)))
-              ∙ ap (λ (h : List (Event SealedEntry)). h ++ []) (sym (nothing_at ms k none.1)),
-        )
+      elim (history_cases ms k) [
+        | inl (m, is, same) ↦ (let (n, there, grows) = now_at k m is in
+            (grows.later, rw (history_there ns k n there, same) grows.events))
+        | inr none ↦ (history (world_of ns) k, rw none)
       ]
 
   -- each machine sent what it had sent, and more
@@ -123,15 +98,12 @@ module _ (ms ns : List MachineState) (grown : HaveGrown ms ns) where
   -- what a machine has sent stays sent as it grows
   pub sent_still : (k : ℕ) (e : SealedEntry) → Contains (sent (history (world_of ms) k)) e →
       Contains (sent (history (world_of ns) k)) e
-  sent_still k e c =
-      let (later, grows) = sent_more k in
-      subst (λ (l : List SealedEntry). Contains l e) (sym grows)
-      (Contains-append_left (sent (history (world_of ms) k)) later e c)
+  sent_still k e c = let (later, grows) = sent_more k in rw grows (Contains-append_left _ later e c)
 
   -- a machine that has grown has sent no fewer entries
   pub count_more : (k : ℕ) → count_sent ms k ≤ count_sent ns k
   count_more k =
-      let more = sent_more k in
-      let n = ap length more.1 in
-      let l = length-append (sent (history (world_of ms) k)) more.0 in
+      let (later, grows) = sent_more k in
+      let n = ap length grows in
+      let l = length-append (sent (history (world_of ms) k)) later in
       omega arith

@@ -35,7 +35,7 @@ pub use Rattle.finished_floor.specs.Floors.{passes_of}
 pub use Rattle.finished_floor.specs.Laws.{EachIsHeardOrLost}
 pub use Rattle.finished_floor.specs.Losses.{AreLostAsScripted, HoldsAnother, IsCauseOf, IsGotOrLost, IsOnWay}
 pub use Rattle.finished_floor.specs.Losses.{IsToldBefore, LosesNothing, is_before_link, is_kept_off, put_before}
-pub use Rattle.finished_floor.specs.OfEntries.{lost_by}
+pub use Rattle.finished_floor.specs.OfEntries.{loss_of, lost_by}
 pub use Rattle.finished_floor.specs.Placed.{AreMadeByThese, AreOfSent, ArePlaced, HasGrown, HaveGrown, IsAt}
 pub use Rattle.finished_floor.specs.Placed.{count_sent}
 pub use Rattle.finished_floor.specs.Places.{AreMachinesOf, IsAtEnd, IsMachineOf, IsStopOf}
@@ -101,3 +101,13 @@ pub use Rattle.std.specs.Ordering.{is_lt, nat_cmp, ordering_then}
 pub use Rattle.std.specs.Prelude.{IsTrue, nat_le, nat_lt, not, slice_get, slice_index_or, slice_set, ◌&&◌, ◌==◌, ◌||◌}
 pub use Rattle.std.specs.declared.cmp.Ordering.{Ordering}
 pub use Rattle.std.specs.declared.cmp.Ordering.TheVariants.{Equal, Greater, Less}
+pub use Rattle.std.proofs.Common.{cond}
+pub use Rattle.std.proofs.lemmas.Bool.Decides.{nat_tests}
+pub use Rattle.std.proofs.lemmas.List.{append_assoc, nil_from_length}
+pub use Rattle.std.proofs.lemmas.List.Elements.{Contains-push_cases}
+pub use Rattle.std.proofs.lemmas.List.Folds.{list_any_none}
+pub use Rattle.std.proofs.lemmas.List.Quantifiers.{all_pairs_push}
+pub use Rattle.std.proofs.lemmas.Option.{slice_get_read}
+pub use Rattle.std.specs.Prelude.{All}
+pub use Rattle.entry_order.proofs.Histories.{IsLegal-none}
+pub use Rattle.std.specs.List.{list_any}

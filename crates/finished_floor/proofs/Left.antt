@@ -1,9 +1,8 @@
 -- How many actions are left: one less where a machine acts, and as many where one hears.
-use Rattle.finished_floor.proofs.Imports.{◌≡◌, ◌∙◌, ℕ, zero, suc, ◌+◌, ◌-◌, ◌<◌, Bool, List, [], ◌∷◌, length, Option}
-use Rattle.finished_floor.proofs.Imports.{Some, None, ap, arith, slice_get, slice_set, slice_get_within, SealedEntry}
-use Rattle.finished_floor.proofs.Imports.{Sent, sent, sent_as_many, sent_one_more, LossWhy, Scripted, SweptFloor}
-use Rattle.finished_floor.proofs.Imports.{LinkFull, ToStopped, LogFull, SameDigest, MachineState, with_event, MaySend}
-use Rattle.finished_floor.proofs.Imports.{IsFate, IsHanded, actions_left}
+use Rattle.finished_floor.proofs.Imports.{SealedEntry, sent_one_more, sent, Sent, SweptFloor, IsHanded, actions_left}
+use Rattle.finished_floor.proofs.Imports.{Config, MachineState, with_event, MaySend, List, Some, [], ap, arith, length}
+use Rattle.finished_floor.proofs.Imports.{suc, zero, ℕ, slice_get_within, slice_get, slice_set, ◌+◌, ◌-◌, ◌<◌, ◌∷◌, ◌≡◌}
+use Rattle.finished_floor.proofs.Handed.{fate_keeps}
 
 -- how many are left of one machine
 abbrev left_of : MachineState → ℕ
@@ -25,22 +24,11 @@ left_done ms at m e stood may =
     let some = slice_get_within m.config.actions (length (sent m.events)) may.deed may.action in
     omega arith
 
--- where a machine hears an entry, or loses it, as many of its actions are left
-fate_left : (scripted : Bool) (m n : MachineState) (e : SealedEntry) (cause : Option LossWhy) →
-    IsFate scripted m e cause n → left_of n ≡ left_of m
-fate_left scripted m n e None (_, _, same) =
-    ap left_of same ∙ ap (λ k. length m.config.actions - k) (sent_as_many m.events e)
-fate_left scripted m n e (Some Scripted) (_, same) = ap left_of same
-fate_left scripted m n e (Some LinkFull) fate = absurd fate
-fate_left scripted m n e (Some ToStopped) (_, _, same) = ap left_of same
-fate_left scripted m n e (Some LogFull) (_, _, _, same) = ap left_of same
-fate_left scripted m n e (Some SameDigest) (_, _, same) = ap left_of same
-
 -- none is done where an entry is handed to a machine
 pub handed_left : (to : ℕ) (e : SealedEntry) (old new : SweptFloor) → IsHanded to e old new →
     actions_left new.machines.items ≡ actions_left old.machines.items
 handed_left to e old new hands =
     let all = left_set old.machines.items to hands.machine hands.then_machine hands.stood in
-    let same = fate_left _ hands.machine hands.then_machine e hands.cause hands.fate in
-    let is = ap actions_left hands.changed in
-    omega arith
+    let (config, count) = fate_keeps _ hands.machine hands.then_machine e hands.cause hands.fate in
+    let actions = ap (λ (k : Config). length k.actions) config in
+    rw hands.changed (omega arith)

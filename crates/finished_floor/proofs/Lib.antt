@@ -1,7 +1,6 @@
 mod Imports
 pub mod Lists
 pub mod Arriving
-pub mod Orderly
 pub mod Pushes
 pub mod Sweeps
 pub mod Once
@@ -9,12 +8,10 @@ pub mod Numbers
 pub mod Places
 pub mod Events
 pub mod Handed
-pub mod Waits
 pub mod Left
 pub mod Outs
 pub mod Acts
 pub mod Turns
-pub mod Ends
 pub mod Beginnings
 pub mod Sorted
 pub mod Counts

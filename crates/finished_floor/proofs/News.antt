@@ -1,14 +1,11 @@
 -- Machines of a script before anything happened, of which nothing is gathered.
-use Rattle.finished_floor.proofs.Imports.{◌≡◌, ◌∙◌, ℕ, zero, suc, ◌+◌, inl, inr, List, [], ◌∷◌, ◌++◌, length, map}
-use Rattle.finished_floor.proofs.Imports.{Option, Some, refl, sym, ap, subst, arith, length-append, slice_get}
-use Rattle.finished_floor.proofs.Imports.{Contains, All-nil, slice_get_cases, SealedEntry, Event, Got, sent}
-use Rattle.finished_floor.proofs.Imports.{Contains-none, Script, Loss, count_sent, Waiting, roster_of, MachineState}
-use Rattle.finished_floor.proofs.Imports.{IsFresh, IsMachine, history_there, Post, AreGathered, passes_of, IsCauseSoFar}
-use Rattle.finished_floor.proofs.Imports.{IsOnWay, IsMachineOf, IsStopOf}
-use Rattle.std.specs.Prelude.{All}
-use Rattle.finished_floor.proofs.Beginnings.{each_push, start_balanced, start_on_way, start_once}
+use Rattle.finished_floor.proofs.Imports.{Script, Contains-none, sent, Got, AreGathered, IsCauseSoFar, passes_of}
+use Rattle.finished_floor.proofs.Imports.{IsOnWay, IsMachineOf, IsStopOf, Loss, Waiting, no_waits, roster_of, IsFresh}
+use Rattle.finished_floor.proofs.Imports.{IsMachine, MachineState, Post, List, Option, Some, [], ap, arith, length}
+use Rattle.finished_floor.proofs.Imports.{length-append, map, refl, subst, suc, sym, zero, ℕ, All-nil, slice_get, ◌++◌}
+use Rattle.finished_floor.proofs.Imports.{◌+◌, ◌∙◌, ◌∷◌, ◌≡◌}
+use Rattle.finished_floor.proofs.Beginnings.{each_push, none_in, start_balanced, start_once, start_on_way}
 use Rattle.finished_floor.proofs.Filled.{zip_from}
-use Rattle.finished_floor.proofs.Grown.{nothing_at}
 
 -- a fresh machine is the script's
 pub new_of : (script : Script) (at : ℕ) (stop : Option ℕ) (m : MachineState) → IsStopOf script.stops at stop →
@@ -57,7 +54,7 @@ module _ {B : Type 0} (f : B → List (Option ℕ)) (script : Script) where
       -- with one list more that is empty, all are
       last : (by : List B) → ((k : ℕ) (r : B) → slice_get by k ≡ Some r → f r ≡ []) →
           (k : ℕ) (r : B) → slice_get (by ++ row ∷ []) k ≡ Some r → f r ≡ []
-      last [] each zero r there = let same : row ≡ r = cc in subst (λ (v : B). f v ≡ []) same none
+      last [] each zero r there = let same : row ≡ r = cc in rw (← same) none
       last [] each (suc k) r there = cc
       last (x ∷ by) each zero r there = each zero r there
       last (x ∷ by) each (suc k) r there = last by (λ i v h. each (suc i) v h) k r there
@@ -70,25 +67,14 @@ module _ {B : Type 0} (f : B → List (Option ℕ)) (script : Script) where
   new_gathered roster at ms waits losses by is all posts no_waits no_losses = record {
     roster = posts;
     machines = record { count = is.count ∙ all; each = λ k m there. (is.each k m there).0 };
-    makers = λ k m e there c. absurd (Contains-none (Got e)
-        (subst (λ (h : List (Event SealedEntry)). Contains h (Got e)) (is.each k m there).1 c));
+    makers = λ k m e there c. absurd (Contains-none (Got e) (rw (is.each k m there).1 at c));
     on_way = start_on_way ms losses waits no_losses no_waits;
     balanced = start_balanced ms losses waits no_losses no_waits (λ k m there. (is.each k m there).1);
     once = start_once ms losses waits no_losses no_waits;
-    only = subst (All (IsOnWay ms)) (sym no_losses) (All-nil (IsOnWay ms));
-    causes = subst (λ (l : List Loss). All (λ loss. IsCauseSoFar script ms l loss loss.why) l) (sym no_losses)
-        (All-nil (λ loss. IsCauseSoFar script ms [] loss loss.why));
+    only = rw no_losses (All-nil (IsOnWay ms));
+    causes = rw no_losses (All-nil (λ loss. IsCauseSoFar script ms [] loss loss.why));
     scripted = λ from number to lf lt differs low named.
-        let none = none_sent from in absurd (omega arith);
+        let none = ap (λ h. length (sent h)) (none_in ms (λ k m there. (is.each k m there).1) from) in absurd (omega arith);
     by = zip_from (λ (m : MachineState) row. row ≡ passes_of m.events) f ms by (is.many ∙ sym is.count)
         (λ k m row there at_row. is.none k row at_row ∙ ap passes_of (sym (is.each k m there).1));
   }
-    where
-      -- none of the machines has sent an entry
-      none_sent : (k : ℕ) → count_sent ms k ≡ 0
-      none_sent k =
-          elim ((slice_get_cases ms k).1) [
-            | inl (m, _, there, _) ↦ ap (λ h. length (sent h))
-                (history_there ms k m there ∙ (is.each k m there).1)
-            | inr nothing ↦ ap (λ h. length (sent h)) (nothing_at ms k nothing.1)
-          ]

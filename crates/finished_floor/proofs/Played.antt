@@ -1,17 +1,17 @@
 -- The merged events of machines can be played on one thread.
-use Rattle.finished_floor.proofs.Imports.{◌≡◌, ◌∙◌, ℕ, ◌≤◌, List, [], ◌∷◌, ◌++◌, length, map, refl, sym, ap, subst}
-use Rattle.finished_floor.proofs.Imports.{arith, false, Option, Some, None, inl, inr, slice_get, Contains, length-map}
-use Rattle.finished_floor.proofs.Imports.{slice_get_cases, same_Some, node_of_sealed, SealedEntry, Event, Sent, Got}
-use Rattle.finished_floor.proofs.Imports.{Step, IsLegal, World, history, start, play, IsMadeBy, PlacedEvent, step_of}
-use Rattle.finished_floor.proofs.Imports.{IsOrderly, in_world, merged_is_played_again, Loss, IsBalanced}
-use Rattle.finished_floor.proofs.Imports.{AreMadeByThese, ArePlaced, Config, script_configs, MachineState, next_entry}
-use Rattle.finished_floor.proofs.Imports.{MaySend, world_of, configs_of, TellsNext, IsNextAt, IsNextOf, get-map}
-use Rattle.finished_floor.proofs.Imports.{get-map_from, history_there, fresh_configs, Script, ArePlayedAgain}
-use Rattle.finished_floor.proofs.Imports.{AreMachinesOf}
-use Rattle.finished_floor.proofs.Orderly.{IsOrderly-balanced}
-use Rattle.finished_floor.proofs.Handed.{balance_same}
-use Rattle.finished_floor.proofs.Places.{get_within, length_world}
-use Rattle.finished_floor.proofs.Grown.{config_is, log_is, nothing_at}
+use Rattle.finished_floor.proofs.Imports.{Script, node_of_sealed, SealedEntry, Contains-filter, Contains-none, in_world}
+use Rattle.finished_floor.proofs.Imports.{merged_is_played_again, Contains-sent_cases, member_split, sent_in_from, sent}
+use Rattle.finished_floor.proofs.Imports.{IsMadeBy, IsOrderly, history, Event, Got, Sent, got, IsBalanced}
+use Rattle.finished_floor.proofs.Imports.{ArePlayedAgain, AreMadeByThese, ArePlaced, AreMachinesOf, Loss, get-map}
+use Rattle.finished_floor.proofs.Imports.{get-map_from, history_there, fresh_configs, Config, script_configs}
+use Rattle.finished_floor.proofs.Imports.{MachineState, next_entry, MaySend, IsNextOf, TellsNext, configs_of, world_of}
+use Rattle.finished_floor.proofs.Imports.{List, None, Option, Some, [], ap, arith, false, inl, inr, length, map, refl}
+use Rattle.finished_floor.proofs.Imports.{sym, ℕ, eq-eqb, length-map, Contains-append_left, same_Some, slice_get_within}
+use Rattle.finished_floor.proofs.Imports.{◌∙◌, ◌∷◌, ◌≡◌, ◌≤◌, ◌==◌}
+use Rattle.finished_floor.proofs.Arriving.{heard_was_sent}
+use Rattle.finished_floor.proofs.Grown.{config_is, log_is}
+use Rattle.finished_floor.proofs.Places.{length_world, get_within, history_cases, legal_at}
+use Rattle.finished_floor.proofs.Pushes.{Contains-got}
 
 -- a machine may send one entry at most
 sends_one : (config : Config) (h : List (Event SealedEntry)) (e f : SealedEntry) → MaySend config h e →
@@ -20,37 +20,11 @@ sends_one config h e f a b =
     let same : a.deed ≡ b.deed = same_Some a.deed b.deed (sym a.action ∙ b.action) in
     a.made ∙ ap (next_entry config h) same ∙ sym b.made
 
--- so what gives the next entry gives the one that the machine may send
+-- so what gives the next entry of the machine at a place gives the one that it may send
 told_by : (config : Config) (h : List (Event SealedEntry)) (e : SealedEntry) (told : Option SealedEntry) →
     MaySend config h e → IsNextOf config h told → told ≡ Some e
 told_by config h e None may is = absurd (is e may)
 told_by config h e (Some f) may is = ap (λ (x : SealedEntry). Some x) (sends_one config h f e is may)
-
--- and it does so for the machine at a place
-at_place : (config : Config) (h : List (Event SealedEntry)) (e : SealedEntry) (there : Option Config)
-    (told : Option SealedEntry) → there ≡ Some config → MaySend config h e → IsNextAt there h told → told ≡ Some e
-at_place config h e there told is may next =
-    told_by config h e told may (subst (λ (o : Option Config). IsNextAt o h told) is next)
-
--- an empty history has no event
-no_event : (before : List (Event SealedEntry)) (x : Event SealedEntry) (later : List (Event SealedEntry)) →
-    [] ≡ before ++ x ∷ later → ⊥
-no_event [] x later e = cc
-no_event (y ∷ before) x later e = cc
-
--- an event is of a machine that is there
-pub event_at : (ms : List MachineState) (k : ℕ) (x : Event SealedEntry) → Contains (history (world_of ms) k) x →
-    (m : MachineState) × (slice_get ms k ≡ Some m) × Contains m.events x
-event_at ms k x c =
-    elim ((slice_get_cases ms k).1) [
-      | inl (m, _, is, _) ↦ (
-        m,
-        is,
-        subst (λ (h : List (Event SealedEntry)). Contains h x) (history_there ms k m is) c,
-      )
-      | inr none ↦ (let n = subst (λ (h : List (Event SealedEntry)). Contains h x) (nothing_at ms k none.1) c in
-          absurd (let l = n.1 in omega arith))
-    ]
 
 -- the machine as it was made, with no stop of its own
 abbrev made : MachineState → MachineState
@@ -87,52 +61,41 @@ module _ (ms : List MachineState) (placed : ArePlaced ms) where
       let world = length_world ms in
       let (m, there) = get_within ms k (omega arith) in
       let may = (placed k m there).machine.sent before e later (sym (history_there ms k m there) ∙ is) in
-      at_place m.config before e (slice_get (configs_of ms) k) (next k before)
-      (get-map (λ (x : MachineState). x.config) ms k m there) may (tells k before)
-
-  -- the history at each place is legal, be there a machine or none
-  all_legal : (k : ℕ) → IsLegal node_of_sealed k (history (world_of ms) k)
-  all_legal k =
-      elim ((slice_get_cases ms k).1) [
-        | inl (m, _, is, _) ↦ (let at = placed k m is in
-            subst (λ (h : List (Event SealedEntry)). IsLegal node_of_sealed k h)
-            (sym (history_there ms k m is))
-            (subst (λ n. IsLegal node_of_sealed n m.events) at.number at.machine.legal))
-        | inr none ↦ (λ before x later e. absurd (no_event before x later (sym (nothing_at ms k none.1) ∙ e)))
-      ]
+      told_by m.config before e (next k before) may
+      (rw (get-map (λ (x : MachineState). x.config) ms k m there) at (tells k before))
 
   -- where each entry is heard or lost, what was heard was sent
   pub are_orderly : (losses : List Loss) (waits : ℕ → ℕ → List SealedEntry) → AreMadeByThese ms →
       IsBalanced node_of_sealed (length ms) (history (world_of ms)) losses waits →
       IsOrderly node_of_sealed (world_of ms)
-  are_orderly losses waits makers balanced =
-      let world = length_world ms in
-      IsOrderly-balanced node_of_sealed (world_of ms) losses waits all_legal
-      (λ b e c. let (m, at, inside) = event_at ms b (Got e) c in let lt = makers b m e at inside in omega arith)
-      (balance_same (length ms) (length (world_of ms)) (history (world_of ms)) (history (world_of ms)) losses waits
-      (sym world) (λ i. refl) balanced)
+  are_orderly losses waits makers balanced = record {
+    legal = legal_at ms placed;
+    heard = λ b e c. elim (history_cases ms b) [
+      | inl (m, at, same) ↦ (let a : ℕ = e.entry.maker in
+          let (before, later, is) = member_split (history (world_of ms) b) (Got e) c in
+          let mine = Contains-filter (λ (x : SealedEntry). x.entry.maker == a) (got (history (world_of ms) b)) e
+          (Contains-got (history (world_of ms) b) e c) (eq-eqb a a refl) in
+          sent_in_from (world_of ms) a e (Contains-sent_cases (history (world_of ms) a) e
+          (heard_was_sent node_of_sealed losses a b (sent (history (world_of ms) a)) _ e
+          (balanced a b (makers b m e at (rw same at c)) (slice_get_within ms b m at)
+          (legal_at ms placed b before (Got e) later is).1) (Contains-append_left _ (waits a b) e mine))))
+      | inr none ↦ absurd (Contains-none (Got e) (rw none at c))
+    ];
+  }
 
   module _ (script : Script) (of : AreMachinesOf script ms) where
     -- no history has more events than the script's log size
     all_within : (k : ℕ) → length (history (world_of ms) k) ≤ script.log
     all_within k =
-        elim ((slice_get_cases ms k).1) [
-          | inl (m, _, is, _) ↦ (let at = placed k m is in
-              let l = log_is script k m (of.each k m is) in
-              let n = at.machine.within in
-              let same = ap length (history_there ms k m is) in omega arith)
-          | inr none ↦ (let same = ap length (nothing_at ms k none.1) in omega arith)
+        elim (history_cases ms k) [
+          | inl (m, is, same) ↦ rw (same, ← log_is script k m (of.each k m is)) (placed k m is).machine.within
+          | inr none ↦ rw none (omega arith)
         ]
 
     -- playing the merged events of an orderly world of the script's machines gives their histories
     -- again
     pub played_again : IsOrderly node_of_sealed (world_of ms) → ArePlayedAgain script ms
     played_again orderly xs merged w (next, told, same) k =
-        let steps : List Step = map (λ (x : PlacedEvent SealedEntry). step_of node_of_sealed x.machine x.event) xs in
-        let tells : TellsNext (configs_of ms) next =
-        subst (λ (cs : List Config). TellsNext cs next) (sym (configs_are script ms of)) told in
-        let many : length script.machines ≡ length (world_of ms) = sym (length_world ms ∙ of.count) in
-        ap (λ (v : World SealedEntry). history v k) same
-        ∙ ap (λ n. history (play node_of_sealed next script.log (start n) steps) k) many
-        ∙ merged_is_played_again node_of_sealed next script.log (world_of ms) orderly (made_by next tells) all_within
-        xs merged k
+        rw (same, sym (length_world ms ∙ of.count))
+        (merged_is_played_again node_of_sealed next script.log (world_of ms) orderly
+        (made_by next (rw (configs_are script ms of) told)) all_within xs merged k)

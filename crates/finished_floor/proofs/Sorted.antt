@@ -1,68 +1,28 @@
 -- Losses that are sorted.
-use Rattle.finished_floor.proofs.Imports.{◌≡◌, ◌∙◌, ℕ, suc, inl, inr, Bool, false, List, [], ◌∷◌, get_or, refl, sym}
-use Rattle.finished_floor.proofs.Imports.{ap, arith, AllPairs, IsDistinct, IsPermutation, IsSortedByKey, IsTotalOrder}
-use Rattle.finished_floor.proofs.Imports.{on_total, then_total, nat_cmp, ordering_then, is_lt, Ordering, Less, Equal}
-use Rattle.finished_floor.proofs.Imports.{Greater, cases_Bool, cases_order, true≢false, nat_cmp_total}
-use Rattle.finished_floor.proofs.Imports.{All-from_recursion, recursion_from_All, AllPairs-cons, sorted_far, ranks_by}
-use Rattle.finished_floor.proofs.Imports.{IsDistinct-IsPermutation, Loss, is_of, Differ, AreOnce, IsToldBefore, level}
-use Rattle.finished_floor.proofs.Imports.{less}
-use Rattle.finished_floor.proofs.Arriving.{is_of_parts, itself}
-use Rattle.finished_floor.proofs.Once.{differ_sym}
+use Rattle.finished_floor.proofs.Imports.{AreOnce, Differ, is_of, IsToldBefore, Loss, Bool, List, [], arith, false}
+use Rattle.finished_floor.proofs.Imports.{get_or, suc, ℕ, nat_cmp_total, All-from_recursion, recursion_from_All}
+use Rattle.finished_floor.proofs.Imports.{AllPairs-cons, ranks_by, sorted_far, IsDistinct-IsPermutation, IsTotalOrder}
+use Rattle.finished_floor.proofs.Imports.{on_total, then_total, AllPairs, IsDistinct, IsPermutation, IsSortedByKey}
+use Rattle.finished_floor.proofs.Imports.{is_lt, nat_cmp, ordering_then, Ordering, nat_tests, ◌∷◌, ◌≡◌}
 
--- a sender, a receiver and a number, and their order
-abbrev pub Key : Type 0
-Key = ℕ × ℕ × ℕ
+-- what a loss is sorted by
+abbrev pub key_of : Loss → ℕ × ℕ × ℕ
+key_of loss = (loss.from, loss.to, loss.number)
 
 -- by sender, then by receiver, then by number
-abbrev pub compare : Key → Key → Ordering
+abbrev pub compare : ℕ × ℕ × ℕ → ℕ × ℕ × ℕ → Ordering
 compare (from_p, to_p, number_p) (from_q, to_q, number_q) =
     ordering_then (ordering_then (nat_cmp from_p from_q) (nat_cmp to_p to_q)) (nat_cmp number_p number_q)
 
 -- this is a total order
 compare_total : IsTotalOrder compare
 compare_total =
-    then_total (then_total (on_total (λ (p : Key). p.0) nat_cmp_total) (on_total (λ (p : Key). p.1) nat_cmp_total))
-    (on_total (λ (p : Key). p.2) nat_cmp_total)
+    then_total (then_total (on_total (λ (p : ℕ × ℕ × ℕ). p.0) nat_cmp_total) (on_total (λ (p : ℕ × ℕ × ℕ). p.1) nat_cmp_total))
+    (on_total (λ (p : ℕ × ℕ × ℕ). p.2) nat_cmp_total)
 
--- what a loss is sorted by
-abbrev pub key_of : Loss → Key
-key_of loss = (loss.from, loss.to, loss.number)
-
--- the first two and the third, or the first and the other two
-regroup : (a b c : Ordering) → ordering_then (ordering_then a b) c ≡ ordering_then a (ordering_then b c)
-regroup Less b c = refl
-regroup Equal b c = refl
-regroup Greater b c = refl
-
--- of two losses on different ways or of different entries, the one that isn't above is reported
--- first
+-- of two losses on different ways or of different entries, the one that isn't above is reported first
 told_from : (a b : Loss) → is_lt (compare (key_of b) (key_of a)) ≡ false → Differ a b → IsToldBefore a b
-told_from a b not_lt differ =
-    let last : Ordering = nat_cmp b.number a.number in
-    let second : Ordering = ordering_then (nat_cmp b.to a.to) last in
-    let first_not : is_lt (ordering_then (nat_cmp b.from a.from) second) ≡ false =
-    sym (ap is_lt (regroup (nat_cmp b.from a.from) (nat_cmp b.to a.to) last)) ∙ not_lt in
-    elim (cases_order a.from b.from) [
-      | inl f ↦ (let later : is_lt second ≡ false =
-          sym (ap (λ o. is_lt (ordering_then o second)) (level b.from a.from (sym f))) ∙ first_not in
-          elim (cases_order a.to b.to) [
-            | inl t ↦ (let last_not : is_lt last ≡ false =
-                sym (ap (λ o. is_lt (ordering_then o last)) (level b.to a.to (sym t))) ∙ later in
-                elim (cases_order a.number b.number) [
-                  | inl n ↦ absurd (true≢false
-                      (sym (itself b a.from a.number a.to (sym f) (sym n) (sym t)) ∙ differ))
-                  | inr (inl lower) ↦ inr (f, inr (t, lower))
-                  | inr (inr higher) ↦
-                      absurd (true≢false (sym (ap is_lt (less b.number a.number higher)) ∙ last_not))
-                ])
-            | inr (inl lower) ↦ inr (f, inl lower)
-            | inr (inr higher) ↦
-                absurd (true≢false (sym (ap (λ o. is_lt (ordering_then o last)) (less b.to a.to higher)) ∙ later))
-          ])
-      | inr (inl lower) ↦ inl lower
-      | inr (inr higher) ↦
-          absurd (true≢false (sym (ap (λ o. is_lt (ordering_then o second)) (less b.from a.from higher)) ∙ first_not))
-    ]
+told_from a b not_lt differ = grind (arith, nat_tests)
 
 -- sorted losses are reported in order
 pub told_from_sorted : (xs : List Loss) → AreOnce xs → IsSortedByKey key_of compare xs → AllPairs IsToldBefore xs
@@ -77,15 +37,7 @@ told_once xs told i j d lt within = by (get_or xs i d) (get_or xs j d) (told i j
   where
     -- a loss that is reported before another is of another entry, or on another way
     by : (a b : Loss) → IsToldBefore a b → Differ a b
-    by a b before =
-        elim (cases_Bool (is_of a.from a.number a.to b)) [
-          | inl is ↦ (let (from_is, number_is, to_is) = is_of_parts b a.from a.number a.to is in absurd (elim before [
-            | inl lower ↦ omega (arith, from_is, lower)
-            | inr (f, inl lower) ↦ omega (arith, to_is, lower)
-            | inr (f, inr (t, lower)) ↦ omega (arith, number_is, lower)
-          ]))
-          | inr isnt ↦ isnt
-        ]
+    by a b before = grind (arith, nat_tests)
 
 -- whether two losses are of one entry on one way
 abbrev same_way : Loss → Loss → Bool
@@ -93,12 +45,7 @@ same_way a b = is_of a.from a.number a.to b
 
 -- the answer is the same in whichever order the two are given
 flips : (a b : Loss) → same_way a b ≡ same_way b a
-flips a b =
-    elim (cases_Bool (same_way a b)) [
-      | inl is ↦ (let (from_is, number_is, to_is) = is_of_parts b a.from a.number a.to is in
-          is ∙ sym (itself a b.from b.number b.to (sym from_is) (sym number_is) (sym to_is)))
-      | inr isnt ↦ isnt ∙ sym (differ_sym a b isnt)
-    ]
+flips a b = grind (arith, nat_tests)
 
 -- where no entry is lost twice on one way, no two losses pass this test
 distinct_of : (xs : List Loss) → AreOnce xs → IsDistinct same_way xs

@@ -1,14 +1,14 @@
 -- A round over the machines, and what is known of a machine that didn't act in it.
-use Rattle.finished_floor.proofs.Imports.{◌≡◌, ◌∙◌, ℕ, ◌+◌, ◌<◌, ◌≤◌, inl, inr, Bool, true, false, List, [], length}
-use Rattle.finished_floor.proofs.Imports.{Some, refl, sym, ap, subst, arith, ◌||◌, slice_get, cases_lt}
-use Rattle.finished_floor.proofs.Imports.{true≢false, or_parts, append-nil, All-nil, node_of_sealed, history, one_at}
-use Rattle.finished_floor.proofs.Imports.{Lose, Loss, IsBalanced, AreOnce, Acted, IsActed, MachineState, world_of}
-use Rattle.finished_floor.proofs.Imports.{ArePlaced, AreOfSent, HasGrown, IsAt, IsLicensed, IsWholeRun, IsNumbered}
-use Rattle.finished_floor.proofs.Imports.{did, AreStillBelow, IsStillAt, IsSwept, IsTurn, SweptFloor, Waits}
-use Rattle.finished_floor.proofs.Imports.{actions_left, no_waits}
+use Rattle.finished_floor.proofs.Imports.{Lose, node_of_sealed, one_at, history, AreOnce, IsBalanced, did}
+use Rattle.finished_floor.proofs.Imports.{AreOfSent, ArePlaced, HasGrown, IsAt, IsLicensed, IsWholeRun, SweptFloor}
+use Rattle.finished_floor.proofs.Imports.{Loss, AreStillBelow, IsNumbered, IsStillAt, IsSwept, IsTurn, Waits}
+use Rattle.finished_floor.proofs.Imports.{actions_left, no_waits, IsActed, MachineState, world_of, Acted, Bool, List}
+use Rattle.finished_floor.proofs.Imports.{Some, [], ap, arith, false, inl, inr, length, refl, subst, sym, true, ℕ}
+use Rattle.finished_floor.proofs.Imports.{cases_lt, or_parts, true≢false, append-nil, All-nil, slice_get, ◌+◌, ◌<◌, ◌∙◌}
+use Rattle.finished_floor.proofs.Imports.{◌≡◌, ◌≤◌, ◌||◌}
 use Rattle.polling_world.specs.declared.acted.Acted.TheVariants as acted
 use Rattle.polling_world.specs.declared.left.LeftWhy.TheVariants as why
-use Rattle.finished_floor.proofs.Handed.{none_on, stopped_there, then_on}
+use Rattle.finished_floor.proofs.Handed.{stopped_there, then_on, none_on}
 
 -- as a round begins none has acted
 pub turn_none : (still : Type 0) (floor : SweptFloor) → IsNumbered floor → still → IsTurn still floor false floor

@@ -1,3 +1,4 @@
+pub mod Goes
 pub mod Steps
 pub mod Endings
 pub mod Marks

@@ -1,28 +1,20 @@
 -- The mark of a set.
-use Rattle.std.proofs.Common.{◌≡◌, ◌∙◌, ℕ, cond, List, [], ◌∷◌, Option, Some, None, refl, ap, sym, subst, inl, inr, ⊎_elim}
+use Rattle.std.proofs.Common.{◌≡◌, ◌∙◌, ℕ, cond, List, [], ◌∷◌, Option, Some, refl, ap, sym, inl, inr, ⊎_elim}
 use Rattle.std.specs.Prelude.{string_bytes}
 use Rattle.std.specs.Str.{bytes_eq}
 use Rattle.folder_calls.specs.declared.begun.Begun.{Begun}
-use Rattle.folder_calls.specs.World.{FolderMoment}
-use Rattle.folder_calls.specs.Placing.{view, IsOldOrNew, AreInPlace, AreOld, AllInPlace, IsApart, AreBegun, IsFewer, IsPlacedFirst}
+use Rattle.folder_calls.specs.World.{FolderMoment, Leaves}
+use Rattle.folder_calls.specs.Placing.{view, IsOldOrNew, AreOld, AllInPlace, AreBegun, IsFewer, IsPlacedFirst}
 use Rattle.folder_calls.specs.Sets.{IsGone, IsWholeSet, IsNeverMixed}
 use Rattle.folder_calls.specs.Asides.{IsSetAside}
-use Rattle.folder_calls.proofs.Steps.{new_same, placed_same, not_new, shows_more, view_on, others_old, apart_names, old_on}
-use Rattle.folder_calls.proofs.Endings.{old_fewer}
-
-text_not_none : (bytes : List ℕ) → Some bytes ≡ None → ⊥
-text_not_none bytes e = subst IsText e tt
-  where
-    IsText : Option (List ℕ) → Type 0
-    IsText None = ⊥
-    IsText (Some x) = Unit {0}
+use Rattle.folder_calls.proofs.Steps.{new_same, placed_same, not_new, shows_more, view_on, others_old, apart_names, old_on, placed_on, fewer_old, one_old, one_shows}
 
 pub never_mixed : IsNeverMixed
 never_mixed mark rest first w is bytes left = ⊎_elim
     (λ old. inl old.others)
     (λ later. ⊎_elim
     (λ new. inr new.others)
-    (λ gone. absurd (text_not_none bytes (gone (Some bytes) left)))
+    (λ gone. cc (gone (Some bytes) left))
     later)
     is.whole
 
@@ -112,36 +104,36 @@ done_aside mark rest first v w aside done = record {
 }
 
 -- what is removed takes nothing from it
-placed_fewer : (bs : List Begun) (u first v w : FolderMoment) → AreBegun bs u → AreInPlace bs first v → IsFewer v w → AreInPlace bs first w
-placed_fewer [] u first v w begun placed fewer = tt
-placed_fewer (b ∷ bs) u first v w begun placed fewer = (
-  (λ content left. placed.0 content (fewer.leaves (string_bytes b.name) content begun.0.name left)),
-  placed_fewer bs u first v w begun.2 placed.1 fewer,
-)
-
 pub whole_fewer : (mark : Begun) (rest : List Begun) (first v w : FolderMoment) → AreBegun (mark ∷ rest) first
     → IsWholeSet mark rest first v → IsFewer v w → IsWholeSet mark rest first w
 whole_fewer mark rest first v w begun is fewer = record {
   leaves = λ name content plain left. is.leaves name content plain (fewer.leaves name content plain left);
   whole = ⊎_elim
       (λ old. inl (record {
-        others = old_fewer rest first first v w begun.2 old.others fewer;
-        own = λ content left. old.own content (fewer.leaves (string_bytes mark.name) content begun.0.name left);
+        others = old_on rest first v w others old.others;
+        own = λ content left. old.own content (own content left);
       }))
       (λ more. inr (⊎_elim
       (λ new. inl (record {
-        others = placed_fewer rest first first v w begun.2 new.others fewer;
-        own = λ content left. new.own content (fewer.leaves (string_bytes mark.name) content begun.0.name left);
+        others = placed_on rest first v w others new.others;
+        own = λ content left. new.own content (own content left);
       }))
-      (λ gone. inr (λ content left. gone content (fewer.leaves (string_bytes mark.name) content begun.0.name left))) more))
+      (λ gone. inr (λ content left. gone content (own content left))) more))
       is.whole;
   shows = λ name. view_on (mark ∷ rest) w v name fewer.bytes (fewer.shows name) ∙ is.shows name;
   bytes = λ i. fewer.bytes i ∙ is.bytes i;
 }
+  where
+    others : AreOld rest v w
+    others = fewer_old rest first v w begun.2 fewer
+
+    own : (content : Option (List ℕ)) → Leaves w (string_bytes mark.name) content
+        → Leaves v (string_bytes mark.name) content
+    own content left = fewer.leaves (string_bytes mark.name) content begun.0.name left
 
 pub done_fewer : (bs : List Begun) (first v w : FolderMoment) → AreBegun bs first → AllInPlace bs first v → IsFewer v w → AllInPlace bs first w
 done_fewer bs first v w begun done fewer = record {
-  placed = placed_fewer bs first first v w begun done.placed fewer;
+  placed = placed_on bs first v w (fewer_old bs first v w begun fewer) done.placed;
   shows = λ name. fewer.shows name ∙ done.shows name;
 }
 
@@ -167,17 +159,6 @@ whole_rest mark rest v w begun gone between = record {
 }
 
 -- the mark is put in place once the others are
-still_placed : (mark : Begun) (bs : List Begun) (v x w : FolderMoment) → IsApart mark bs → AreBegun bs v → AreInPlace bs v x
-    → IsOldOrNew (mark ∷ []) x w → AreInPlace bs v w
-still_placed mark [] v x w apart begun placed between = tt
-still_placed mark (b ∷ bs) v x w apart begun placed between = (
-  (λ content left. ⊎_elim
-      (λ old. placed.0 content old)
-      (λ new. absurd (⊎_elim (λ here. apart_names (string_bytes b.name) (string_bytes mark.name) apart.0 (sym here.0)) (λ none. none) new))
-      (between.leaves (string_bytes b.name) content begun.0.name left)),
-  still_placed mark bs v x w apart.2 begun.2 placed.1 between,
-)
-
 pub whole_mark : (mark : Begun) (rest : List Begun) (v x w : FolderMoment) → AreBegun (mark ∷ rest) v → IsGone (string_bytes mark.name) v
     → IsOldOrNew rest v x → AllInPlace rest v x → IsOldOrNew (mark ∷ []) x w → IsWholeSet mark rest v w
 whole_mark mark rest v x w begun gone before done between = record {
@@ -186,17 +167,13 @@ whole_mark mark rest v x w begun gone before done between = record {
       (λ new. inr (inl (inl (⊎_elim (λ here. (here.0, here.1 ∙ ap Some (before.bytes mark.number))) (λ none. absurd none) new))))
       (between.leaves name content plain left);
   whole = inr (inl (record {
-    others = still_placed mark rest v x w begun.1 begun.2 done.placed between;
+    others = placed_on rest v x w (one_old mark rest v x w begun.1 begun.2 between) done.placed;
     own = λ content left. ⊎_elim
         (λ old. inr (gone_between mark rest v x begun gone before content old))
         (λ new. inl (⊎_elim (λ here. here.1 ∙ ap Some (before.bytes mark.number)) (λ none. absurd none) new))
         (between.leaves (string_bytes mark.name) content begun.0.name left);
   }));
-  shows = λ name. shows_more mark rest w x name between.bytes (λ differs. view_on rest w x name between.bytes
-      (ap (λ t. cond t (Some (w.node mark.number).bytes) (view [] w name)) (sym differs)
-      ∙ between.shows name
-      ∙ ap (λ t. cond t (Some (x.node mark.number).bytes) (view [] x name)) differs))
-      ∙ between_shows mark rest v x before name;
+  shows = λ name. one_shows mark rest x w between name ∙ between_shows mark rest v x before name;
   bytes = λ i. between.bytes i ∙ before.bytes i;
 }
 
@@ -205,7 +182,7 @@ pub done_mark : (mark : Begun) (rest : List Begun) (v x w : FolderMoment) → Ar
 done_mark mark rest v x w begun before done between last = record {
   placed = (
     (λ content left. last.placed.0 content left ∙ ap Some (before.bytes mark.number)),
-    still_placed mark rest v x w begun.1 begun.2 done.placed between,
+    placed_on rest v x w (one_old mark rest v x w begun.1 begun.2 between) done.placed,
   );
   shows = λ name. last.shows name
       ∙ ap (λ e. cond (bytes_eq name (string_bytes mark.name)) (Some e) (view [] x name)) (before.bytes mark.number)

@@ -6,8 +6,10 @@ use Rattle.std.proofs.lemmas.Bool.{false≢true}
 use Rattle.std.proofs.lemmas.List.{take_all}
 use Rattle.std.proofs.lemmas.Slice.Eq.{bytes_eq-Decides}
 use Rattle.folder_calls.specs.declared.begun.Begun.{Begun}
-use Rattle.folder_calls.specs.World.{FolderMoment, Moments, Among, MayHold, Leaves, stands, renamed, name_flushed, does, Does, Now, Since, none_since, one_more, Goes}
-use Rattle.folder_calls.specs.Placing.{is_other, view, IsNewContent, IsOldOrNew, IsInPlace, AreInPlace, AreOld, IsInOrder, AllInPlace, IsApart, StandsBegun, AreBegun, AreFlushed, StandsReady}
+use Rattle.folder_calls.specs.World.{FolderMoment, Moments, MayHold, Leaves, stands, renamed, name_flushed, does, Does, Now, none_since, one_more, Goes}
+use Rattle.folder_calls.specs.Placing.{is_other, view, IsNewContent, IsOldOrNew, IsInPlace, AreInPlace, AreOld, IsInOrder, AllInPlace, IsApart, StandsBegun, AreBegun, AreFlushed, StandsReady, IsFewer}
+pub use Rattle.folder_calls.proofs.Goes.{since_map, since_now}
+use Rattle.folder_calls.proofs.Goes.{since_on, either, nowhere, now_both, goes_none, goes_first, goes_step}
 
 pub same_name : (a b : List ℕ) → bytes_eq a b ≡ true → a ≡ b
 same_name a b h = (bytes_eq-Decides a b).0 h
@@ -15,61 +17,62 @@ same_name a b h = (bytes_eq-Decides a b).0 h
 pub eq_self : (a : List ℕ) → bytes_eq a a ≡ true
 eq_self a = (bytes_eq-Decides a a).1 refl
 
-pub not_same : (a b : List ℕ) → (a ≡ b → ⊥) → bytes_eq a b ≡ false
-not_same a b apart = elim (bytes_eq a b) as (λ t. bytes_eq a b ≡ t → t ≡ false) [
-  | true ↦ λ e. absurd (apart (same_name a b e))
-  | false ↦ λ e. refl
+same_as : (a b : List ℕ) → a ≡ b → bytes_eq a b ≡ true
+same_as a b is = (bytes_eq-Decides a b).1 is
+
+-- a name is another one, or isn't
+pub compared : (a b : List ℕ) → (a ≡ b) ⊎ (bytes_eq a b ≡ false)
+compared a b = elim (bytes_eq a b) as (λ t. bytes_eq a b ≡ t → (a ≡ b) ⊎ (t ≡ false)) [
+  | true ↦ λ e. inl (same_name a b e)
+  | false ↦ λ e. inr refl
 ] refl
+
+pub not_same : (a b : List ℕ) → (a ≡ b → ⊥) → bytes_eq a b ≡ false
+not_same a b apart = ⊎_elim (λ is. absurd (apart is)) (λ differs. differs) (compared a b)
+
+pub apart_names : (a b : List ℕ) → bytes_eq a b ≡ false → a ≡ b → ⊥
+apart_names a b differs is = false≢true (sym differs ∙ (bytes_eq-Decides a b).1 is)
+
+turned : (a b : List ℕ) → bytes_eq a b ≡ false → bytes_eq b a ≡ false
+turned a b differs = not_same b a (λ is. apart_names a b differs (sym is))
+
+-- a name of one kind isn't one of the other
+pub differ : (a b : List ℕ) → is_other a ≡ true → is_other b ≡ false → bytes_eq a b ≡ false
+differ a b other plain = not_same a b (λ is. false≢true (sym plain ∙ ap is_other (sym is) ∙ other))
+
+pub kinds_differ : (a b : List ℕ) → is_other a ≡ false → is_other b ≡ true → bytes_eq a b ≡ false
+kinds_differ a b plain other = turned b a (differ b a other plain)
 
 -- where the name stands for another entry, a crash leaves that, or what it might have left
 pub leaves_stands : (w : FolderMoment) (changed name : List ℕ) (entry : Option ℕ) (content : Option (List ℕ))
     → Leaves (stands changed entry w) name content
     → ((name ≡ changed) × MayHold w entry content) ⊎ Leaves w name content
-leaves_stands w changed name entry content left =
-    (elim (bytes_eq name changed) as (λ b. bytes_eq name changed ≡ b
-    → (e : Option ℕ) → Among (cond b entry (w.at name) ∷ cond b (w.at changed ∷ w.before changed) (w.before name)) e
-    → MayHold w e content → ((name ≡ changed) × MayHold w entry content) ⊎ Leaves w name content) [
-      | true ↦ λ is e among holds. ⊎_elim
-          (λ now. inl (same_name name changed is, subst (λ x. MayHold w x content) now holds))
-          (λ earlier. inr (subst (λ n. Leaves w n content) (sym (same_name name changed is)) (e, earlier, holds)))
-          among
-      | false ↦ λ is e among holds. inr (e, among, holds)
-    ]) refl left.0 left.1 left.2
+leaves_stands w changed name entry content left = ⊎_elim
+    (λ is. ⊎_elim
+    (λ now. inl (is, subst (λ x. MayHold w x content) now left.2))
+    (λ earlier. inr (left.0, rw is earlier, left.2))
+    (rw (is, eq_self changed) at left.1))
+    (λ differs. inr (left.0, rw differs at left.1, left.2))
+    (compared name changed)
 
--- a name that is flushed leaves no more than before
+-- of a name that is flushed a crash leaves what stands there, and of others no more than before
+pub leaves_now : (w : FolderMoment) (name : List ℕ) (content : Option (List ℕ))
+    → Leaves (name_flushed name w) name content → MayHold w (w.at name) content
+leaves_now w name content left = ⊎_elim
+    (λ now. subst (λ x. MayHold w x content) now left.2) (λ none. absurd none) (rw (eq_self name) at left.1)
+
 pub leaves_flushed : (w : FolderMoment) (flushed name : List ℕ) (content : Option (List ℕ))
     → Leaves (name_flushed flushed w) name content → Leaves w name content
-leaves_flushed w flushed name content left =
-    (elim (bytes_eq name flushed) as (λ b.
-    (e : Option ℕ) → Among (w.at name ∷ cond b [] (w.before name)) e
-    → MayHold w e content → Leaves w name content) [
-      | true ↦ λ e among holds. (e, ⊎_elim (λ now. inl now) (λ none. absurd none) among, holds)
-      | false ↦ λ e among holds. (e, among, holds)
-    ]) left.0 left.1 left.2
-
--- moments after moments
-pub since_on : {P : FolderMoment → Type 0} {a b : Moments} (c : Moments) → Since P a b → Since P b c → Since P a c
-since_on c first (none_since) = first
-since_on c first (one_more w ws here rest) = one_more w ws here (since_on ws first rest)
-
-pub since_map : {P Q : FolderMoment → Type 0} {a : Moments} (b : Moments) → ((w : FolderMoment) → P w → Q w) → Since P a b → Since Q a b
-since_map b f (none_since) = none_since
-since_map b f (one_more w ws here rest) = one_more w ws (f w here) (since_map ws f rest)
-
--- what holds at the first moment and at each one since holds now
-pub since_now : {P : FolderMoment → Type 0} {a : Moments} (b : Moments) → Since P a b → Now a P → Now b P
-since_now b (none_since) first = first
-since_now b (one_more w ws here rest) first = here
+leaves_flushed w flushed name content left = ⊎_elim
+    (λ is. (w.at name, inl refl, leaves_now w name content (rw (← is) at left)))
+    (λ differs. (left.0, rw differs at left.1, left.2))
+    (compared name flushed)
 
 -- of a file that is on the disk a crash leaves its bytes
 pub held : (w : FolderMoment) (i : ℕ) (content : Option (List ℕ)) → IsTrue (w.node i).flushed → MayHold w (Some i) content
     → content ≡ Some (w.node i).bytes
 held w i None flushed holds = absurd holds
 held w i (Some bytes) flushed holds = ap Some (holds flushed)
-
--- moments at which the files are the same
-abbrev pub SameNodes : FolderMoment → FolderMoment → Type 0
-SameNodes v w = (i : ℕ) → v.node i ≡ w.node i
 
 -- moments at which the bytes of the files are the same
 abbrev pub SameBytes : FolderMoment → FolderMoment → Type 0
@@ -87,25 +90,20 @@ placed_same [] u v w same placed = tt
 placed_same (b ∷ bs) u v w same placed =
     ((λ content left. placed.0 content left ∙ ap Some (same b.number)), placed_same bs u v w same placed.1)
 
-pub flushed_same : (begun : List Begun) (v w : FolderMoment) → SameNodes v w → AreFlushed begun v → AreFlushed begun w
-flushed_same [] v w same flushed = tt
-flushed_same (b ∷ bs) v w same flushed =
-    (subst (λ n. IsTrue n.flushed) (same b.number) flushed.0, flushed_same bs v w same flushed.1)
+-- what is flushed stays so
+pub flushed_later : (bs : List Begun) (v w : FolderMoment)
+    → ((i : ℕ) → IsTrue (v.node i).flushed → IsTrue (w.node i).flushed)
+    → AreFlushed bs v → AreFlushed bs w
+flushed_later [] v w more flushed = tt
+flushed_later (b ∷ bs) v w more flushed = (more b.number flushed.0, flushed_later bs v w more flushed.1)
 
 -- no name of the others is this one's
 pub not_new : (b : Begun) (bs : List Begun) (w : FolderMoment) (content : Option (List ℕ)) → IsApart b bs
     → IsNewContent bs w (string_bytes b.name) content → ⊥
 not_new b [] w content apart new = new
-not_new b (x ∷ xs) w content apart new = ⊎_elim
-    (λ here. false≢true (sym apart.0 ∙ (bytes_eq-Decides (string_bytes x.name) (string_bytes b.name)).1 here.0))
+not_new b (x ∷ xs) w content apart new =
+    ⊎_elim (λ here. apart_names (string_bytes x.name) (string_bytes b.name) apart.0 here.0)
     (not_new b xs w content apart.2) new
-
--- a name of one kind isn't one of the other
-pub differ : (a b : List ℕ) → is_other a ≡ true → is_other b ≡ false → bytes_eq a b ≡ false
-differ a b other plain = elim (bytes_eq a b) as (λ t. bytes_eq a b ≡ t → t ≡ false) [
-  | true ↦ λ e. absurd (false≢true (sym plain ∙ ap is_other (sym (same_name a b e)) ∙ other))
-  | false ↦ λ e. refl
-] refl
 
 -- the two moments of a file that is put in place
 abbrev pub after_rename : Begun → FolderMoment → FolderMoment
@@ -117,12 +115,10 @@ after_place b w = name_flushed (string_bytes b.name) (after_rename b w)
 -- where other names show the same in two moments, so they do beside one more
 pub shows_more : (b : Begun) (bs : List Begun) (v w : FolderMoment) (name : List ℕ) → SameBytes v w
     → (bytes_eq name (string_bytes b.name) ≡ false → view bs v name ≡ view bs w name) → view (b ∷ bs) v name ≡ view (b ∷ bs) w name
-shows_more b bs v w name same rest =
-    elim (bytes_eq name (string_bytes b.name)) as (λ t. bytes_eq name (string_bytes b.name) ≡ t
-    → cond t (Some (v.node b.number).bytes) (view bs v name) ≡ cond t (Some (w.node b.number).bytes) (view bs w name)) [
-      | true ↦ λ is. ap Some (same b.number)
-      | false ↦ λ differs. rest differs
-    ] refl
+shows_more b bs v w name same rest = ⊎_elim
+    (λ is. rw (same_as name (string_bytes b.name) is) (ap Some (same b.number)))
+    (λ differs. rw differs (rest differs))
+    (compared name (string_bytes b.name))
 
 -- where what is in place shows the same in two moments, so do all
 pub view_on : (bs : List Begun) (v w : FolderMoment) (name : List ℕ) → SameBytes v w → view [] v name ≡ view [] w name
@@ -130,80 +126,54 @@ pub view_on : (bs : List Begun) (v w : FolderMoment) (name : List ℕ) → SameB
 view_on [] v w name same base = base
 view_on (x ∷ xs) v w name same base = shows_more x xs v w name same (λ differs. view_on xs v w name same base)
 
--- a flush shows nothing
-flush_shows : (bs : List Begun) (b : Begun) (w : FolderMoment) (name : List ℕ) → view bs (after_place b w) name ≡ view bs (after_rename b w) name
-flush_shows bs b w name = view_on bs (after_place b w) (after_rename b w) name (λ i. refl) refl
+-- a name that stands for the same shows the same
+same_shown : (v w : FolderMoment) (entry : Option ℕ) → SameBytes v w
+    → option_map (λ i. (v.node i).bytes) entry ≡ option_map (λ i. (w.node i).bytes) entry
+same_shown v w None same = refl
+same_shown v w (Some i) same = ap Some (same i)
+
+pub shows_at : (v w : FolderMoment) (name : List ℕ) → SameBytes v w → (is_other name ≡ false → v.at name ≡ w.at name)
+    → view [] v name ≡ view [] w name
+shows_at v w name same at = elim (is_other name) as (λ o. is_other name ≡ o
+    → cond o None (option_map (λ i. (v.node i).bytes) (v.at name)) ≡ cond o None
+    (option_map (λ i. (w.node i).bytes) (w.at name))) [
+      | true ↦ λ other. refl
+      | false ↦ λ plain. rw (at plain) (same_shown v w (w.at name) same)
+    ] refl
 
 -- who looks under another name sees no change
-unseen : (bs : List Begun) (b : Begun) (w : FolderMoment) (name : List ℕ) → StandsBegun b w → bytes_eq name (string_bytes b.name) ≡ false
-    → view bs (after_rename b w) name ≡ view bs w name
-unseen [] b w name begun differs =
-    let from = string_bytes b.other_name in
-    let to = string_bytes b.name in
-    elim (is_other name) as (λ o. is_other name ≡ o
-    → cond o None (option_map (λ i. (w.node i).bytes) (cond (bytes_eq name to) (w.at from) (cond (bytes_eq name from) None (w.at name))))
-    ≡ cond o None (option_map (λ i. (w.node i).bytes) (w.at name))) [
-      | true ↦ λ other. refl
-      | false ↦ λ plain. ap (λ t. option_map (λ i. (w.node i).bytes) (cond t (w.at from) (cond (bytes_eq name from) None (w.at name)))) differs
-          ∙ ap (λ t. option_map (λ i. (w.node i).bytes) (cond t None (w.at name)))
-          (not_same name from (λ is. false≢true (sym plain ∙ ap is_other is ∙ begun.other)))
-    ] refl
-unseen (x ∷ xs) b w name begun differs =
-    ap (λ v. cond (bytes_eq name (string_bytes x.name)) (Some (w.node x.number).bytes) v) (unseen xs b w name begun differs)
+unseen : (bs : List Begun) (b : Begun) (v w : FolderMoment) (name : List ℕ) → SameBytes v w
+    → v.at name ≡ (after_rename b w).at name
+    → StandsBegun b w → bytes_eq name (string_bytes b.name) ≡ false → view bs v name ≡ view bs w name
+unseen bs b v w name same is begun differs = view_on bs v w name same (shows_at v w name same
+    (λ plain. is ∙ rw (differs, kinds_differ name (string_bytes b.other_name) plain begun.other) refl))
 
 -- its own name isn't one of the others
 mine : (b : Begun) (bs : List Begun) (w : FolderMoment) → IsApart b bs → view bs w (string_bytes b.name) ≡ view [] w (string_bytes b.name)
 mine b [] w apart = refl
-mine b (x ∷ xs) w apart =
-    ap (λ t. cond t (Some (w.node x.number).bytes) (view xs w (string_bytes b.name)))
-    (not_same (string_bytes b.name) (string_bytes x.name)
-    (λ is. false≢true (sym apart.0 ∙ (bytes_eq-Decides (string_bytes x.name) (string_bytes b.name)).1 (sym is))))
-    ∙ mine b xs w apart.2
+mine b (x ∷ xs) w apart = rw (turned (string_bytes x.name) (string_bytes b.name) apart.0) (mine b xs w apart.2)
 
 -- once it is in place the others show it
 pub shows_placed : (b : Begun) (bs : List Begun) (w : FolderMoment) (name : List ℕ) → StandsBegun b w → IsApart b bs
     → view bs (after_place b w) name ≡ view (b ∷ bs) w name
 shows_placed b bs w name begun apart =
-    let from = string_bytes b.other_name in
-    let to = string_bytes b.name in
-    flush_shows bs b w name ∙ (elim (bytes_eq name to) as (λ t. bytes_eq name to ≡ t
-    → view bs (after_rename b w) name ≡ cond t (Some (w.node b.number).bytes) (view bs w name)) [
-      | true ↦ λ is. subst (λ n. view bs (after_rename b w) n ≡ Some (w.node b.number).bytes) (sym (same_name name to is))
-          (mine b bs (after_rename b w) apart
-          ∙ ap (λ o. cond o None (option_map (λ i. (w.node i).bytes) (cond (bytes_eq to to) (w.at from) (cond (bytes_eq to from) None (w.at to))))) begun.name
-          ∙ ap (λ t. option_map (λ i. (w.node i).bytes) (cond t (w.at from) (cond (bytes_eq to from) None (w.at to)))) (eq_self to)
-          ∙ ap (option_map (λ i. (w.node i).bytes)) begun.stands)
-      | false ↦ λ differs. unseen bs b w name begun differs
-    ]) refl
-
--- while it isn't, all show it
-shows_begun : (b : Begun) (bs : List Begun) (w : FolderMoment) (name : List ℕ) → StandsBegun b w
-    → view (b ∷ bs) (after_rename b w) name ≡ view (b ∷ bs) w name
-shows_begun b bs w name begun =
-    let to = string_bytes b.name in
-    elim (bytes_eq name to) as (λ t. bytes_eq name to ≡ t
-    → cond t (Some (w.node b.number).bytes) (view bs (after_rename b w) name) ≡ cond t (Some (w.node b.number).bytes) (view bs w name)) [
-      | true ↦ λ is. refl
-      | false ↦ λ differs. unseen bs b w name begun differs
-    ] refl
+    let to = string_bytes b.name in ⊎_elim
+    (λ is. rw (same_as name to is, is)
+    (mine b bs (after_place b w) apart ∙ rw (begun.name, eq_self to, begun.stands) refl))
+    (λ differs. rw differs (unseen bs b (after_place b w) w name (λ i. refl) refl begun differs))
+    (compared name to)
 
 rename_leaves : (b : Begun) (w : FolderMoment) → StandsBegun b w → IsTrue (w.node b.number).flushed
     → (name : List ℕ) (content : Option (List ℕ)) → is_other name ≡ false
     → Leaves (after_rename b w) name content → Leaves w name content ⊎ ((name ≡ string_bytes b.name) × (content ≡ Some (w.node b.number).bytes))
 rename_leaves b w begun flushed name content plain left =
-    let from = string_bytes b.other_name in
-    let to = string_bytes b.name in
-    ⊎_elim
+    let from = string_bytes b.other_name in ⊎_elim
     (λ now. inr (now.0, held w b.number content flushed (subst (λ e. MayHold w e content) begun.stands now.1)))
     (λ earlier. ⊎_elim
-    (λ gone. absurd (false≢true (sym plain ∙ ap is_other gone.0 ∙ begun.other)))
+    (λ gone. absurd (apart_names name from (kinds_differ name from plain begun.other) gone.0))
     (λ old. inl old)
     (leaves_stands w from name None content earlier))
-    (leaves_stands (stands from None w) to name (w.at from) content left)
-
--- the names of the others aren't its own
-pub apart_names : (a b : List ℕ) → bytes_eq a b ≡ false → a ≡ b → ⊥
-apart_names a b differs is = false≢true (sym differs ∙ (bytes_eq-Decides a b).1 is)
+    (leaves_stands (stands from None w) (string_bytes b.name) name (w.at from) content left)
 
 -- where under each other name no more may be left than at first, the others are old
 pub others_old : (b : Begun) (bs : List Begun) (first w v : FolderMoment) → IsApart b bs → AreBegun bs v
@@ -223,13 +193,6 @@ renamed_old b bs w begun flushed = others_old b bs w (after_rename b w) w begun.
     (λ name content plain differs left. ⊎_elim (λ old. old) (λ new. absurd (differs new.0))
     (rename_leaves b w begun.0 flushed name content plain left))
 
-placed_old : (b : Begun) (bs : List Begun) (w : FolderMoment) → AreBegun (b ∷ bs) w → IsTrue (w.node b.number).flushed
-    → AreOld bs w (after_place b w)
-placed_old b bs w begun flushed = others_old b bs w (after_place b w) w begun.1 begun.2
-    (λ name content plain differs left. ⊎_elim (λ old. old) (λ new. absurd (differs new.0))
-    (rename_leaves b w begun.0 flushed name content plain
-    (leaves_flushed (after_rename b w) (string_bytes b.name) name content left)))
-
 all_old : (bs : List Begun) (w : FolderMoment) → AreOld bs w w
 all_old [] w = tt
 all_old (x ∷ xs) w = ((λ content left. left), all_old xs w)
@@ -239,67 +202,92 @@ old_on [] u v w later earlier = tt
 old_on (x ∷ xs) u v w later earlier =
     ((λ content left. earlier.0 content (later.0 content left)), old_on xs u v w later.1 earlier.1)
 
-pub none_moved : (bs : List Begun) (w : FolderMoment) → IsInOrder bs w w
-none_moved [] w = tt
-none_moved (x ∷ xs) w = inr (all_old xs w)
+pub placed_on : (bs : List Begun) (u v w : FolderMoment) → AreOld bs v w → AreInPlace bs u v → AreInPlace bs u w
+placed_on [] u v w later placed = tt
+placed_on (x ∷ xs) u v w later placed =
+    ((λ content left. placed.0 content (later.0 content left)), placed_on xs u v w later.1 placed.1)
 
--- an order since a later moment is one since an earlier one
+-- an order since a later moment is one since an earlier one, and at a later one at which all are old
 pub order_on : (bs : List Begun) (u v w : FolderMoment) → SameBytes v u → AreOld bs u v → IsInOrder bs v w → IsInOrder bs u w
 order_on [] u v w same old order = tt
 order_on (x ∷ xs) u v w same old order = ⊎_elim
     (λ some. inl ((λ content left. some.0 content left ∙ ap Some (same x.number)), order_on xs u v w same old.1 some.1))
     (λ none. inr (old_on xs u v w none old.1)) order
 
+order_then : (bs : List Begun) (u v w : FolderMoment) → AreOld bs v w → IsInOrder bs u v → IsInOrder bs u w
+order_then [] u v w later order = tt
+order_then (x ∷ xs) u v w later order = ⊎_elim
+    (λ some. inl ((λ content left. some.0 content (later.0 content left)), order_then xs u v w later.1 some.1))
+    (λ none. inr (old_on xs u v w later.1 none)) order
+
+-- a crash leaves no more of the files
+pub fewer_old : (bs : List Begun) (u v w : FolderMoment) → AreBegun bs u → IsFewer v w → AreOld bs v w
+fewer_old [] u v w begun fewer = tt
+fewer_old (b ∷ bs) u v w begun fewer =
+    ((λ content left. fewer.leaves (string_bytes b.name) content begun.0.name left), fewer_old bs u v w begun.2 fewer)
+
+pub name_fewer : (name : List ℕ) (w : FolderMoment) → IsFewer w (name_flushed name w)
+name_fewer flushed w = record {
+  leaves = λ name content plain left. leaves_flushed w flushed name content left;
+  shows = λ name. refl;
+  bytes = λ i. refl;
+}
+
+pub between_fewer : (bs : List Begun) (first v w : FolderMoment) → AreBegun bs first → IsOldOrNew bs first v
+    → IsFewer v w
+    → IsOldOrNew bs first w
+between_fewer bs first v w begun between fewer = record {
+  leaves = λ name content plain left. between.leaves name content plain (fewer.leaves name content plain left);
+  order = order_then bs first v w (fewer_old bs first v w begun fewer) between.order;
+  shows = λ name. view_on bs w v name fewer.bytes (fewer.shows name) ∙ between.shows name;
+  bytes = λ i. fewer.bytes i ∙ between.bytes i;
+}
+
+pub between_same : (bs : List Begun) (w : FolderMoment) → IsOldOrNew bs w w
+between_same bs w = record {
+  leaves = λ name content plain left. inl left;
+  order = none_moved bs;
+  shows = λ name. refl;
+  bytes = λ i. refl;
+}
+  where
+    none_moved : (bs : List Begun) → IsInOrder bs w w
+    none_moved [] = tt
+    none_moved (x ∷ xs) = inr (all_old xs w)
+
+-- the two moments are between
 pub between_renamed : (b : Begun) (bs : List Begun) (w : FolderMoment) → AreBegun (b ∷ bs) w → IsTrue (w.node b.number).flushed
     → IsOldOrNew (b ∷ bs) w (after_rename b w)
 between_renamed b bs w begun flushed = record {
   leaves = λ name content plain left. ⊎_elim (λ old. inl old) (λ new. inr (inl (sym new.0, new.1)))
       (rename_leaves b w begun.0 flushed name content plain left);
   order = inr (renamed_old b bs w begun flushed);
-  shows = λ name. shows_begun b bs w name begun.0;
+  shows = λ name. shows_more b bs (after_rename b w) w name (λ i. refl)
+      (λ differs. unseen bs b (after_rename b w) w name (λ i. refl) refl begun.0 differs);
   bytes = λ i. refl;
 }
 
 pub between_placed : (b : Begun) (bs : List Begun) (w : FolderMoment) → AreBegun (b ∷ bs) w → IsTrue (w.node b.number).flushed
     → IsOldOrNew (b ∷ bs) w (after_place b w)
-between_placed b bs w begun flushed = record {
-  leaves = λ name content plain left. (between_renamed b bs w begun flushed).leaves name content plain
-      (leaves_flushed (after_rename b w) (string_bytes b.name) name content left);
-  order = inr (placed_old b bs w begun flushed);
-  shows = λ name. flush_shows (b ∷ bs) b w name ∙ shows_begun b bs w name begun.0;
-  bytes = λ i. refl;
-}
+between_placed b bs w begun flushed = between_fewer (b ∷ bs) w (after_rename b w) (after_place b w) begun
+    (between_renamed b bs w begun flushed) (name_fewer (string_bytes b.name) (after_rename b w))
 
 -- what is under its name once it is flushed
-pub is_placed : (b : Begun) (w : FolderMoment) → StandsBegun b w → IsTrue (w.node b.number).flushed → (content : Option (List ℕ))
+is_placed : (b : Begun) (w : FolderMoment) → StandsBegun b w → IsTrue (w.node b.number).flushed
+    → (content : Option (List ℕ))
     → Leaves (after_place b w) (string_bytes b.name) content → content ≡ Some (w.node b.number).bytes
-is_placed b w begun flushed content left =
-    let to = string_bytes b.name in
-    let from = string_bytes b.other_name in
-    (elim (bytes_eq to to) as (λ t. t ≡ true → (e : Option ℕ)
-    → Among (cond t (w.at from) (cond (bytes_eq to from) None (w.at to))
-    ∷ cond t [] (cond t (cond (bytes_eq to from) None (w.at to) ∷ cond (bytes_eq to from) (w.at from ∷ w.before from) (w.before to))
-    (cond (bytes_eq to from) (w.at from ∷ w.before from) (w.before to)))) e
-    → MayHold w e content → content ≡ Some (w.node b.number).bytes) [
-      | true ↦ λ is e among holds. ⊎_elim
-          (λ now. held w b.number content flushed (subst (λ x. MayHold w x content) (now ∙ begun.stands) holds))
-          (λ none. absurd none) among
-      | false ↦ λ is. absurd (false≢true is)
-    ]) (eq_self to) left.0 left.1 left.2
+is_placed b w begun flushed content left = held w b.number content flushed
+    (rw (eq_self (string_bytes b.name), begun.stands) at
+    (leaves_now (after_rename b w) (string_bytes b.name) content left))
 
 -- the files after it are as they were
 still_begun : (b x : Begun) (w : FolderMoment) → StandsBegun b w
     → bytes_eq (string_bytes x.other_name) (string_bytes b.other_name) ≡ false → StandsBegun x w → StandsBegun x (after_place b w)
-still_begun b x w begun apart is =
-    let other = string_bytes x.other_name in
-    let from = string_bytes b.other_name in
-    let to = string_bytes b.name in
-    record {
-      stands = ap (λ t. cond t (w.at from) (cond (bytes_eq other from) None (w.at other))) (differ other to is.other begun.name)
-          ∙ ap (λ t. cond t None (w.at other)) apart ∙ is.stands;
-      other = is.other;
-      name = is.name;
-    }
+still_begun b x w begun apart is = record {
+  stands = rw (differ (string_bytes x.other_name) (string_bytes b.name) is.other begun.name, apart) is.stands;
+  other = is.other;
+  name = is.name;
+}
 
 pub rest_begun : (b : Begun) (bs : List Begun) (w : FolderMoment) → StandsBegun b w → IsApart b bs → AreBegun bs w
     → AreBegun bs (after_place b w)
@@ -307,54 +295,58 @@ rest_begun b [] w begun apart are = tt
 rest_begun b (x ∷ xs) w begun apart are =
     (still_begun b x w begun apart.1 are.0, are.1, rest_begun b xs w begun apart.2 are.2)
 
-pub rest_flushed : (b : Begun) (bs : List Begun) (w : FolderMoment) → AreFlushed bs w → AreFlushed bs (after_place b w)
-rest_flushed b bs w flushed = flushed_same bs w (after_place b w) (λ i. refl) flushed
-
 -- it stays in place while the others are put there
 stays_placed : (b : Begun) (bs : List Begun) (first w : FolderMoment) → AreBegun (b ∷ bs) first → IsTrue (first.node b.number).flushed
-    → ((name : List ℕ) (content : Option (List ℕ)) → is_other name ≡ false → Leaves w name content
-    → Leaves (after_place b first) name content ⊎ IsNewContent bs (after_place b first) name content)
-    → IsInPlace b first w
+    → IsOldOrNew bs (after_place b first) w → IsInPlace b first w
 stays_placed b bs first w begun flushed rest content left = ⊎_elim
     (λ old. is_placed b first begun.0 flushed content old)
     (λ new. absurd (not_new b bs (after_place b first) content begun.1 new))
-    (rest (string_bytes b.name) content begun.0.name left)
+    (rest.leaves (string_bytes b.name) content begun.0.name left)
 
 -- what the others leave after it is what all leave
-pub goes_on : (b : Begun) (bs : List Begun) (first w : FolderMoment) → AreBegun (b ∷ bs) first → IsTrue (first.node b.number).flushed
+goes_on : (b : Begun) (bs : List Begun) (first w : FolderMoment) → AreBegun (b ∷ bs) first
+    → IsTrue (first.node b.number).flushed
     → IsOldOrNew bs (after_place b first) w → IsOldOrNew (b ∷ bs) first w
 goes_on b bs first w begun flushed rest = record {
   leaves = λ name content plain left. ⊎_elim
-      (λ old. ⊎_elim
-      (λ older. inl older)
-      (λ new. inr new)
-      ((between_placed b bs first begun flushed).leaves name content plain old))
+      ((between_placed b bs first begun flushed).leaves name content plain)
       (λ new. inr (inr (new_same bs (after_place b first) first name content (λ i. refl) new)))
       (rest.leaves name content plain left);
   order = inl (
-    stays_placed b bs first w begun flushed rest.leaves,
-    order_on bs first (after_place b first) w (λ i. refl) (placed_old b bs first begun flushed) rest.order,
+    stays_placed b bs first w begun flushed rest,
+    order_on bs first (after_place b first) w (λ i. refl) (old_on bs first (after_rename b first) (after_place b first)
+        (fewer_old bs first _ _ begun.2 (name_fewer (string_bytes b.name) (after_rename b first)))
+        (renamed_old b bs first begun flushed)) rest.order,
   );
   shows = λ name. shows_more b bs w first name rest.bytes
-      (λ differs. rest.shows name ∙ flush_shows bs b first name ∙ unseen bs b first name begun.0 differs);
+      (λ differs. rest.shows name ∙ unseen bs b (after_place b first) first name (λ i. refl) refl begun.0 differs);
   bytes = rest.bytes;
 }
 
 -- one file is one of several
-pub of_several : (b : Begun) (bs : List Begun) (first w : FolderMoment) → AreBegun (b ∷ bs) first → IsOldOrNew (b ∷ []) first w → IsOldOrNew (b ∷ bs) first w
+pub one_shows : (b : Begun) (bs : List Begun) (v w : FolderMoment) → IsOldOrNew (b ∷ []) v w → (name : List ℕ)
+    → view (b ∷ bs) w name ≡ view (b ∷ bs) v name
+one_shows b bs v w one name = shows_more b bs w v name one.bytes
+    (λ differs. view_on bs w v name one.bytes (rw differs at (one.shows name)))
+
+-- the others are old meanwhile
+pub one_old : (b : Begun) (bs : List Begun) (v x w : FolderMoment) → IsApart b bs → AreBegun bs v
+    → IsOldOrNew (b ∷ []) x w → AreOld bs x w
+one_old b bs v x w apart begun one = others_old b bs x w v apart begun (λ name content plain differs left. ⊎_elim
+    (λ old. old)
+    (λ new. absurd (⊎_elim (λ here. differs (sym here.0)) (λ none. none) new))
+    (one.leaves name content plain left))
+
+pub of_several : (b : Begun) (bs : List Begun) (first w : FolderMoment) → AreBegun (b ∷ bs) first
+    → IsOldOrNew (b ∷ []) first w
+    → IsOldOrNew (b ∷ bs) first w
 of_several b bs first w begun one = record {
   leaves = λ name content plain left. ⊎_elim
       (λ old. inl old)
       (λ new. inr (⊎_elim (λ here. inl here) (λ none. absurd none) new))
       (one.leaves name content plain left);
-  order = inr (others_old b bs first w first begun.1 begun.2 (λ name content plain differs left. ⊎_elim
-      (λ old. old)
-      (λ new. absurd (⊎_elim (λ here. differs (sym here.0)) (λ none. none) new))
-      (one.leaves name content plain left)));
-  shows = λ name. shows_more b bs w first name one.bytes (λ differs. view_on bs w first name one.bytes
-      (ap (λ t. cond t (Some (w.node b.number).bytes) (view [] w name)) (sym differs)
-      ∙ one.shows name
-      ∙ ap (λ t. cond t (Some (first.node b.number).bytes) (view [] first name)) differs));
+  order = inr (one_old b bs first first w begun.1 begun.2 one);
+  shows = one_shows b bs first w one;
   bytes = one.bytes;
 }
 
@@ -379,15 +371,12 @@ completes b bs (w ∷ ws) begun flushed new rest = since_on new
     (one_more (after_rename b w) (w ∷ ws) (between_renamed b bs w begun flushed.0) none_since))
     (since_map new (λ v. goes_on b bs w v begun flushed.0) rest)
 
-pub between_same : (bs : List Begun) (w : FolderMoment) → IsOldOrNew bs w w
-between_same bs w = record { leaves = λ name content plain left. inl left; order = none_moved bs w; shows = λ name. refl; bytes = λ i. refl }
-
 -- the last of them is placed, and stays so
 placed_now : (b : Begun) (bs : List Begun) (first w : FolderMoment) → AreBegun (b ∷ bs) first → IsTrue (first.node b.number).flushed
     → IsOldOrNew bs (after_place b first) w → AllInPlace bs (after_place b first) w → AllInPlace (b ∷ bs) first w
 placed_now b bs first w begun flushed rest done = record {
   placed = (
-    stays_placed b bs first w begun flushed rest.leaves,
+    stays_placed b bs first w begun flushed rest,
     placed_same bs w (after_place b first) first (λ i. refl) done.placed,
   );
   shows = λ name. done.shows name ∙ shows_placed b bs first name begun.0 begun.1;
@@ -397,46 +386,26 @@ pub completes_placed : (b : Begun) (bs : List Begun) (ws : Moments) → Now ws (
     → CompletesPlaced (b ∷ bs) ws bs (placed_in b ws)
 completes_placed b bs [] begun flushed new rest placed = tt
 completes_placed b bs (w ∷ ws) begun flushed new rest placed =
-    each new (since_now new rest (between_same bs (after_place b w))) placed
-  where
-    each : (new : Moments) → Now new (IsOldOrNew bs (after_place b w)) → Now new (AllInPlace bs (after_place b w))
-        → Now new (AllInPlace (b ∷ bs) w)
-    each [] now placed = tt
-    each (v ∷ vs) now placed = placed_now b bs w v begun flushed.0 now placed
+    now_both new (λ v. placed_now b bs w v begun flushed.0)
+    (since_now new rest (between_same bs (after_place b w))) placed
 
 -- one file's calls, of which the last may have failed
-pub either : (step : FolderMoment → FolderMoment) (ok : Bool) (old new : Moments) → Does step ok old new → (new ≡ old) ⊎ (new ≡ does step old)
-either step true old new did = inr did
-either step false old new did = did
-
-pub nowhere : (step : FolderMoment → FolderMoment) (ok : Bool) (new : Moments) → Does step ok [] new → new ≡ []
-nowhere step ok new did = ⊎_elim (λ same. same) (λ done. done) (either step ok [] new did)
-
 pub one_renamed : (b : Begun) (ok : Bool) (ws new : Moments) → Now ws (AreBegun (b ∷ [])) → Now ws (AreFlushed (b ∷ []))
     → Does (renamed (string_bytes b.other_name) (string_bytes b.name)) ok ws new
     → Goes (IsOldOrNew (b ∷ [])) ws new
-one_renamed b ok [] new begun flushed did = nowhere _ ok new did
-one_renamed b ok (w ∷ ws) new begun flushed did = ⊎_elim
-    (λ same. subst (Since (IsOldOrNew (b ∷ []) w) (w ∷ ws)) (sym same) none_since)
-    (λ done. subst (Since (IsOldOrNew (b ∷ []) w) (w ∷ ws)) (sym done)
-    (one_more (after_rename b w) (w ∷ ws) (between_renamed b [] w begun flushed.0) none_since))
-    (either _ ok (w ∷ ws) new did)
+one_renamed b ok ws new begun flushed did = goes_first
+    {A = λ w. AreBegun (b ∷ []) w × AreFlushed (b ∷ []) w} (IsOldOrNew (b ∷ [])) _ ok ws new
+    (λ w are. between_renamed b [] w are.0 are.1.0) (now_both ws (λ w are so. (are, so)) begun flushed) did
 
 pub one_placed : (b : Begun) (ok : Bool) (ws mid new : Moments) → Now ws (AreBegun (b ∷ [])) → Now ws (AreFlushed (b ∷ []))
     → mid ≡ does (renamed (string_bytes b.other_name) (string_bytes b.name)) ws
     → Does (name_flushed (string_bytes b.name)) ok mid new
     → Goes (IsOldOrNew (b ∷ [])) ws new
-one_placed b ok [] mid new begun flushed is did =
-    nowhere (name_flushed (string_bytes b.name)) ok new (subst (λ m. Does (name_flushed (string_bytes b.name)) ok m new) is did)
-one_placed b ok (w ∷ ws) mid new begun flushed is did =
-    let P = IsOldOrNew (b ∷ []) w in
-    let renamed_once : Since P (w ∷ ws) (after_rename b w ∷ w ∷ ws) =
-    one_more (after_rename b w) (w ∷ ws) (between_renamed b [] w begun flushed.0) none_since in
-    ⊎_elim
-    (λ same. subst (Since P (w ∷ ws)) (sym (same ∙ is)) renamed_once)
-    (λ done. subst (Since P (w ∷ ws)) (sym (done ∙ ap (does (name_flushed (string_bytes b.name))) is))
-    (one_more (after_place b w) (after_rename b w ∷ w ∷ ws) (between_placed b [] w begun flushed.0) renamed_once))
-    (either _ ok mid new did)
+one_placed b ok ws mid new begun flushed is did = goes_step (IsOldOrNew (b ∷ [])) (λ s are. between_same (b ∷ []) s)
+    (name_flushed (string_bytes b.name)) ok ws mid new (λ s w are so. so)
+    (λ s w are so. between_fewer (b ∷ []) s w (name_flushed (string_bytes b.name) w) are so
+    (name_fewer (string_bytes b.name) w))
+    begun (one_renamed b true ws mid begun flushed is) did
 
 -- the files that are left, at a place in the list
 pub at_item : (xs : List Begun) (i : ℕ) (x : Begun) → i < length xs → x ≡ get_or xs i x → drop i xs ≡ x ∷ drop (i + 1) xs
@@ -444,7 +413,8 @@ at_item xs i x within is = drop-cons xs i x within ∙ ap (λ k. get_or xs i x �
     ∙ ap (λ y. y ∷ drop (i + 1) xs) (sym is)
 
 -- another file stands ready beside those that are left
-still_ready : (other b : Begun) (bs : List Begun) (w : FolderMoment) → StandsReady other (b ∷ bs) w → StandsReady other bs (after_place b w)
+pub still_ready : (other b : Begun) (bs : List Begun) (w : FolderMoment) → StandsReady other (b ∷ bs) w
+    → StandsReady other bs (after_place b w)
 still_ready other b bs w ready = (
   (
     still_begun b other w ready.0.2.0 (turned (string_bytes b.other_name) (string_bytes other.other_name) ready.0.1.1) ready.0.0,
@@ -453,111 +423,31 @@ still_ready other b bs w ready = (
   ),
   ready.1,
 )
-  where
-    turned : (x y : List ℕ) → bytes_eq x y ≡ false → bytes_eq y x ≡ false
-    turned x y differs = not_same y x (λ is. apart_names x y differs (sym is))
 
-pub next_keeps : (other : Begun) (left : List Begun) (b : Begun) (bs : List Begun) → left ≡ b ∷ bs → (ws next : Moments)
-    → Now ws (StandsReady other left) → next ≡ placed_in b ws → Now next (StandsReady other bs)
-next_keeps other left b bs is ws next ready done = subst (λ n. Now n (StandsReady other bs)) (sym done)
-    (each ws (subst (λ l. Now ws (StandsReady other l)) is ready))
-  where
-    each : (ws : Moments) → Now ws (StandsReady other (b ∷ bs)) → Now (placed_in b ws) (StandsReady other bs)
-    each [] ready = tt
-    each (w ∷ ws) ready = still_ready other b bs w ready
+-- where no file is left, none is to be placed
+pub none_left : (ws : Moments) → Now ws (λ w. Now ws (AllInPlace [] w))
+none_left [] = tt
+none_left (w ∷ ws) = record { placed = tt; shows = λ name. refl }
 
-pub none_kept : (other : Begun) (left : List Begun) (ws : Moments) → left ≡ [] → Now ws (StandsReady other left)
-    → Now ws (StandsReady other [])
-none_kept other left ws is ready = subst (λ l. Now ws (StandsReady other l)) is ready
+-- nothing stands under its other name once it is renamed, so a file that stands there wasn't
+pub gone_from : (b : Begun) (w : FolderMoment) → StandsBegun b w
+    → (after_rename b w).at (string_bytes b.other_name) ≡ None
+gone_from b w begun =
+    rw (
+      differ (string_bytes b.other_name) (string_bytes b.name) begun.other begun.name,
+      eq_self
+          (string_bytes b.other_name),
+    ) refl
 
--- one file of those that are left is put in place
-module _ (left : List Begun) (b : Begun) (bs : List Begun) (is : left ≡ b ∷ bs) (ws next : Moments)
-    (begun : Now ws (AreBegun left)) (flushed : Now ws (AreFlushed left)) (done : next ≡ placed_in b ws) where
-  first_begun : Now ws (AreBegun (b ∷ bs))
-  first_begun = subst (λ l. Now ws (AreBegun l)) is begun
-
-  first_flushed : Now ws (AreFlushed (b ∷ bs))
-  first_flushed = subst (λ l. Now ws (AreFlushed l)) is flushed
-
-  pub next_begun : Now next (AreBegun bs)
-  next_begun = subst (λ n. Now n (AreBegun bs)) (sym done) (each ws first_begun)
-    where
-      each : (ws : Moments) → Now ws (AreBegun (b ∷ bs)) → Now (placed_in b ws) (AreBegun bs)
-      each [] are = tt
-      each (w ∷ ws) are = rest_begun b bs w are.0 are.1 are.2
-
-  pub next_flushed : Now next (AreFlushed bs)
-  next_flushed = subst (λ n. Now n (AreFlushed bs)) (sym done) (each ws first_flushed)
-    where
-      each : (ws : Moments) → Now ws (AreFlushed (b ∷ bs)) → Now (placed_in b ws) (AreFlushed bs)
-      each [] are = tt
-      each (w ∷ ws) are = rest_flushed b bs w are.1
-
-  pub next_completes : (all : List Begun) (start : Moments) → Completes all start left ws → Completes all start bs next
-  next_completes all start so_far new rest = subst (λ l. Completes all start l ws) is so_far new
-      (completes b bs ws first_begun first_flushed new
-      (subst (λ n. Goes (IsOldOrNew bs) n new) done rest))
-
-  pub next_completes_placed : (all : List Begun) (start : Moments) → CompletesPlaced all start left ws
-      → CompletesPlaced all start bs next
-  next_completes_placed all start so_far new rest placed =
-      let rest_here = subst (λ n. Goes (IsOldOrNew bs) n new) done rest in
-      let placed_here = subst (λ n. Now n (λ w. Now new (AllInPlace bs w))) done placed in
-      subst (λ l. CompletesPlaced all start l ws) is so_far new
-      (completes b bs ws first_begun first_flushed new rest_here)
-      (completes_placed b bs ws first_begun first_flushed new rest_here placed_here)
-
--- one file of those that are left fails
-pub fails_here : (all left : List Begun) (b : Begun) (bs : List Begun) (start ws new : Moments) → left ≡ b ∷ bs
-    → Now ws (AreBegun left)
-    → Completes all start left ws → Goes (IsOldOrNew (b ∷ [])) ws new
-    → Goes (IsOldOrNew all) start new
-fails_here all left b bs start ws new is begun so_far failed = subst (λ l. Completes all start l ws) is so_far new
-    (each ws (subst (λ l. Now ws (AreBegun l)) is begun) failed)
-  where
-    each : (ws : Moments) → Now ws (AreBegun (b ∷ bs)) → Goes (IsOldOrNew (b ∷ [])) ws new
-        → Goes (IsOldOrNew (b ∷ bs)) ws new
-    each [] begun failed = failed
-    each (w ∷ ws) begun failed = since_map new (λ v. of_several b bs w v begun) failed
-
--- nothing is left
-pub nothing : (ws : Moments) → Goes (IsOldOrNew []) ws ws
-nothing [] = refl
-nothing (w ∷ ws) = none_since
-
-pub all_done : (all left : List Begun) (start ws : Moments) → left ≡ [] → Completes all start left ws
-    → Goes (IsOldOrNew all) start ws
-all_done all left start ws is so_far = subst (λ l. Completes all start l ws) is so_far ws (nothing ws)
-
-pub all_placed : (all left : List Begun) (start ws : Moments) → left ≡ [] → CompletesPlaced all start left ws
-    → Now start (λ first. Now ws (AllInPlace all first))
-all_placed all left start ws is so_far = subst (λ l. CompletesPlaced all start l ws) is so_far ws (nothing ws) (each ws)
-  where
-    each : (ws : Moments) → Now ws (λ w. Now ws (AllInPlace [] w))
-    each [] = tt
-    each (w ∷ ws) = record { placed = tt; shows = λ name. refl }
-
-abbrev IsEntry : Option ℕ → Type 0
-IsEntry entry = IsSome entry
-
--- a file that still stands under its other name was not renamed
 pub unmoved : (b : Begun) (ok : Bool) (ws new : Moments) → Now ws (AreBegun (b ∷ []))
     → Does (renamed (string_bytes b.other_name) (string_bytes b.name)) ok ws new
     → Now new (λ w. IsSome (w.at (string_bytes b.other_name))) → new ≡ ws
 unmoved b ok [] new begun did there = nowhere _ ok new did
 unmoved b ok (w ∷ ws) new begun did there = ⊎_elim
     (λ same. same)
-    (λ done. absurd (never (subst (λ n. Now n (λ v. IsSome (v.at (string_bytes b.other_name)))) done there)))
+    (λ done. absurd (false≢true (subst (λ (e : Option ℕ). IsSome e) (gone_from b w begun.0)
+    (subst (λ n. Now n (λ v. IsSome (v.at (string_bytes b.other_name)))) done there))))
     (either _ ok (w ∷ ws) new did)
-  where
-    never : IsSome ((after_rename b w).at (string_bytes b.other_name)) → ⊥
-    never h =
-        let gone : (after_rename b w).at (string_bytes b.other_name) ≡ None =
-        ap (λ t. cond t (w.at (string_bytes b.other_name))
-        (cond (bytes_eq (string_bytes b.other_name) (string_bytes b.other_name)) None (w.at (string_bytes b.other_name))))
-        (differ (string_bytes b.other_name) (string_bytes b.name) begun.0.other begun.0.name)
-        ∙ ap (λ t. cond t None (w.at (string_bytes b.other_name))) (eq_self (string_bytes b.other_name)) in
-        false≢true (subst IsEntry gone h)
 
 pub take_min : (xs : List ℕ) (n : ℕ) → take (min (length xs) n) xs ≡ take n xs
 take_min xs n = grind (arith, take_all)
@@ -565,9 +455,6 @@ take_min xs n = grind (arith, take_all)
 -- one file alone is placed
 pub one_done : (b : Begun) (ws new : Moments) → Now ws (AreBegun (b ∷ [])) → Now ws (AreFlushed (b ∷ []))
     → new ≡ placed_in b ws → Now ws (λ first. Now new (AllInPlace (b ∷ []) first))
-one_done b ws new begun flushed done = subst (λ n. Now ws (λ first. Now n (AllInPlace (b ∷ []) first))) (sym done)
-    (completes_placed b [] ws begun flushed (placed_in b ws) (nothing (placed_in b ws)) (each (placed_in b ws)))
-  where
-    each : (vs : Moments) → Now vs (λ w. Now vs (AllInPlace [] w))
-    each [] = tt
-    each (w ∷ vs) = record { placed = tt; shows = λ name. refl }
+one_done b ws new begun flushed done = rw done
+    (completes_placed b [] ws begun flushed (placed_in b ws) (goes_none (IsOldOrNew []) (placed_in b ws))
+    (none_left (placed_in b ws)))

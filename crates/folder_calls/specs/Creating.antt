@@ -1,6 +1,6 @@
 -- What a try for a new file comes to.
 use Rattle.std.specs.Prelude.{◌≡◌, ℕ, List, Option, Some, None}
-use Rattle.folder_calls.specs.World.{FolderMoment, Moments, Now, Goes, IsClear, Creates}
+use Rattle.folder_calls.specs.World.{Moments, Now, Goes, IsClear, Creates}
 
 -- the name stands for the file of this number, where the folder is exposed
 abbrev pub IsUnder : List ℕ → ℕ → Moments → Type 0

@@ -1,12 +1,12 @@
 -- A station before anything happened is one.
 use Rattle.machine_floor.proofs.Imports.{◌≡◌, ℕ, ◌<◌, List, [], ◌∷◌, length, map, refl, sym, ap, ◌∙◌, subst, arith}
-use Rattle.machine_floor.proofs.Imports.{get_or, Option, All, Contains, get_or-map, get_or_default, length-map}
-use Rattle.machine_floor.proofs.Imports.{slice_get_within, node_of_sealed, SealedEntry, Event, Got, sent}
-use Rattle.machine_floor.proofs.Imports.{Contains-none, Lose, Script, IsLawful, OutView, InView, LinkView, Loss}
-use Rattle.machine_floor.proofs.Imports.{arriving, got_from, Tick, out_of, in_of, AreNewLinks, link_at, MachineState}
-use Rattle.machine_floor.proofs.Imports.{IsMachine, IsFresh, StationState, IsStation, IsTakenWell, IsOfLinks, new_out}
-use Rattle.machine_floor.proofs.Imports.{new_in, ticks_from, IsStopOf, lose_lines_of, IsNewStation, begun}
-use Rattle.machine_floor.proofs.Imports.{IsBeginning}
+use Rattle.machine_floor.proofs.Imports.{get_or, Option, All, InView, LinkView, OutView, IsLawful, Script}
+use Rattle.machine_floor.proofs.Imports.{node_of_sealed, SealedEntry, Contains-none, sent, Event, Got, arriving}
+use Rattle.machine_floor.proofs.Imports.{got_from, IsStopOf, AreNewLinks, in_of, out_of, IsNewStation, lose_lines_of}
+use Rattle.machine_floor.proofs.Imports.{IsOfLinks, IsStation, IsTakenWell, StationState, new_in, new_out, ticks_from}
+use Rattle.machine_floor.proofs.Imports.{IsBeginning, begun, IsFresh, IsMachine, MachineState, get_or-map}
+use Rattle.machine_floor.proofs.Imports.{get_or_default, length-map, slice_get_within, Contains}
+use Rattle.machine_floor.proofs.Imports.{link_at}
 use Rattle.machine_floor.proofs.Hands.{some_of}
 
 module _ (script : Script) (m : MachineState) (outs : List (OutView SealedEntry)) (inns : List (InView SealedEntry))
@@ -17,12 +17,11 @@ module _ (script : Script) (m : MachineState) (outs : List (OutView SealedEntry)
 
   -- where nothing was taken, all holds that is asked of entries that were taken
   nothing_well : (from : ℕ) (taken : List SealedEntry) → taken ≡ [] → IsTakenWell from taken
-  nothing_well from taken e =
-      subst (IsTakenWell from) (sym e) (record {
-        makers = λ k d lt. absurd (omega arith);
-        small = λ k d lt. absurd (omega arith);
-        dense = λ k d lt. absurd (omega arith);
-      })
+  nothing_well from taken e = rw e (record {
+    makers = λ k d lt. absurd (omega arith);
+    small = λ k d lt. absurd (omega arith);
+    dense = λ k d lt. absurd (omega arith);
+  })
 
   -- what is true of every station is true of one that begins
   pub IsStation-begun : IsStation (begun script m outs inns)
@@ -80,10 +79,6 @@ module _ (script : Script) (lawful : IsLawful script) (links : List (List LinkVi
   -- the place is that of one of the script's machines
   pub inside : at < length script.machines
   inside = slice_get_within script.machines at fresh.0 fresh.1
-
-  -- the links from the machine at this place
-  row : List LinkView
-  row = get_or links at []
 
   -- one of them, as what a read gives where there is none
   pub l : LinkView
@@ -173,60 +168,5 @@ module _ (script : Script) (lawful : IsLawful script) (links : List (List LinkVi
     link = refl;
     loses = ap (λ n. lose_lines_of n script.loses) number;
     ends = ends;
-    fresh = ap (λ (x : MachineState). record {
-      machine = x;
-      link = script.link;
-      loses = lose_lines_of m.config.number script.loses;
-      outs = map new_out the_outs;
-      inns = map new_in the_inns;
-      losses = [];
-      ticks = [];
-    }) (sym unmade)
-        ∙ ap (λ (o : List (OutView SealedEntry)). record {
-          machine = m;
-          link = script.link;
-          loses = lose_lines_of m.config.number script.loses;
-          outs = o;
-          inns = map new_in the_inns;
-          losses = [];
-          ticks = [];
-        }) (outs_new (get_or links at []))
-        ∙ ap (λ (i : List (InView SealedEntry)). record {
-          machine = m;
-          link = script.link;
-          loses = lose_lines_of m.config.number script.loses;
-          outs = the_outs;
-          inns = i;
-          losses = [];
-          ticks = [];
-        }) (inns_new links at l);
+    fresh = (let none = unmade in let puts = outs_new (get_or links at []) in let takes = inns_new links at l in cc);
   }
-
--- a station that is made of these parts is the one that begins
-pub begun_is : (script : Script) (m : MachineState) (outs : List (OutView SealedEntry))
-    (inns : List (InView SealedEntry))
-    (own : ℕ) (loses given : List Lose) (losses : List Loss) (ticks : List Tick) → loses ≡ lose_lines_of own given →
-    given ≡ script.loses → own ≡ m.config.number → losses ≡ [] → ticks ≡ [] →
-    record {
-      machine = m;
-      link = script.link;
-      loses = loses;
-      outs = outs;
-      inns = inns;
-      losses = losses;
-      ticks = ticks;
-    } ≡ begun script m outs inns
-begun_is script m outs inns own loses given losses ticks l g o lost done =
-    let State : List Lose → List Loss → List Tick → StationState = λ a b c. record {
-      machine = m;
-      link = script.link;
-      loses = a;
-      outs = outs;
-      inns = inns;
-      losses = b;
-      ticks = c;
-    } in
-    ap (λ a. State a losses ticks)
-    (l ∙ ap (lose_lines_of own) g ∙ ap (λ n. lose_lines_of n script.loses) o)
-    ∙ ap (λ b. State (lose_lines_of m.config.number script.loses) b ticks) lost
-    ∙ ap (λ c. State (lose_lines_of m.config.number script.loses) [] c) done

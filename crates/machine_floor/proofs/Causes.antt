@@ -1,12 +1,9 @@
 -- The causes of losses: they stay as a station goes on, and new losses have one.
-use Rattle.machine_floor.proofs.Imports.{◌≡◌, ℕ, ◌<◌, ◌≤◌, false, List, ◌++◌, length, ap, ◌∙◌, subst, arith, Some}
-use Rattle.machine_floor.proofs.Imports.{get_or, length-append, All, nat_lt, lt-ltb, filter-append, All-contains}
-use Rattle.machine_floor.proofs.Imports.{same_Some, SealedEntry, Event, filter_all, Lose, OutView, Loss, LossWhy}
-use Rattle.machine_floor.proofs.Imports.{Scripted, LinkFull, ToStopped, LogFull, SameDigest, is_scripted, IsWay}
-use Rattle.machine_floor.proofs.Imports.{MachineHeard, IsHeard, MachineState, IsMachine, with_event, IsGoing}
-use Rattle.machine_floor.proofs.Imports.{going_on, held_more, stopped_there, numbered_below, IsOutCause, IsInCause}
-use Rattle.machine_floor.proofs.Imports.{cause_of}
-use Rattle.polling_world.specs.declared.heard.MachineHeard.TheVariants as heard
+use Rattle.machine_floor.proofs.Imports.{◌≡◌, ℕ, ◌<◌, ◌≤◌, List, ◌++◌, length, ap, ◌∙◌, arith, get_or, Some, All}
+use Rattle.machine_floor.proofs.Imports.{OutView, Lose, SealedEntry, filter_all, Event, going_on, held_more}
+use Rattle.machine_floor.proofs.Imports.{is_scripted, Loss, LossWhy, LinkFull, LogFull, SameDigest, Scripted, ToStopped}
+use Rattle.machine_floor.proofs.Imports.{IsWay, IsInCause, IsOutCause, numbered_below, MachineState, with_event}
+use Rattle.machine_floor.proofs.Imports.{IsGoing, length-append, lt-ltb, All-contains, filter-append, nat_lt}
 
 -- an end that puts on a link
 abbrev pub End : Type 0
@@ -83,15 +80,3 @@ in_stays m x y LinkFull going room cause = cause
 in_stays m x y ToStopped going room cause = absurd (going_on m going cause)
 in_stays m x y LogFull going room (unstopped, full) = absurd (omega (arith, room, full))
 in_stays m x y SameDigest going room (g, in_h, same) = (g, held_more m.events x g in_h, same)
-
--- what isn't heard has its cause
-pub in_new : (m : MachineState) (x : SealedEntry) (answer : MachineHeard) (why : LossWhy) → IsMachine m →
-    m.marked ≡ false → IsHeard m x answer → cause_of answer ≡ Some why → IsInCause m x why
-in_new m x heard.Taken why is marked h some = cc
-in_new m x (heard.Stopped back) why is marked (has, _) some =
-    subst (λ (w : LossWhy). IsInCause m x w) (same_Some ToStopped why some) (stopped_there m is marked has)
-in_new m x (heard.Own back) why is marked h some = cc
-in_new m x (heard.Already back) why is marked (_, (_, _, borne)) some =
-    subst (λ (w : LossWhy). IsInCause m x w) (same_Some SameDigest why some) borne
-in_new m x (heard.Full back) why is marked (going, (_, _, _, full)) some =
-    subst (λ (w : LossWhy). IsInCause m x w) (same_Some LogFull why some) (going_on m going, full)

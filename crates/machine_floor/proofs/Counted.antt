@@ -1,7 +1,7 @@
 -- How many actions a script has, counted machine by machine.
-use Rattle.machine_floor.proofs.Imports.{◌≡◌, ℕ, ◌+◌, ◌<◌, ◌≤◌, List, [], ◌∷◌, length, take, drop, sym, ap, ◌∙◌}
-use Rattle.machine_floor.proofs.Imports.{arith, get_or, length-append, flat_map, flat_map-append, append-nil}
-use Rattle.machine_floor.proofs.Imports.{take_more, take-append-drop}
+use Rattle.machine_floor.proofs.Imports.{◌≡◌, ℕ, ◌+◌, ◌<◌, ◌≤◌, List, [], ◌∷◌, length, sym, ap, ◌∙◌, arith, get_or}
+use Rattle.machine_floor.proofs.Imports.{drop, length-append, take, flat_map-append, append-nil, take-append-drop}
+use Rattle.machine_floor.proofs.Imports.{take_more, flat_map}
 
 module _ {X A : Type 0} (f : X → List A) (xs : List X) (i : ℕ) where
   -- one machine more

@@ -1,5 +1,6 @@
 -- What is left of a list once as many were passed.
-use Rattle.machine_floor.proofs.Imports.{◌≡◌, ℕ, zero, suc, ◌≤◌, List, [], ◌∷◌, length, drop, get_or, arith}
+use Rattle.machine_floor.proofs.Imports.{◌≡◌, ℕ, zero, suc, ◌≤◌, List, [], ◌∷◌, length, refl, arith, get_or, lists_of}
+use Rattle.machine_floor.proofs.Imports.{Global, Vec, drop, length-map}
 
 -- what comes first in the rest of a list
 pub drop_step : {X : Type 0} (xs : List X) (n : ℕ) (y : X) (ys : List X) → drop n xs ≡ y ∷ ys →
@@ -14,3 +15,12 @@ pub drop_none : {X : Type 0} (xs : List X) (n : ℕ) → drop n xs ≡ [] → le
 drop_none [] n e = omega arith
 drop_none (x ∷ xs) zero e = cc
 drop_none (x ∷ xs) (suc n) e = let rest = drop_none xs n e in omega (arith, rest)
+
+-- a list of no length has none
+pub none_in : {X : Type 0} (xs : List X) → length xs ≡ 0 → xs ≡ []
+none_in [] e = refl
+none_in (x ∷ xs) e = absurd (omega arith)
+
+-- there are as many lists as vectors
+pub lists_many : {X : Type 0} (vs : List (Vec X Global)) → length (lists_of vs) ≡ length vs
+lists_many {X} vs = length-map vs (λ (v : Vec X Global). v.items)

@@ -1,12 +1,12 @@
 -- The stations of the first machines of a script, and what is left for the others.
-use Rattle.machine_floor.proofs.Imports.{◌≡◌, ℕ, suc, ◌<◌, ◌≤◌, List, [], ◌∷◌, ◌++◌, length, map, drop, refl, sym, ap}
-use Rattle.machine_floor.proofs.Imports.{◌∙◌, subst, arith, get_or, Option, Some, inl, inr, length-append, add-one}
-use Rattle.machine_floor.proofs.Imports.{All, slice_get, slice_get_within, slice_get-get_or, Script, IsLawful, Secret}
-use Rattle.machine_floor.proofs.Imports.{LinkView, AreNewLinks, Outs, Inns, key_of, IsKeyOf, MachineState, IsFresh}
-use Rattle.machine_floor.proofs.Imports.{rest_step, rest_none, push_cases, IsStopOf, StationState, IsOfLinks, made_of}
-use Rattle.machine_floor.proofs.Imports.{IsNewStation, AreNewStations, begun, IsBeginning}
+use Rattle.machine_floor.proofs.Imports.{◌≡◌, ℕ, suc, ◌<◌, ◌≤◌, List, [], ◌∷◌, ◌++◌, length, map, refl, sym, ap, ◌∙◌}
+use Rattle.machine_floor.proofs.Imports.{subst, arith, inl, inr, get_or, Option, Some, All, LinkView, IsLawful, Script}
+use Rattle.machine_floor.proofs.Imports.{IsStopOf, Inns, Outs, AreNewLinks, Secret, AreNewStations, IsNewStation}
+use Rattle.machine_floor.proofs.Imports.{IsOfLinks, StationState, made_of, IsBeginning, begun, push_cases, rest_none}
+use Rattle.machine_floor.proofs.Imports.{rest_step, IsKeyOf, key_of, IsFresh, MachineState, add-one, drop}
+use Rattle.machine_floor.proofs.Imports.{length-append, slice_get-get_or, slice_get_within, slice_get}
 use Rattle.machine_floor.proofs.Drops.{drop_step, drop_none}
-use Rattle.machine_floor.proofs.Beginnings.{beginning, new_station, the_outs, the_inns, inside, l}
+use Rattle.machine_floor.proofs.Beginnings.{beginning, new_station, the_outs, the_inns, l}
 
 pub record AreFirst (script : Script) (links : List (List LinkView)) (outs : List Outs) (inns : List Inns)
     (stations : List StationState) (keys : List Secret) (outs_left : List Outs) (inns_left : List Inns) : Type 0 where
@@ -21,9 +21,9 @@ pub record AreFirst (script : Script) (links : List (List LinkView)) (outs : Lis
   -- each is the script's new station at its place
   pub each : (at : ℕ) (s : StationState) → slice_get stations at ≡ Some s → IsNewStation script links at s
 
-module _ (script : Script) (links : List (List LinkView)) (outs : List Outs) (inns : List Inns)
-    (stations : List StationState) (keys more : List Secret) (outs_left : List Outs) (inns_left : List Inns)
-    (key : Secret) (at : ℕ) (first : AreFirst script links outs inns stations keys outs_left inns_left)
+module _ {script : Script} {links : List (List LinkView)} {outs outs_left : List Outs} {inns inns_left : List Inns}
+    {stations : List StationState} {keys more : List Secret} {key : Secret} {at : ℕ}
+    (first : AreFirst script links outs inns stations keys outs_left inns_left)
     (next : keys ≡ key ∷ more) (here : at ≡ length stations) where
   -- the next key is that of the next machine
   pub next_key : IsKeyOf script at key
@@ -56,52 +56,38 @@ module _ (script : Script) (links : List (List LinkView)) (outs : List Outs) (in
         -- the next ends that put are those of the links from its machine
         out_is : out ≡ the_outs script lawful links outs inns are at stop m stops fresh
         out_is = sym ((drop_step outs (length stations) out outs_more (first.puts ∙ out_next)).0 [])
-            ∙ ap (λ n. get_or outs n []) (sym here)
-            ∙ are.puts at [] (inside script lawful links outs inns are at stop m stops fresh)
+            ∙ rw (← here) (are.puts at [] next_within)
 
         -- the next ends that take are those of the links to its machine
         inn_is : inn ≡ the_inns script lawful links outs inns are at stop m stops fresh
         inn_is = sym ((drop_step inns (length stations) inn inns_more (first.takes ∙ inn_next)).0 [])
-            ∙ ap (λ n. get_or inns n []) (sym here)
-            ∙ are.takes at [] (l script lawful links outs inns are at stop m stops fresh)
-            (inside script lawful links outs inns are at stop m stops fresh)
+            ∙ rw (← here) (are.takes at [] (l script lawful links outs inns are at stop m stops fresh) next_within)
 
         -- the next station can begin
         pub may_begin : IsBeginning script m out inn
-        may_begin =
-            subst (λ o. IsBeginning script m o inn) (sym out_is)
-            (subst (λ i. IsBeginning script m (the_outs script lawful links outs inns are at stop m stops fresh) i)
-            (sym inn_is) (beginning script lawful links outs inns are at stop m stops fresh))
+        may_begin = rw (out_is, inn_is) (beginning script lawful links outs inns are at stop m stops fresh)
 
         -- the station that begins with these ends is the script's new one at its place
         begins : IsNewStation script links at (begun script m out inn)
-        begins =
-            subst (λ o. IsNewStation script links at (begun script m o inn)) (sym out_is)
-            (subst (λ i. IsNewStation script links at
-            (begun script m (the_outs script lawful links outs inns are at stop m stops fresh) i))
-            (sym inn_is) (new_station script lawful links outs inns are at stop m stops fresh))
+        begins = rw (out_is, inn_is) (new_station script lawful links outs inns are at stop m stops fresh)
 
         -- with it they are the first ones
         pub one_more : (s : StationState) (new : List StationState) → s ≡ begun script m out inn →
             new ≡ stations ++ s ∷ [] → AreFirst script links outs inns new more outs_more inns_more
         one_more s new begin is =
-            let r = rest_step (key_of script) script.machines (length stations) key more (first.rest ∙ next) in
-            let o = drop_step outs (length stations) out outs_more (first.puts ∙ out_next) in
-            let i = drop_step inns (length stations) inn inns_more (first.takes ∙ inn_next) in
+            let (_, _, _, rest) =
+            rest_step (key_of script) script.machines (length stations) key more (first.rest ∙ next) in
             let count : length new ≡ suc (length stations) =
             ap length is ∙ length-append stations (s ∷ []) ∙ add-one (length stations) in
             record {
               within = let w = next_within in omega (arith, w, count);
-              rest = ap (λ (n : ℕ). map (key_of script) (drop n script.machines)) count ∙ r.3;
-              puts = ap (λ (n : ℕ). drop n outs) count ∙ o.1;
-              takes = ap (λ (n : ℕ). drop n inns) count ∙ i.1;
-              each = λ place u stands. elim (push_cases stations s u place
-                  (ap (λ (us : List StationState). slice_get us place) (sym is) ∙ stands)) [
-                    | inl t ↦ first.each place u t
-                    | inr t ↦ subst (λ (v : StationState). IsNewStation script links place v) (sym (t.1 ∙ begin))
-                        (subst (λ (n : ℕ). IsNewStation script links n (begun script m out inn)) (here ∙ sym t.0)
-                        begins)
-                  ];
+              rest = rw count rest;
+              puts = rw count (drop_step outs (length stations) out outs_more (first.puts ∙ out_next)).1;
+              takes = rw count (drop_step inns (length stations) inn inns_more (first.takes ∙ inn_next)).1;
+              each = λ place u stands. elim (push_cases stations s u place (rw is at stands)) [
+                | inl t ↦ first.each place u t
+                | inr t ↦ rw (t.1, begin, t.0, ← here) begins
+              ];
             }
 
 -- before the first
@@ -117,25 +103,22 @@ first_none script links outs inns keys is = record {
 }
 
 -- once no key is left they are all
-pub all_new : (script : Script) (links : List (List LinkView)) (outs : List Outs) (inns : List Inns)
-    (stations : List StationState) (keys : List Secret) (outs_left : List Outs) (inns_left : List Inns) →
+pub all_new : {script : Script} {links : List (List LinkView)} {outs outs_left : List Outs}
+    {inns inns_left : List Inns} {stations : List StationState} {keys : List Secret} →
     AreFirst script links outs inns stations keys outs_left inns_left → length keys ≡ 0 →
     length links ≡ length script.machines → AreNewStations script links stations
-all_new script links outs inns stations (key ∷ keys) outs_left inns_left first none rows = absurd (omega arith)
-all_new script links outs inns stations [] outs_left inns_left first none rows = record {
-  count = let past = rest_none (key_of script) script.machines (length stations) first.rest in
-      let within = first.within in omega (arith, past, within);
-  rows = let past = rest_none (key_of script) script.machines (length stations) first.rest in
-      let within = first.within in omega (arith, past, within);
-  each = first.each;
-}
+all_new {keys = key ∷ keys} first none rows = absurd (omega arith)
+all_new {script} {stations = stations} {keys = []} first none rows =
+    let past = rest_none (key_of script) script.machines (length stations) first.rest in
+    let within = first.within in
+    record { count = omega arith; rows = omega arith; each = first.each }
 
 -- new stations can be worked: their ends are those of the links, and they have no tick yet
-pub all_workable : (script : Script) (links : List (List LinkView)) (stations : List StationState) →
+pub all_workable : {script : Script} {links : List (List LinkView)} {stations : List StationState} →
     AreNewStations script links stations →
     (All (λ (s : StationState). IsOfLinks links (made_of s)) stations) ×
     All (λ (s : StationState). s.ticks ≡ []) stations
-all_workable script links stations are = (
+all_workable {script} {links} {stations} are = (
   λ k d lt. let new = are.each k (get_or stations k d) (slice_get-get_or stations k d lt) in
       subst (IsOfLinks links) (sym new.fresh) new.ends,
   λ k d lt. let new = are.each k (get_or stations k d) (slice_get-get_or stations k d lt) in

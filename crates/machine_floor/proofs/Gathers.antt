@@ -1,11 +1,11 @@
 -- The stations once their locks are closed and the links are finished: each entry is heard, lost or
 -- waiting.
-use Rattle.machine_floor.proofs.Imports.{◌≡◌, ◌≢◌, ℕ, ◌+◌, ◌<◌, List, ◌++◌, length, sym, ap, ◌∙◌, subst, arith, inl}
-use Rattle.machine_floor.proofs.Imports.{inr, get_or, length-append, ◌||◌, not, Contains, AllPairs, cases_eq}
-use Rattle.machine_floor.proofs.Imports.{get_or_append_left, get_or-append-add, at_from_Contains, AllPairs-filter}
-use Rattle.machine_floor.proofs.Imports.{node_of_sealed, SealedEntry, sent, OutView, InView, Loss, arriving, got_from}
-use Rattle.machine_floor.proofs.Imports.{is_lost, gathered, other_from, other_number, none_of, StationState}
-use Rattle.machine_floor.proofs.Imports.{IsStation, rising_sent}
+use Rattle.machine_floor.proofs.Imports.{◌≡◌, ◌≢◌, ℕ, ◌+◌, ◌<◌, List, ◌++◌, length, sym, ◌∙◌, arith, get_or, InView}
+use Rattle.machine_floor.proofs.Imports.{OutView, node_of_sealed, SealedEntry, sent, gathered, rising_sent, arriving}
+use Rattle.machine_floor.proofs.Imports.{got_from, is_lost, Loss, none_of, IsStation, StationState, length-append}
+use Rattle.machine_floor.proofs.Imports.{get_or-append-add, get_or_append_left, at_from_Contains, AllPairs-filter}
+use Rattle.machine_floor.proofs.Imports.{AllPairs, Contains, not, ◌||◌}
+use Rattle.machine_floor.proofs.Ears.{none_above}
 
 -- each entry has a lower number than those after it
 abbrev Rising : List SealedEntry → Type 0
@@ -17,12 +17,8 @@ lower : (xs ys : List SealedEntry) → Rising (xs ++ ys) → (x y : SealedEntry)
 lower xs ys rises x y c d =
     let (i, below_i, is_x) = at_from_Contains xs x c in
     let (j, below_j, is_y) = at_from_Contains ys y d in
-    let lt = rises i (length xs + j) x (omega (arith, below_i)) (omega (arith, below_j, length-append xs ys)) in
-    let here : get_or (xs ++ ys) i x ≡ x = get_or_append_left xs ys x i below_i ∙ is_x x in
-    let there : get_or (xs ++ ys) (length xs + j) x ≡ y = get_or-append-add xs ys j x ∙ is_y x in
-    let n = ap (λ (z : SealedEntry). z.entry.number) here in
-    let m = ap (λ (z : SealedEntry). z.entry.number) there in
-    omega arith
+    rw (get_or_append_left xs ys x i below_i, is_x x, get_or-append-add xs ys j x, is_y x) at
+    (rises i (length xs + j) x (omega arith) (omega (arith, length-append xs ys)))
 
 -- what one machine got of another, and the rest of the link, are what the other sent and isn't lost
 pub gather_pair : (sender hearer : StationState) (total : List Loss) (a b : ℕ) (rest : List SealedEntry) →
@@ -35,32 +31,13 @@ pub gather_pair : (sender hearer : StationState) (total : List Loss) (a b : ℕ)
     ≡ arriving node_of_sealed total a b (sent sender.machine.events)
 gather_pair sender hearer total a b rest s h sa hb apart lb la out inn out_is inn_is finished either =
     let es : List SealedEntry = sent sender.machine.events in
-    let puts : out.put ≡ arriving node_of_sealed sender.losses a b es =
-    ap (λ (o : OutView SealedEntry). o.put) (sym out_is) ∙ s.puts b out lb (λ e. apart (sym (e ∙ sa)))
-    ∙ ap (λ n. arriving node_of_sealed sender.losses n b es) sa in
-    let hears : got_from node_of_sealed a hearer.machine.events ≡ arriving node_of_sealed hearer.losses a b inn.taken =
-    h.heard a inn la (λ e. apart (e ∙ hb))
-    ∙ ap (λ n. arriving node_of_sealed hearer.losses a n (get_or hearer.inns a inn).taken) hb
-    ∙ ap (λ (i : InView SealedEntry). arriving node_of_sealed hearer.losses a b i.taken) inn_is in
+    let puts = rw (sa, out_is) at (s.puts b out lb (λ e. apart (sym (e ∙ sa)))) in
+    let hears = rw (hb, inn_is) at (h.heard a inn la (λ e. apart (e ∙ hb))) in
     let rises : Rising (inn.taken ++ rest) =
-    subst Rising (sym puts ∙ finished)
-    (AllPairs-filter (λ (x y : SealedEntry). x.entry.number < y.entry.number)
+    rw (← finished, puts) (AllPairs-filter (λ (x y : SealedEntry). x.entry.number < y.entry.number)
     (λ (e : SealedEntry). not (is_lost sender.losses a e.entry.number b)) es
     (rising_sent sender.machine.config.number sender.machine.events s.machine.legal)) in
     gathered node_of_sealed sender.losses hearer.losses total a b es out.put inn.taken rest
-    (got_from node_of_sealed a hearer.machine.events)
-    puts hears finished (λ e c. either e.entry.number)
-    (λ e c. none_of hearer.losses a e.entry.number b (λ j loss lt.
-    let one = get_or hearer.losses j loss in
-    elim (h.fits j loss lt) [
-      | inl hand ↦ other_from one a e.entry.number b (λ f. apart (sym f ∙ hand.0 ∙ hb))
-      | inr ear ↦ elim (cases_eq one.from a) [
-        | inl f ↦ (let (z, taken, number, _) = ear.3 inn in
-            let there : Contains inn.taken z =
-            subst (λ (i : InView SealedEntry). Contains i.taken z) inn_is
-            (subst (λ n. Contains (get_or hearer.inns n inn).taken z) f taken) in
-            let less = lower inn.taken rest rises z e there c in
-            other_number one a e.entry.number b (λ n. absurd (omega (arith, number))))
-        | inr f ↦ other_from one a e.entry.number b f
-      ]
-    ]))
+    (got_from node_of_sealed a hearer.machine.events) puts hears finished (λ e c. either e.entry.number)
+    (λ e c. none_of hearer.losses a e.entry.number b (rw hb at (none_above hearer a e.entry.number inn h
+    (λ f. apart (f ∙ hb)) (λ z taken. lower inn.taken rest rises z e (rw inn_is at taken) c))))

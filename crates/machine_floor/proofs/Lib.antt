@@ -7,8 +7,6 @@ pub mod Made
 pub mod Linked
 pub mod EarLoops
 pub mod Works
-pub mod HandTurns
-pub mod EarTurns
 pub mod Gathers
 pub mod Beginnings
 pub mod Drops

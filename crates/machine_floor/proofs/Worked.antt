@@ -1,8 +1,7 @@
 -- The stations of a script after they were worked.
-use Rattle.machine_floor.proofs.Imports.{◌≡◌, ℕ, ◌<◌, List, length, map, sym, ap, ◌∙◌, subst, arith, get_or}
+use Rattle.machine_floor.proofs.Imports.{◌≡◌, ℕ, ◌<◌, List, length, map, sym, ap, ◌∙◌, subst, arith, get_or, LinkView}
+use Rattle.machine_floor.proofs.Imports.{Script, AreNewStations, IsNewStation, StationState, made_of, get-map_from}
 use Rattle.machine_floor.proofs.Imports.{length-map, get_or_from_slice_get, slice_get-get_or, slice_get_within}
-use Rattle.machine_floor.proofs.Imports.{LinkView, Script, get-map_from, IsNewStation, AreNewStations, StationState}
-use Rattle.machine_floor.proofs.Imports.{made_of}
 
 -- they are still made as the script's new ones
 pub still_made : (script : Script) (links : List (List LinkView)) (before after : List StationState) →

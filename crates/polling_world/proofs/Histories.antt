@@ -1,9 +1,9 @@
 -- Histories with one event more.
-use Rattle.polling_world.proofs.Imports.{◌≡◌, ℕ, ◌≤◌, List, [], ◌∷◌, ◌++◌, length, map, ap, subst, ◌∙◌, inl, inr}
-use Rattle.polling_world.proofs.Imports.{arith, filter, length-map, map_push, length-filter, count_by-le-length}
-use Rattle.polling_world.proofs.Imports.{node_of_sealed, SealedEntry, Event, Sent, ascending, IsAscending, frontier}
-use Rattle.polling_world.proofs.Imports.{entry_of, held, is_named, ascending_ascending, length-insert_digest}
-use Rattle.polling_world.proofs.Imports.{last_or_earlier, Config, entries_in, AreMade, MaySend}
+use Rattle.polling_world.proofs.Imports.{◌≡◌, ℕ, ◌≤◌, List, [], ◌∷◌, ◌++◌, length, map, subst, inl, inr, arith}
+use Rattle.polling_world.proofs.Imports.{filter, length-map, length-filter, count_by-le-length, node_of_sealed}
+use Rattle.polling_world.proofs.Imports.{SealedEntry, Event, Sent, ascending, IsAscending, frontier, entry_of, held}
+use Rattle.polling_world.proofs.Imports.{is_named, ascending_ascending, length-insert_digest, last_or_earlier, Config}
+use Rattle.polling_world.proofs.Imports.{AreMade, MaySend}
 use Rattle.std.specs.Prelude.{not}
 
 -- one event more is made where, if it was sent, it could be sent
@@ -19,13 +19,6 @@ AreMade-push config h x made now before e later is =
 pub AreMade-none : (config : Config) → AreMade config []
 AreMade-none config [] e later is = cc
 AreMade-none config (b ∷ before) e later is = cc
-
--- one entry more is held
-pub entries_push : (h : List (Event SealedEntry)) (x : Event SealedEntry) →
-    entries_in (h ++ x ∷ []) ≡ entries_in h ++ (entry_of x).entry ∷ []
-entries_push h x =
-    ap (map (λ (sealed : SealedEntry). sealed.entry)) (map_push (λ (x : Event SealedEntry). entry_of x) h x)
-    ∙ map_push (λ (sealed : SealedEntry). sealed.entry) (held h) (entry_of x)
 
 -- in order digests are no more than they were
 length-ascending : (ds : List (List ℕ)) → length (ascending ds) ≤ length ds

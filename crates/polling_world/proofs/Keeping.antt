@@ -1,15 +1,15 @@
 -- What a machine keeps, when it is made and when an event is appended.
-use Rattle.polling_world.proofs.Imports.{◌≡◌, ℕ, ◌+◌, ◌<◌, ◌≤◌, Bool, true, false, List, [], ◌∷◌, ◌++◌, length, refl}
-use Rattle.polling_world.proofs.Imports.{sym, ap, subst, ◌∙◌, get_or, arith, length-append, length-map}
+use Rattle.polling_world.proofs.Imports.{◌≡◌, ℕ, ◌+◌, ◌^◌, ◌<◌, ◌≤◌, Bool, true, false, List, [], ◌∷◌, ◌++◌, length}
+use Rattle.polling_world.proofs.Imports.{refl, sym, subst, ◌∙◌, arith, length-append, length-map}
 use Rattle.polling_world.proofs.Imports.{slice_get_within, get_or_from_slice_get, leb-false, IsTrue, slice_get}
-use Rattle.polling_world.proofs.Imports.{Secret, Post, Role, Deed, node_of_sealed, SealedEntry, Event, Sent, Got}
+use Rattle.polling_world.proofs.Imports.{Secret, Post, Role, Deed, node_of_sealed, SealedEntry, Event, Sent, Got, sent}
 use Rattle.polling_world.proofs.Imports.{MayFollow, Heard, IsHearAnswer, log_after, History, IsLegal-push}
 use Rattle.polling_world.proofs.Imports.{IsLegal-none, sent_one_more, sent_as_many, Cast0, Script, IsLawful, IsCast}
 use Rattle.polling_world.proofs.Imports.{Rules, config_of, key_of, post_of, roster_of, IsKept, StandFor, spare_of}
 use Rattle.polling_world.proofs.Imports.{MachineState, IsMachine, IsWithinStop, is_reached, log_of, with_event}
 use Rattle.polling_world.proofs.Imports.{election_of, entries_in, MaySend, IsGoing}
 use Rattle.std.specs.Prelude.{not, ◌||◌, Option, Some, None}
-use Rattle.entangled_log.specs.declared.heard.Heard.TheVariants.{Taken, Own, Already, Full}
+use Rattle.entangled_log.specs.declared.heard.Heard.TheVariants.{Taken}
 use Rattle.polling_world.proofs.Histories.{AreMade-none, AreMade-push}
 use Rattle.polling_world.proofs.MadeEntries.{may_follow}
 use Rattle.polling_world.proofs.Rosters.{key_in_roster, roster_has_text}
@@ -24,10 +24,6 @@ or_false : (a b : Bool) → IsTrue (not (a || b)) → b ≡ false
 or_false true b going = cc
 or_false false true going = cc
 or_false false false going = refl
-
--- a machine that is going hasn't reached its number of events
-not_reached : (m : MachineState) → IsGoing m → is_reached m.stop (length m.events) ≡ false
-not_reached m going = or_false m.marked (is_reached m.stop (length m.events)) going
 
 -- a machine with one event more, which may follow and, if it is sent, may be sent
 pub IsMachine-event : (m : MachineState) (x : Event SealedEntry) → IsMachine m → IsGoing m →
@@ -44,45 +40,41 @@ IsMachine-event m x machine going room may send =
       legal = IsLegal-push node_of_sealed m.config.number m.events x machine.legal may;
       within = omega (arith, longer, room);
       sent = AreMade-push m.config m.events x machine.sent send;
-      stop = subst (λ n. IsWithinStop m.stop n) (sym longer)
-          (one_more m.stop (length m.events) (not_reached m going));
+      stop = rw longer (one_more m.stop (length m.events)
+          (or_false m.marked (is_reached m.stop (length m.events)) going));
     }
 
-module _ (m : MachineState) (election : List ℕ) (next capacity : ℕ) (before after : Rules)
-    (kept : IsKept m election next capacity before) (going : IsGoing m) (room : length m.events < m.config.log) where
-  -- a machine that sends an entry that it may send
-  pub IsKept-sent : (e : SealedEntry) → MaySend m.config m.events e →
-      StandFor after m.config.role m.config.number (entries_in (m.events ++ Sent e ∷ [])) →
-      spare_of before ≤ spare_of after + 1 → IsKept (with_event (Sent e) m) election (next + 1) capacity after
-  IsKept-sent e may noted spare =
-      let longer : length (m.events ++ Sent e ∷ []) ≡ length m.events + 1 = length-append m.events (Sent e ∷ []) in
-      record {
-        machine = IsMachine-event m (Sent e) kept.machine going room (may_follow m.config m.events e may)
-            (λ f is. subst (λ (g : SealedEntry). MaySend m.config m.events g) (cc is) may);
-        of_roster = kept.of_roster;
-        signs_next = omega (arith, kept.signs_next, sent_one_more m.events e);
-        indexed = omega (arith, kept.signs_next, may.unspent);
-        of_log = kept.of_log;
-        noted = noted;
-        spare = omega (arith, kept.spare, spare, longer);
-        few = kept.few;
-      }
+-- what the fields keep where an event is appended that may follow and, if it is sent, may be sent
+IsKept-event : (m : MachineState) (election : List ℕ) (next later capacity : ℕ) (before after : Rules)
+    (x : Event SealedEntry) → IsKept m election next capacity before → IsGoing m → length m.events < m.config.log →
+    MayFollow node_of_sealed m.config.number m.events x →
+    ((e : SealedEntry) → x ≡ Sent e → MaySend m.config m.events e) → later ≡ length (sent (m.events ++ x ∷ [])) →
+    later ≤ 2 ^ m.config.key.height →
+    StandFor after m.config.role m.config.number (entries_in (m.events ++ x ∷ [])) →
+    m.config.log ≤ length (m.events ++ x ∷ []) + spare_of after →
+    IsKept (with_event x m) election later capacity after
+IsKept-event m election next later capacity before after x kept going room may send signs indexed noted spare = record {
+  machine = IsMachine-event m x kept.machine going room may send;
+  of_roster = kept.of_roster;
+  signs_next = signs;
+  indexed = indexed;
+  of_log = kept.of_log;
+  noted = noted;
+  spare = spare;
+  few = kept.few;
+}
 
-  -- a machine that hears an entry that may follow
-  pub IsKept-got : (e : SealedEntry) → MayFollow node_of_sealed m.config.number m.events (Got e) →
-      StandFor after m.config.role m.config.number (entries_in (m.events ++ Got e ∷ [])) →
-      m.config.log ≤ length (m.events ++ Got e ∷ []) + spare_of after →
-      IsKept (with_event (Got e) m) election next capacity after
-  IsKept-got e may noted spare = record {
-    machine = IsMachine-event m (Got e) kept.machine going room may (λ f is. cc);
-    of_roster = kept.of_roster;
-    signs_next = kept.signs_next ∙ sym (sent_as_many m.events e);
-    indexed = kept.indexed;
-    of_log = kept.of_log;
-    noted = noted;
-    spare = spare;
-    few = kept.few;
-  }
+-- a machine that sends an entry that it may send
+pub IsKept-sent : (m : MachineState) (election : List ℕ) (next capacity : ℕ) (before after : Rules) →
+    IsKept m election next capacity before → IsGoing m → (e : SealedEntry) → MaySend m.config m.events e →
+    StandFor after m.config.role m.config.number (entries_in (m.events ++ Sent e ∷ [])) →
+    spare_of before ≤ spare_of after + 1 → IsKept (with_event (Sent e) m) election (next + 1) capacity after
+IsKept-sent m election next capacity before after kept going e may noted spare =
+    IsKept-event m election next (next + 1) capacity before after (Sent e) kept going may.room
+    (may_follow m.config m.events e may)
+    (λ f is. subst (λ (g : SealedEntry). MaySend m.config m.events g) (cc is) may)
+    (omega (arith, kept.signs_next, sent_one_more m.events e)) (omega (arith, kept.signs_next, may.unspent)) noted
+    (omega (arith, kept.spare, spare, length-append m.events (Sent e ∷ [])))
 
 -- the script's machine before anything happened
 abbrev pub fresh : Script → ℕ → Cast0 → Option ℕ → MachineState
@@ -115,16 +107,7 @@ pub is_fresh : (script : Script) (at : ℕ) (cast read : Cast0) (stop : Option �
     log ≡ record { owner = at; capacity = script.log; events = [] } →
     state_from stop false script.version name read.role actions key posts log ≡ fresh script at cast stop
 is_fresh script at cast read stop name actions key posts log reads names acts keys rosters logs =
-    let version = script.version in
-    let own = key_of script cast in
-    ap (λ n. state_from stop false version n read.role actions key posts log)
-    (names ∙ ap (λ (c : Cast0). c.name) reads)
-    ∙ ap (λ r. state_from stop false version cast.name r actions key posts log) (ap (λ (c : Cast0). c.role) reads)
-    ∙ ap (λ a. state_from stop false version cast.name cast.role a key posts log)
-    (acts ∙ ap (λ (c : Cast0). c.actions) reads)
-    ∙ ap (λ k. state_from stop false version cast.name cast.role cast.actions k posts log) keys
-    ∙ ap (λ p. state_from stop false version cast.name cast.role cast.actions own p log) rosters
-    ∙ ap (λ l. state_from stop false version cast.name cast.role cast.actions own (roster_of script) l) logs
+    rw (names, acts, keys, rosters, logs, reads)
 
 -- any number of events to stop at allows none
 none_yet : (stop : Option ℕ) → IsWithinStop stop 0
@@ -136,9 +119,8 @@ IsMachine-fresh : (script : Script) (at : ℕ) (cast : Cast0) (stop : Option ℕ
     slice_get script.machines at ≡ Some cast → IsMachine (fresh script at cast stop)
 IsMachine-fresh script at cast stop lawful is =
     let within : at < length script.machines = slice_get_within script.machines at cast is in
-    let here : get_or script.machines at cast ≡ cast = get_or_from_slice_get script.machines at cast cast is in
     let acts : IsCast script.version script.machines cast =
-    subst (IsCast script.version script.machines) here (lawful.machines.actions at cast within) in
+    rw (get_or_from_slice_get script.machines at cast cast is) at (lawful.machines.actions at cast within) in
     record {
       version = lawful.version;
       roster = roster_has_text script lawful;
@@ -157,9 +139,7 @@ pub IsKept-fresh : (script : Script) (at : ℕ) (cast : Cast0) (stop : Option �
     m ≡ fresh script at cast stop → election ≡ election_of (roster_of script) → next ≡ 0 →
     StandFor state cast.role at [] → script.log ≤ spare_of state → IsKept m election next script.log state
 IsKept-fresh script at cast stop m election next state lawful is fresh_is elected unused stand room =
-    let P : MachineState → Type 0 = λ m. IsKept m election next script.log state in
-    subst P (sym fresh_is) (
-    record {
+    rw fresh_is (record {
       machine = IsMachine-fresh script at cast stop lawful is;
       of_roster = elected;
       signs_next = unused;
@@ -179,52 +159,22 @@ with_log log m = record {
   events = log.events;
 }
 
-module _ (m : MachineState) (election : List ℕ) (next capacity : ℕ) (before after : Rules)
-    (kept : IsKept m election next capacity before) where
-  -- nothing was taken
-  IsKept-same : StandFor after m.config.role m.config.number (entries_in m.events) →
-      m.config.log ≤ length m.events + spare_of after → IsKept m election next capacity after
-  IsKept-same noted spare = record {
-    machine = kept.machine;
-    of_roster = kept.of_roster;
-    signs_next = kept.signs_next;
-    indexed = kept.indexed;
-    of_log = kept.of_log;
-    noted = noted;
-    spare = spare;
-    few = kept.few;
-  }
-
-  -- it keeps what it has to, whatever the log answered
-  heard_kept : IsGoing m → (e : SealedEntry) (heard : Heard SealedEntry) →
-      IsHearAnswer node_of_sealed (log_of m) e heard →
-      StandFor after m.config.role m.config.number (entries_in (log_after heard e (log_of m)).events) →
-      m.config.log ≤ length (log_after heard e (log_of m)).events + spare_of after →
-      IsKept (with_log (log_after heard e (log_of m)) m) election next capacity after
-  heard_kept going e Taken (other, new, room) noted spare =
-      IsKept-got m election next capacity before after kept going room e (new, other) noted spare
-  heard_kept going e (Own back) answer noted spare = IsKept-same noted spare
-  heard_kept going e (Already back) answer noted spare = IsKept-same noted spare
-  heard_kept going e (Full back) answer noted spare = IsKept-same noted spare
-
-  -- the capacity stays
-  fits_after : (heard : Heard SealedEntry) (e : SealedEntry) →
-      (log_after heard e (log_of m)).capacity ≤ length (log_after heard e (log_of m)).events + spare_of after →
-      m.config.log ≤ length (log_after heard e (log_of m)).events + spare_of after
-  fits_after Taken e fits = fits
-  fits_after (Own back) e fits = fits
-  fits_after (Already back) e fits = fits
-  fits_after (Full back) e fits = fits
-
-  -- a machine whose log heard an entry
-  pub IsKept-heard : IsGoing m → (e : SealedEntry) (heard : Heard SealedEntry) (log : History SealedEntry) →
-      IsHearAnswer node_of_sealed (log_of m) e heard → log ≡ log_after heard e (log_of m) →
-      StandFor after m.config.role m.config.number (entries_in log.events) →
-      log.capacity ≤ length log.events + spare_of after → IsKept (with_log log m) election next capacity after
-  IsKept-heard going e heard log answer is noted spare =
-      let P : History SealedEntry → Type 0 = λ l. IsKept (with_log l m) election next capacity after in
-      subst P (sym is)
-      (heard_kept going e heard answer
-      (subst (λ (l : History SealedEntry). StandFor after m.config.role m.config.number (entries_in l.events)) is noted)
-      (fits_after heard e
-      (subst (λ (l : History SealedEntry). l.capacity ≤ length l.events + spare_of after) is spare)))
+-- a machine whose log heard an entry
+pub IsKept-heard : (m : MachineState) (election : List ℕ) (next capacity : ℕ) (before after : Rules) →
+    IsKept m election next capacity before → IsGoing m → (e : SealedEntry) (heard : Heard SealedEntry)
+    (log : History SealedEntry) → IsHearAnswer node_of_sealed (log_of m) e heard →
+    log ≡ log_after heard e (log_of m) → StandFor after m.config.role m.config.number (entries_in log.events) →
+    log.capacity ≤ length log.events + spare_of after → IsKept (with_log log m) election next capacity after
+IsKept-heard m election next capacity before after kept going e Taken log (other, new, room) is noted spare =
+    rw is (IsKept-event m election next next capacity before after (Got e) kept going room (new, other) (λ f same. cc)
+    (kept.signs_next ∙ sym (sent_as_many m.events e)) kept.indexed (rw is at noted) (rw is at spare))
+IsKept-heard m election next capacity before after kept going e _ log answer is noted spare = rw is (record {
+  machine = kept.machine;
+  of_roster = kept.of_roster;
+  signs_next = kept.signs_next;
+  indexed = kept.indexed;
+  of_log = kept.of_log;
+  noted = rw is at noted;
+  spare = rw is at spare;
+  few = kept.few;
+})

@@ -1,19 +1,19 @@
 -- The machines of a script play it in one way.
-use Rattle.polling_world.proofs.Imports.{fun_ext, ◌≡◌, ◌∙◌, ℕ, Bool, List, length, get_or, sym, ap, arith, slice_get}
-use Rattle.polling_world.proofs.Imports.{or-false, same_lists, slice_get-get_or, node_of_sealed, SealedEntry, Event}
-use Rattle.polling_world.proofs.Imports.{Machine, World, start, play, Cast0, Script, Config, IsOf, config_of}
-use Rattle.polling_world.proofs.Imports.{script_configs, MachineState, is_reached, AreOf, IsPlayed, machine_of}
+use Rattle.polling_world.proofs.Imports.{fun_ext, ◌≡◌, ◌∙◌, ℕ, List, length, get_or, sym, ap, arith, slice_get}
+use Rattle.polling_world.proofs.Imports.{same_lists, slice_get-get_or, node_of_sealed, SealedEntry, Event}
+use Rattle.polling_world.proofs.Imports.{Machine, World, start, play, Script, Config, IsOf}
+use Rattle.polling_world.proofs.Imports.{script_configs, MachineState, AreOf, IsPlayed, machine_of}
 use Rattle.polling_world.proofs.Imports.{world_of}
-use Rattle.std.proofs.Common.{◌||◌, Option}
 use Rattle.std.proofs.Common.{Some, None}
 use Rattle.std.proofs.lemmas.List.{get_or-map}
 use Rattle.polling_world.proofs.NextTold.{tells_same}
+use Rattle.polling_world.proofs.Placing.{stopped_by_mark}
 
 -- a script gives each machine one configuration
 same_config : (script : Script) (a b : Config) → a.number ≡ b.number → IsOf script a → IsOf script b → a ≡ b
 same_config script a b number (own, at, made) (other, there, remade) =
     let cast : own ≡ other = cc (number, at, there) in
-    made ∙ ap (λ n. config_of script n own) number ∙ ap (λ (c : Cast0). config_of script b.number c) cast ∙ sym remade
+    made ∙ rw (number, cast) (sym remade)
 
 -- a machine is determined by what it is made of and what is seen of it
 same_machine : (m n : MachineState) → m.config ≡ n.config → m.stop ≡ None → n.stop ≡ None →
@@ -21,16 +21,8 @@ same_machine : (m n : MachineState) → m.config ≡ n.config → m.stop ≡ Non
 same_machine m n config stop stop' same =
     let events : m.events ≡ n.events = ap (λ (a : Machine SealedEntry). a.history) same in
     let marked : m.marked ≡ n.marked =
-    sym (or-false m.marked) ∙ sym (ap (λ (s : Option ℕ). m.marked || is_reached s (length m.events)) stop)
-    ∙ ap (λ (a : Machine SealedEntry). a.stopped) same
-    ∙ ap (λ (s : Option ℕ). n.marked || is_reached s (length n.events)) stop' ∙ or-false n.marked in
-    ap (λ (c : Config). record { config = c; stop = m.stop; marked = m.marked; events = m.events }) config
-    ∙ ap (λ (s : Option ℕ). record { config = n.config; stop = s; marked = m.marked; events = m.events })
-    (stop ∙ sym stop')
-    ∙ ap (λ (b : Bool). record { config = n.config; stop = n.stop; marked = b; events = m.events }) marked
-    ∙ ap (λ (es : List (Event SealedEntry)).
-    record { config = n.config; stop = n.stop; marked = n.marked; events = es })
-    events
+    sym (stopped_by_mark m stop) ∙ ap (λ (a : Machine SealedEntry). a.stopped) same ∙ stopped_by_mark n stop' in
+    λ i. record { config = config i; stop = (stop ∙ sym stop') i; marked = marked i; events = events i }
 
 -- so are machines
 same_machines : (script : Script) (ms ns : List MachineState) → AreOf script ms → AreOf script ns

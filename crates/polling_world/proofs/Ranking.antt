@@ -1,15 +1,15 @@
 -- The events of a world, each once, and the steps that make them.
 use Rattle.polling_world.proofs.Imports.{◌≡◌, ◌≢◌, ◌∙◌, ℕ, zero, suc, ◌+◌, ◌<◌, max, List, [], ◌∷◌, ◌++◌, map, take}
 use Rattle.polling_world.proofs.Imports.{get_or, length, false, refl, sym, ap, subst, inl, inr, arith, append_assoc}
-use Rattle.polling_world.proofs.Imports.{length-append, Contains, IsDistinct, AllByRecursion, enumerate_from}
-use Rattle.polling_world.proofs.Imports.{bytes_eq, cases_lt, false_from_ne_true, append-nil, map-append, take_at}
+use Rattle.polling_world.proofs.Imports.{length-append, Contains, IsDistinct, AllByRecursion, All-map}
+use Rattle.polling_world.proofs.Imports.{bytes_eq, cases_lt, false_from_ne_true, append-nil, map-append}
 use Rattle.polling_world.proofs.Imports.{take_more, length-take-le, Contains-append_left, Contains-append_right}
 use Rattle.polling_world.proofs.Imports.{Contains-append_cases, IsDistinct-cons, IsDistinct-from_apart}
 use Rattle.polling_world.proofs.Imports.{bytes_eq-Decides, Event, Node, entry_of, held, greatest_stamp, World}
 use Rattle.polling_world.proofs.Imports.{history, PlacedEvent, kind, sort_key, placed, IsEventOf, step_of}
 use Rattle.polling_world.proofs.Imports.{greatest_push, Contains-none, Contains-head, Contains-later, in_world}
 use Rattle.polling_world.proofs.Imports.{placed_of, has_placed, placed_cases, RankedStep, ranked_step, ranked_steps}
-use Rattle.polling_world.proofs.Imports.{AreRanked}
+use Rattle.polling_world.proofs.Imports.{AreRanked, Contains-get_or, recursion_from_All}
 
 -- ---- no two of one rank
 
@@ -33,12 +33,12 @@ module _ {T : Type 0} where
   none_of : (x : PlacedEvent T) (xs : List (PlacedEvent T)) →
       ((y : PlacedEvent T) → Contains xs y → sort_key x ≢ sort_key y) →
       AllByRecursion (λ r. bytes_eq (sort_key x) r ≡ false) (map sort_key xs)
-  none_of x [] differ = tt
-  none_of x (y ∷ xs) differ = (
-    false_from_ne_true (bytes_eq (sort_key x) (sort_key y))
-        (λ t. differ y (Contains-head y xs) ((bytes_eq-Decides (sort_key x) (sort_key y)).0 t)),
-    none_of x xs (λ z c. differ z (Contains-later y xs z c)),
-  )
+  none_of x xs differ =
+      recursion_from_All (λ r. bytes_eq (sort_key x) r ≡ false) (map sort_key xs)
+      (All-map (λ r. bytes_eq (sort_key x) r ≡ false) sort_key xs (λ k d within.
+      false_from_ne_true (bytes_eq (sort_key x) (sort_key (get_or xs k d)))
+      (λ t. differ (get_or xs k d) (Contains-get_or xs k d within) ((bytes_eq-Decides (sort_key x)
+      (sort_key (get_or xs k d))).0 t))))
 
   -- the ranks differ
   distinct_ranks : (xs : List (PlacedEvent T)) → IsOnce xs → IsDistinct bytes_eq (map sort_key xs)
@@ -49,14 +49,22 @@ module _ {T : Type 0} where
 module _ {T : Type 0} (node : T → Node) where
   -- ---- the events of one machine
 
-  -- one event more is placed after the others
-  placed_push : (m : ℕ) (before h : List (Event T)) (x : Event T) →
-      placed_of node m before (h ++ x ∷ []) ≡ placed_of node m before h ++ placed node m (before ++ h) x ∷ []
-  placed_push m before [] x = ap (λ p. placed node m p x ∷ []) (sym (append-nil before))
-  placed_push m before (y ∷ h) x =
-      ap (λ xs. placed node m before y ∷ xs)
-      (placed_push m (before ++ y ∷ []) h x
-      ∙ ap (λ p. placed_of node m (before ++ y ∷ []) h ++ placed node m p x ∷ []) (append_assoc before (y ∷ []) h))
+  -- one event more is ranked after the others
+  ranked_push : (m : ℕ) (before h : List (Event T)) (x : Event T) →
+      ranked_steps node m before (h ++ x ∷ [])
+      ≡ ranked_steps node m before h ++ ranked_step node (placed node m (before ++ h) x) ∷ []
+  ranked_push m before [] x = ap (λ p. ranked_step node (placed node m p x) ∷ []) (sym (append-nil before))
+  ranked_push m before (y ∷ h) x =
+      ap (λ rs. ranked_step node (placed node m before y) ∷ rs)
+      (ranked_push m (before ++ y ∷ []) h x ∙ ap (λ p. ranked_steps node m (before ++ y ∷ []) h
+      ++ ranked_step node (placed node m p x) ∷ []) (append_assoc before (y ∷ []) h))
+
+  -- ranked are the events that are placed
+  ranked_placed : (m : ℕ) (before h : List (Event T)) →
+      ranked_steps node m before h ≡ map (ranked_step node) (placed_of node m before h)
+  ranked_placed m before [] = refl
+  ranked_placed m before (x ∷ h) =
+      ap (λ rs. ranked_step node (placed node m before x) ∷ rs) (ranked_placed m (before ++ x ∷ []) h)
 
   -- no two events of a history have one rank
   placed_once : (m : ℕ) (before h : List (Event T)) → IsOnce (placed_of node m before h)
@@ -70,40 +78,12 @@ module _ {T : Type 0} (node : T → Node) where
     placed_once m (before ++ x ∷ []) h,
   )
 
-  -- the event at a place of a history that begins with others
-  abbrev at_place : ℕ → List (Event T) → ℕ × Event T → RankedStep
-  at_place m h at = ranked_step node (placed node m (take at.0 h) at.1)
-
-  -- the events by their places are the events placed
-  by_places : (m : ℕ) (before h : List (Event T)) →
-      map (at_place m (before ++ h)) (enumerate_from (length before) h)
-      ≡ map (ranked_step node) (placed_of node m before h)
-  by_places m before [] = refl
-  by_places m before (x ∷ h) =
-      let same : (before ++ x ∷ []) ++ h ≡ before ++ x ∷ h = append_assoc before (x ∷ []) h in
-      let count : length (before ++ x ∷ []) ≡ length before + 1 = length-append before (x ∷ []) in
-      let head : at_place m (before ++ x ∷ h) (length before, x) ≡ ranked_step node (placed node m before x) =
-      ap (λ p. ranked_step node (placed node m p x)) (take_at before (x ∷ h) (length before) refl) in
-      let tail : map (at_place m (before ++ x ∷ h)) (enumerate_from (length before + 1) h)
-      ≡ map (ranked_step node) (placed_of node m (before ++ x ∷ []) h) =
-      (λ i. map (at_place m (sym same i)) (enumerate_from (sym count i) h)) ∙ by_places m (before ++ x ∷ []) h in
-      λ i. head i ∷ tail i
-
-  -- the steps of a whole history
-  pub steps_by_places : (m : ℕ) (old : List RankedStep) (h : List (Event T)) (i : ℕ) (ranked : List RankedStep) →
-      take i h ≡ h → ranked ≡ old ++ map (ranked_step node) (placed_of node m [] (take i h)) →
-      ranked ≡ old ++ ranked_steps node m h
-  steps_by_places m old h i ranked all is =
-      is ∙ ap (λ k. old ++ map (ranked_step node) (placed_of node m [] k)) all
-      ∙ ap (λ steps. old ++ steps) (sym (by_places m [] h))
-
   -- the step of one event more
   pub steps_more : (m : ℕ) (old : List RankedStep) (h : List (Event T)) (i : ℕ) (x : Event T)
       (ranked : List RankedStep) (clock : ℕ) → i < length h → x ≡ get_or h i x →
-      ranked ≡ old ++ map (ranked_step node) (placed_of node m [] (take i h)) →
-      clock ≡ greatest_stamp node (held (take (i + 1) h)) →
+      ranked ≡ old ++ ranked_steps node m [] (take i h) → clock ≡ greatest_stamp node (held (take (i + 1) h)) →
       ranked ++ record { rank = clock ∷ kind x ∷ m ∷ i ∷ []; step = step_of node m x } ∷ []
-      ≡ old ++ map (ranked_step node) (placed_of node m [] (take (i + 1) h))
+      ≡ old ++ ranked_steps node m [] (take (i + 1) h)
   steps_more m old h i x ranked clock within at is clocked =
       let p = take i h in
       let more : take (i + 1) h ≡ p ++ x ∷ [] = take_more h i x within ∙ ap (λ y. p ++ y ∷ []) (sym at) in
@@ -114,12 +94,7 @@ module _ {T : Type 0} (node : T → Node) where
             ∷ sym (length-take-le i h (omega arith)) k ∷ [];
         step = step_of node m x;
       } in
-      ap (λ rs. rs ++ record { rank = clock ∷ kind x ∷ m ∷ i ∷ []; step = step_of node m x } ∷ []) is
-      ∙ append_assoc old (map (ranked_step node) (placed_of node m [] p)) _
-      ∙ ap (λ r. old ++ (map (ranked_step node) (placed_of node m [] p) ++ r ∷ [])) this
-      ∙ ap (λ rs. old ++ rs) (sym (map-append (ranked_step node) (placed_of node m [] p) (placed node m p x ∷ [])))
-      ∙ ap (λ xs. old ++ map (ranked_step node) xs) (sym (placed_push m [] p x))
-      ∙ ap (λ q. old ++ map (ranked_step node) (placed_of node m [] q)) (sym more)
+      rw (is, more, ranked_push m [] p x, ← this) (append_assoc old (ranked_steps node m [] p) _)
 
   -- the greatest stamp with one event more
   pub clock_more : (h : List (Event T)) (i : ℕ) (x : Event T) (clock : ℕ) → i < length h → x ≡ get_or h i x →
@@ -179,12 +154,9 @@ module _ {T : Type 0} (node : T → Node) where
     -- and so is every event of the world
     events_all : (x : PlacedEvent T) → IsEventOf node w x → Contains (events_to (length w)) x
     events_all x (b, l, is, at) =
-        let here : Contains (placed_of node x.machine [] (b ++ x.event ∷ l)) (placed node x.machine b x.event) =
-        has_placed node x.machine [] b x.event l in
         events_kept (length w) x.machine x (in_world w x.machine b x.event l is)
-        (subst (λ (u : PlacedEvent T). Contains (placed_of node x.machine [] (history w x.machine)) u) (sym at)
-        (subst (λ (h : List (Event T)). Contains (placed_of node x.machine [] h) (placed node x.machine b x.event))
-        (sym is) here))
+        (rw is (subst (Contains (placed_of node x.machine [] (b ++ x.event ∷ l))) (sym at)
+        (has_placed node x.machine [] b x.event l)))
 
     -- the steps of all machines' events
     pub ranked_all : (n : ℕ) (ranked : List RankedStep) → n ≡ length w →
@@ -198,12 +170,8 @@ module _ {T : Type 0} (node : T → Node) where
 
     -- the steps of one machine's events more
     pub ranked_more : (m : ℕ) (h : List (Event T)) (old ranked : List RankedStep) → history w m ≡ h →
-        old ≡ map (ranked_step node) (events_to m) → ranked ≡ old ++ ranked_steps node m h →
+        old ≡ map (ranked_step node) (events_to m) → ranked ≡ old ++ ranked_steps node m [] h →
         ranked ≡ map (ranked_step node) (events_to (m + 1))
     ranked_more m h old ranked here is more =
-        let next : suc m ≡ m + 1 = omega arith in
-        more ∙ ap (λ rs. rs ++ ranked_steps node m h) is
-        ∙ ap (λ rs. map (ranked_step node) (events_to m) ++ rs) (by_places m [] h)
-        ∙ ap (λ k. map (ranked_step node) (events_to m) ++ map (ranked_step node) (placed_of node m [] k)) (sym here)
-        ∙ sym (map-append (ranked_step node) (events_to m) (placed_of node m [] (history w m)))
-        ∙ ap (λ k. map (ranked_step node) (events_to k)) next
+        let next : m + 1 ≡ suc m = omega arith in
+        rw (next, map-append, here, more, is, ranked_placed m [] h)

@@ -48,13 +48,10 @@ distinct_posts : (script : Script) → IsLawful script → AreDistinct (roster_o
 distinct_posts script lawful i j d before within same =
     let casts = script.machines in
     let long : j < length casts = omega (arith, within, length-map casts (post_of script)) in
-    let cast : Cast0 = some_of casts j long in
-    let first : get_or (roster_of script) i d ≡ post_of script (get_or casts i cast) =
-    get_or-map (post_of script) casts i cast d (omega (arith, before, long)) in
-    let second : get_or (roster_of script) j d ≡ post_of script (get_or casts j cast) =
-    get_or-map (post_of script) casts j cast d long in
+    let cast = some_of casts j long in
+    let earlier : i < length casts = omega (arith, before, long) in
     lawful.machines.distinct i j cast before long
-    (sym (ap (λ (post : Post). post.name) first) ∙ same ∙ ap (λ (post : Post). post.name) second)
+    (rw (get_or-map (post_of script) casts i cast d earlier, get_or-map (post_of script) casts j cast d long) at same)
 
 -- as many supervisors are counted in the roster as in the script
 sums : (script : Script) (casts : List Cast0) (n : ℕ) →

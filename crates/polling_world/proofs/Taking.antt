@@ -48,33 +48,9 @@ module _ (m : MachineState) (e : SealedEntry) where
 pub refused_given : (at : ℕ) (e : SealedEntry) (old : List MachineState) (m : MachineState) →
     slice_get old at ≡ Some m → IsTold m e false → IsGiven at e old Nothing old
 refused_given at e old m stood (Taken, heard, told) = let untold : false ≡ true = told.1 refl in cc
-refused_given at e old m stood (Stopped back, heard, told) = record {
+refused_given at e old m stood (answer, heard, told) = record {
   before = m;
-  answer = Stopped back;
-  stood = stood;
-  heard = heard;
-  changed = sym (set_same old at m stood);
-  told = refl;
-}
-refused_given at e old m stood (Own back, heard, told) = record {
-  before = m;
-  answer = Own back;
-  stood = stood;
-  heard = heard;
-  changed = sym (set_same old at m stood);
-  told = refl;
-}
-refused_given at e old m stood (Already back, heard, told) = record {
-  before = m;
-  answer = Already back;
-  stood = stood;
-  heard = heard;
-  changed = sym (set_same old at m stood);
-  told = refl;
-}
-refused_given at e old m stood (Full back, heard, told) = record {
-  before = m;
-  answer = Full back;
+  answer = answer;
   stood = stood;
   heard = heard;
   changed = sym (set_same old at m stood);

@@ -1,11 +1,12 @@
 -- The machines of a script before anything happened are a world.
-use Rattle.polling_world.proofs.Imports.{◌≡◌, ◌∙◌, ℕ, zero, suc, ◌+◌, ◌≤◌, ◌⊎◌, inl, inr, List, [], ◌∷◌, ◌++◌, length}
-use Rattle.polling_world.proofs.Imports.{map, refl, sym, ap, subst, arith, drop, slice_get, Contains, length-append}
-use Rattle.polling_world.proofs.Imports.{add-one, slice_get_within, enumerate_from, node_of_sealed, SealedEntry}
-use Rattle.polling_world.proofs.Imports.{Event, Sent, Got, IsLegal, history, Contains-none, sent_in_cases}
-use Rattle.polling_world.proofs.Imports.{IsLegal-none, Cast0, Script, IsLawful, Secret, Config, config_of}
-use Rattle.polling_world.proofs.Imports.{script_configs, key_of, IsKeyOf, roster_of, MachineState, IsFresh, world_of}
-use Rattle.polling_world.proofs.Imports.{configs_of, AreFresh, IsPlaced, IsWorld}
+use Rattle.polling_world.proofs.Imports.{◌≡◌, ◌∙◌, ℕ, zero, suc, ◌+◌, ◌<◌, ◌≤◌, ◌⊎◌, inl, inr, List, [], ◌∷◌, ◌++◌}
+use Rattle.polling_world.proofs.Imports.{length, map, false, refl, sym, ap, subst, arith, drop, get_or, replicate}
+use Rattle.polling_world.proofs.Imports.{slice_get, length-append, length-map, add-one, same_lists, slice_get_within}
+use Rattle.polling_world.proofs.Imports.{slice_get_cases, get_or_from_slice_get, enumerate_from, get_or-map}
+use Rattle.polling_world.proofs.Imports.{get_or-enumerate_from, length-enumerate_from, node_of_sealed, start}
+use Rattle.polling_world.proofs.Imports.{IsOrderly, IsOrderly-start, stamps_are_few, Cast0, Script, IsLawful, Secret}
+use Rattle.polling_world.proofs.Imports.{Config, config_of, script_configs, key_of, IsKeyOf, roster_of, MachineState}
+use Rattle.polling_world.proofs.Imports.{IsFresh, machine_of, world_of, configs_of, AreFresh, IsWorld}
 use Rattle.std.proofs.Common.{Some, None}
 
 -- what is first in the rest of a list that was mapped
@@ -31,52 +32,38 @@ push_cases [] x y (suc n) e = cc
 push_cases (z ∷ xs) x y zero e = inl e
 push_cases (z ∷ xs) x y (suc n) e = elim (push_cases xs x y n e) [ inl s ↦ inl s | inr r ↦ inr (ap suc r.0, r.1) ]
 
--- machines without events have no history in the world
-no_history : (ms : List MachineState) →
-    ((place : ℕ) (m : MachineState) → slice_get ms place ≡ Some m → m.events ≡ []) → (n : ℕ) →
-    history (world_of ms) n ≡ []
-no_history [] none n = refl
-no_history (m ∷ ms) none zero = none zero m refl
-no_history (m ∷ ms) none (suc n) = no_history ms (λ place u is. none (suc place) u is) n
+-- what a function makes one value of is that value again and again
+all_alike : {X Y : Type 0} (f : X → Y) (y : Y) (xs : List X) →
+    ((k : ℕ) (x : X) → slice_get xs k ≡ Some x → f x ≡ y) → map f xs ≡ replicate (length xs) y
+all_alike f y [] each = refl
+all_alike f y (x ∷ xs) each = λ i. each zero x refl i ∷ all_alike f y xs (λ k z at. each (suc k) z at) i
 
 module _ (script : Script) (ms : List MachineState)
     (each : (place : ℕ) (m : MachineState) → slice_get ms place ≡ Some m → IsFresh script place None m) where
-  -- no machine of such a world has a history
-  no_events : (n : ℕ) → history (world_of ms) n ≡ []
-  no_events = no_history ms (λ place m is. ap (λ (u : MachineState). u.events) (each place m is).2)
-
-  -- each machine is in its place under the script's roster
-  fresh_placed : (place : ℕ) (m : MachineState) → slice_get ms place ≡ Some m →
-      IsPlaced (roster_of script) script.log place m
-  fresh_placed place m is =
-      let fresh = each place m is in
-      subst (λ (u : MachineState). IsPlaced (roster_of script) script.log place u) (sym fresh.2) (record {
-        number = refl;
-        of_world = refl;
-        of_size = refl;
-        no_stop = refl;
-        within = omega arith;
-      })
-
-  -- nothing has happened there
-  none_there : (n : ℕ) (x : Event SealedEntry) → Contains (history (world_of ms) n) x → ⊥
-  none_there n x c =
-      Contains-none x (subst (λ (h : List (Event SealedEntry)). Contains h x) (no_events n) c)
+  -- fresh machines are a world at its start
+  pub at_start : world_of ms ≡ start (length ms)
+  at_start =
+      all_alike machine_of (record { history = []; stopped = false }) ms (λ k m at. ap machine_of (each k m at).2)
 
   -- the machines made for a lawful script are a world under the script's roster
   pub fresh_world : IsLawful script → length ms ≤ length script.machines → IsWorld (roster_of script) ms
-  fresh_world lawful count = record {
-    log = script.log;
-    small = lawful.log.1;
-    few = let most = lawful.machines.few.1 in omega (arith, most, count);
-    placed = fresh_placed;
-    orderly = record {
-      legal = λ n. subst (λ (h : List (Event SealedEntry)). IsLegal node_of_sealed n h) (sym (no_events n))
-          (IsLegal-none node_of_sealed n);
-      heard = λ n e c. absurd (none_there n (Got e) c);
-    };
-    stamps = λ e c. (let r = sent_in_cases (world_of ms) e c in absurd (none_there r.0 (Sent e) r.1));
-  }
+  fresh_world lawful count =
+      let orderly : IsOrderly node_of_sealed (world_of ms) =
+      rw at_start (IsOrderly-start node_of_sealed (length ms)) in
+      record {
+        log = script.log;
+        small = lawful.log.1;
+        few = omega (arith, lawful.machines.few.1, count);
+        placed = λ place m is. let fresh = each place m is in rw (fresh.2) (record {
+          number = refl;
+          of_world = refl;
+          of_size = refl;
+          no_stop = refl;
+          within = omega arith;
+        });
+        orderly = orderly;
+        stamps = stamps_are_few node_of_sealed (world_of ms) orderly;
+      }
 
 -- the first machines of the script, and the keys of those that are left
 pub record AreFirst (script : Script) (ms : List MachineState) (left : List Secret) : Type 0 where
@@ -122,38 +109,35 @@ all_fresh script ms [] first none = record {
   each = first.each;
 }
 
--- what the machines of a part of the script are made of, of which the first is at the place n
-configs_from : (script : Script) (n : ℕ) (casts : List Cast0) (ms : List MachineState) → length ms ≡ length casts →
-    ((k : ℕ) (m : MachineState) → slice_get ms k ≡ Some m →
-    (cast : Cast0) × (slice_get casts k ≡ Some cast) × (m.config ≡ config_of script (n + k) cast)) →
-    configs_of ms ≡ map (λ (at, one). config_of script at one) (enumerate_from n casts)
-configs_from script n [] [] count each = refl
-configs_from script n [] (m ∷ ms) count each = absurd (omega arith)
-configs_from script n (cast ∷ casts) [] count each = absurd (omega arith)
-configs_from script n (cast ∷ casts) (m ∷ ms) count each =
-    let (own, listed_first, made_first) = each zero m refl in
-    let same : cast ≡ own = cc listed_first in
-    let place : n + zero ≡ n = omega arith in
-    let here : m.config ≡ config_of script n cast =
-    made_first ∙ ap (λ (k : ℕ). config_of script k own) place ∙ ap (config_of script n) (sym same) in
-    let rest : configs_of ms ≡ map (λ (at, one). config_of script at one) (enumerate_from (n + 1) casts) =
-    configs_from script (n + 1) casts ms (omega arith)
-    (λ k u stands.
-    let (its_cast, listed, made) = each (suc k) u stands in
-    let further : n + suc k ≡ (n + 1) + k = omega arith in
-    (its_cast, listed, made ∙ ap (λ (j : ℕ). config_of script j its_cast) further)) in
-    ap (λ (c : Config). c ∷ configs_of ms) here ∙ ap (λ (cs : List Config). config_of script n cast ∷ cs) rest
-
 -- they are made of what the script says
 pub fresh_configs : (script : Script) (ms : List MachineState) → AreFresh script ms →
     configs_of ms ≡ script_configs script
 fresh_configs script ms fresh =
-    configs_from script 0 script.machines ms fresh.count
-    (λ k m stands.
-    let (cast, listed, made) = fresh.each k m stands in
-    let place : k ≡ 0 + k = omega arith in (
-      cast,
-      listed,
-      ap (λ (u : MachineState). u.config) made
-          ∙ ap (λ (j : ℕ). config_of script j cast) place,
-    ))
+    let casts = script.machines in
+    let count : length (enumerate_from 0 casts) ≡ length ms = length-enumerate_from 0 casts ∙ sym fresh.count in
+    let long : length (configs_of ms) ≡ length (script_configs script) =
+    length-map ms (λ (m : MachineState). m.config) ∙ sym count
+    ∙ sym (length-map (enumerate_from 0 casts) (λ at. config_of script at.0 at.1)) in
+    same_lists (configs_of ms) (script_configs script) long (λ k d within. at k d
+    (omega (arith, within, length-map ms (λ (m : MachineState). m.config))))
+  where
+    -- the same at each place
+    at : (k : ℕ) (d : Config) → k < length ms → get_or (configs_of ms) k d ≡ get_or (script_configs script) k d
+    at k d within =
+        elim (slice_get_cases ms k).1 [
+          | inl (m, _, stands, read) ↦
+              let (cast, listed, is) = fresh.each k m stands in
+              let inside : k < length script.machines = slice_get_within script.machines k cast listed in
+              let first : get_or (configs_of ms) k d ≡ config_of script k cast =
+              get_or-map (λ (u : MachineState). u.config) ms k m d within
+              ∙ ap (λ (u : MachineState). u.config) (read ∙ is) in
+              let number : 0 + k ≡ k = omega arith in
+              let one : get_or (enumerate_from 0 script.machines) k (0, cast) ≡ (k, cast) =
+              get_or-enumerate_from 0 script.machines k (0, cast) inside
+              ∙ (λ i. (number i, get_or_from_slice_get script.machines k cast cast listed i)) in
+              first
+              ∙ sym (get_or-map (λ at. config_of script at.0 at.1) (enumerate_from 0 script.machines) k (0, cast) d
+              (omega (arith, inside, length-enumerate_from 0 script.machines))
+              ∙ ap (λ (at : ℕ × Cast0). config_of script at.0 at.1) one)
+          | inr (past, _) ↦ absurd (omega arith)
+        ]

@@ -1,5 +1,5 @@
 //! The events of all machines in one order.
-ghost use Rattle.std.specs.Prelude.{◌≡◌, ◌≤◌, ◌<◌, ◌^◌, ◌++◌, length, map, IfOk};
+ghost use Rattle.std.specs.Prelude.{◌≡◌, ◌≤◌, ◌<◌, ◌^◌, [], ◌++◌, length, map, IfOk};
 ghost use Rattle.entry_format.specs.Nodes.{node_of_sealed};
 ghost use Rattle.entry_order.specs.Merged.{kind, step_of};
 ghost use Rattle.polling_world.specs.Merging.{IsMerged};
@@ -58,7 +58,7 @@ fn rank_events(
 ) -> Result<(), Memory>
     requires { machine < 2 ^ 32 }
     ensures { IfOk result (λ _. ranked.new.items
-        ≡ ranked.old.items ++ ranked_steps node_of_sealed machine events.now) }
+        ≡ ranked.old.items ++ ranked_steps node_of_sealed machine [] events.now) }
 {
     let mut clock = 0;
     for (place, event) in events.iter().enumerate() {

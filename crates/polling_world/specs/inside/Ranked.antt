@@ -1,6 +1,6 @@
 -- Steps with the ranks of their events.
-use Rattle.std.specs.Prelude.{◌≡◌, ◌↔◌, ℕ, List, map, take}
-use Rattle.std.specs.List.{Contains, IsDistinct, enumerate_from}
+use Rattle.std.specs.Prelude.{◌≡◌, ◌↔◌, ℕ, List, [], ◌∷◌, ◌++◌, map}
+use Rattle.std.specs.List.{Contains, IsDistinct}
 use Rattle.std.specs.Str.{bytes_eq}
 use Rattle.entry_order.specs.declared.event.Event.{Event}
 use Rattle.entry_order.specs.Node.{Node}
@@ -13,9 +13,10 @@ module _ {T : Type 0} (node : T → Node) where
   abbrev pub ranked_step : PlacedEvent T → RankedStep
   ranked_step x = record { rank = sort_key x; step = step_of node x.machine x.event }
 
-  -- those of the events of machine m's history
-  abbrev pub ranked_steps : ℕ → List (Event T) → List RankedStep
-  ranked_steps m h = map (λ at. ranked_step (placed node m (take at.0 h) at.1)) (enumerate_from 0 h)
+  -- those of the events that machine m's history has after the events before
+  abbrev pub ranked_steps : ℕ → List (Event T) → List (Event T) → List RankedStep
+  ranked_steps m before [] = []
+  ranked_steps m before (x ∷ h) = ranked_step (placed node m before x) ∷ ranked_steps m (before ++ x ∷ []) h
 
   -- these are the ranked steps of the events of w, each once
   pub record AreRanked (w : World T) (ranked : List RankedStep) : Type 0 where

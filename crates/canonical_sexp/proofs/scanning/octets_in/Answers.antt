@@ -8,15 +8,15 @@ returns-then-bytes-eq40-clause-none c = λ octets small e.
 
 pub read_length-requires-clause-digit : goal.read_length-requires-clause-digit
 read_length-requires-clause-digit c = let (tree, (fits, text)) = c.requires in
-    (is_atom c.args.bytes.now tree fits text c.if-bytes-eq40.false).digit
+    let (_, _, _, digit) = is_atom c.args.bytes.now tree fits text c.if-bytes-eq40.false in digit
 
 pub returns-in-Whole-clause-found : goal.returns-in-Whole-clause-found
 returns-in-Whole-clause-found c =
     let (tree, (fits, text)) = c.requires in
-    let atom = is_atom c.args.bytes.now tree fits text c.if-bytes-eq40.false in
-    let same = after_length c.args.bytes.now atom.octets c.in-Whole.octets c.in-Whole.used atom.few atom.spelt
+    let (octets, few, spelt, _) = is_atom c.args.bytes.now tree fits text c.if-bytes-eq40.false in
+    let same = after_length c.args.bytes.now octets c.in-Whole.octets c.in-Whole.used few spelt
     c.in-Whole.ensures.few c.in-Whole.ensures.spelt in
-    (omega (arith, ap length same, atom.few), atom.spelt ∙ ap atom_text (sym same))
+    (omega (arith, ap length same, few), spelt ∙ ap atom_text (sym same))
 
 pub returns-in-Cut-clause-none : goal.returns-in-Cut-clause-none
 returns-in-Cut-clause-none c = λ octets small e.

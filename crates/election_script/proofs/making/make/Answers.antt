@@ -1,6 +1,6 @@
 use Rattle.election_script.proofs.Imports.{◌≤◌, refl, ap, sym, subst, ◌∙◌, count_actions, max_actions}
 use Rattle.election_script.proofs.DayLawful.{count_few}
-use Rattle.election_script.proofs.DayScript.{made_is_lawful}
+use Rattle.election_script.proofs.DaySteps.{made_is_lawful}
 use Rattle.election_script.proofs.making.make.Goals as goal
 
 -- the machines do little enough

@@ -1,9 +1,8 @@
-use Rattle.std.proofs.Common.{◌==◌, not, filter, eq-eqb}
-use Rattle.election_script.proofs.Imports.{◌≡◌, ℕ, ◌-◌, ◌++◌, List, Bool, arith, ap, sym, ◌∙◌, ne_eqb, flat_map}
-use Rattle.election_script.proofs.Imports.{range_with_len, Step, hears}
+use Rattle.election_script.proofs.Imports.{◌==◌, not, filter, eq-eqb, ◌≡◌, ℕ, ◌-◌, ◌++◌, List, Bool, arith, ap, sym}
+use Rattle.election_script.proofs.Imports.{◌∙◌, ne_eqb, flat_map, range_with_len, Step, hears}
 use Rattle.election_script.proofs.DaySessions.{joined_more, kept_one, kept_none}
-use Rattle.election_script.proofs.making.push_others.Goals as goal
 use Rattle.election_script.proofs.making.push_others.Goals.{then-at-from+in_ok-push_hears, else-at-from}
+use Rattle.election_script.proofs.making.push_others.Goals as goal
 
 -- one booth more, which hears the entries where it isn't their maker
 pub loop-at-preserved : goal.loop-at-preserved

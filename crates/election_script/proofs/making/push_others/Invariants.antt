@@ -1,5 +1,4 @@
-use Rattle.std.proofs.Common.{◌==◌, not, filter}
-use Rattle.election_script.proofs.Imports.{◌≡◌, ◌-◌, ◌++◌, flat_map, range_with_len, hears}
+use Rattle.election_script.proofs.Imports.{◌==◌, not, filter, ◌≡◌, ◌-◌, ◌++◌, flat_map, range_with_len, hears}
 use Rattle.election_script.proofs.making.push_others.Given as goal
 
 -- the booths so far

@@ -1,6 +1,6 @@
-use Rattle.finished_floor.proofs.Imports.{◌≡◌, ◌∙◌, ◌++◌, ◌-◌, None, length, replicate, ap, arith, subst, stands_at}
-use Rattle.finished_floor.proofs.Filled.{begun_few, filling_all, filling_more, filling_none, stands}
+use Rattle.finished_floor.proofs.Imports.{stands_at, ap, arith, length, refl, slice_get_read, ◌∙◌}
 use Rattle.finished_floor.proofs.filling.fill.Goals as goal
+use Rattle.finished_floor.proofs.Filled.{begun_few, filling_none, filling_more, filling_all}
 
 pub loop-at-init : goal.loop-at-init
 loop-at-init c = filling_none (λ row. row.items) c.args.machines.now c.args.by.now.items c.requires
@@ -15,8 +15,8 @@ fill_up-requires c =
     let within = c.loop-at-test.true in
     let many = is.many in
     let begun = is.rest at m row (stands_at ms at m within c.index-machines-at.is)
-    (stands c.loop-at.by.items at row (omega arith) c.index_mut.ensures.value) (omega arith) in
-    let few = begun_few m.events row.items begun in
+    (slice_get_read c.loop-at.by.items _ at row refl (omega arith) c.index_mut.ensures.value) (omega arith) in
+    let few = (begun_few m.events row.items begun).0 in
     let events = ap length (c.events-count.ensures.events ∙ ap (λ l. l.events) c.log.ensures.log) in
     omega arith
 
@@ -32,9 +32,8 @@ loop-at-preserved c =
     let events = c.events-count.ensures.events ∙ ap (λ l. l.events) c.log.ensures.log in
     filling_more (λ row. row.items) ms at c.loop-at.by.items m row c.fill_up.new.row is
     (stands_at ms at m within c.index-machines-at.is)
-    (stands c.loop-at.by.items at row (omega arith) c.index_mut.ensures.value)
-    (subst (λ l. c.fill_up.new.row.items ≡ row.items ++ replicate (length l - length row.items) None) events
-    c.in_ok-fill_up.ensures)
+    (slice_get_read c.loop-at.by.items _ at row refl (omega arith) c.index_mut.ensures.value)
+    (rw events at c.in_ok-fill_up.ensures)
 
 pub returns : goal.returns
 returns c =

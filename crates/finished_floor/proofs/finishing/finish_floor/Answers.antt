@@ -1,9 +1,6 @@
-use Rattle.finished_floor.proofs.Imports.{◌≡◌, ◌++◌, List, map, subst, sym, AllZip, Loss, AreScripted, IsLicensed}
-use Rattle.finished_floor.proofs.Imports.{MachineState, AreBy, IsBegunBy}
-use Rattle.std.specs.List.{All}
-use Rattle.finished_floor.proofs.Finished.{floor_of, played_of, rows_begun}
-use Rattle.finished_floor.proofs.Grown.{are_placed}
 use Rattle.finished_floor.proofs.finishing.finish_floor.Goals as goal
+use Rattle.finished_floor.proofs.Finished.{rows_begun, played_of, floor_of}
+use Rattle.finished_floor.proofs.Grown.{are_placed}
 
 pub sweep-requires-clause-placed : goal.sweep-requires-clause-placed
 sweep-requires-clause-placed c =
@@ -11,8 +8,7 @@ sweep-requires-clause-placed c =
 
 pub fill-requires : goal.fill-requires
 fill-requires c =
-    subst (λ (ms : List MachineState). AllZip (λ (m : MachineState) row. IsBegunBy m.events row) ms
-    (map (λ row. row.items) c.args.gathered.by.items)) (sym c.deref.ensures.value)
+    rw c.deref.ensures.value
     (rows_begun (λ row. row.items) c.args.gathered.machines.items c.sweep.new.machines.items c.args.gathered.by.items
     c.in_ok-sweep.ensures.grown c.requires.gathered.by)
 
@@ -26,9 +22,7 @@ returns-clause-floor c =
     floor_of c.args.script.now c.requires.lawful c.args.gathered.roster.machines ms ns c.args.gathered.waits.items
     before after c.sort_losses.new.losses.items _ c.requires.gathered swept.grown swept.placed swept.makers
     swept.balanced
-    (subst (λ loses. (lost : List Loss) × (after ≡ before ++ lost) × All (IsLicensed loses ns) lost)
-    c.as_slice-loses.ensures swept.licensed)
-    (subst (λ loses. AreScripted loses ms ns after) c.as_slice-loses.ensures swept.scripted) swept.whole
+    (rw c.as_slice-loses.ensures at swept.licensed) (rw c.as_slice-loses.ensures at swept.scripted) swept.whole
     c.sort_losses.ensures.same c.sort_losses.ensures.sorted
 
 pub returns-clause-played : goal.returns-clause-played
@@ -41,12 +35,9 @@ returns-clause-played c =
     played_of c.args.script.now c.requires.lawful c.args.gathered.roster.machines ms ns c.args.gathered.waits.items
     before after c.sort_losses.new.losses.items _ c.requires.gathered swept.grown swept.placed swept.makers
     swept.balanced
-    (subst (λ loses. (lost : List Loss) × (after ≡ before ++ lost) × All (IsLicensed loses ns) lost)
-    c.as_slice-loses.ensures swept.licensed)
-    (subst (λ loses. AreScripted loses ms ns after) c.as_slice-loses.ensures swept.scripted) swept.whole
+    (rw c.as_slice-loses.ensures at swept.licensed) (rw c.as_slice-loses.ensures at swept.scripted) swept.whole
     c.sort_losses.ensures.same c.sort_losses.ensures.sorted
 
 pub returns-clause-by : goal.returns-clause-by
 returns-clause-by c =
-    subst (λ (l : List MachineState). AreBy l (map (λ row. row.items) c.fill.new.by.items)) c.deref.ensures.value
-    c.in_ok-fill.ensures
+    rw c.deref.ensures.value at c.in_ok-fill.ensures

@@ -1,6 +1,6 @@
-use Rattle.finished_floor.proofs.Imports.{rules, ◌≡◌, always_returns_same}
-use Rattle.finished_floor.proofs.Sorted.{key_of, once_moved, told_from_sorted}
+use Rattle.finished_floor.proofs.Imports.{rules, always_returns_same, ◌≡◌}
 use Rattle.finished_floor.proofs.sorting.sort_losses.Goals as goal
+use Rattle.finished_floor.proofs.Sorted.{key_of, told_from_sorted, once_moved}
 
 -- the closure computes the key
 pub returns-clause-sorted : goal.returns-clause-sorted

@@ -1,15 +1,12 @@
-use Rattle.finished_floor.proofs.Imports.{◌∙◌, List, length, subst, sym, slice_get_within, waits_of, AreStillBelow}
-use Rattle.finished_floor.proofs.Imports.{IsSwept, Lose, no_waits}
-use Rattle.finished_floor.proofs.Ends.{all_scripted}
-use Rattle.finished_floor.proofs.Handed.{numbered}
-use Rattle.finished_floor.proofs.Turns.{all_whole, swept_none}
+use Rattle.finished_floor.proofs.Imports.{Contains-none, waits_of, inl, inr, slice_get_within, ◌∙◌}
 use Rattle.finished_floor.proofs.sweeping.sweep.Goals as goal
+use Rattle.finished_floor.proofs.Turns.{all_whole, swept_none}
 
 pub hand_waits-requires-clause-numbered : goal.hand_waits-requires-clause-numbered
 hand_waits-requires-clause-numbered c =
     rw c.replace.ensures.value (record {
       few = c.requires.few;
-      numbers = numbered c.args.machines.now.items c.requires.placed;
+      numbers = λ place m is. (c.requires.placed place m is).number;
     })
 
 pub loop-floor-init : goal.loop-floor-init
@@ -19,8 +16,8 @@ loop-floor-init c =
       numbered = on.numbered;
       loses = on.loses;
       swept = on.swept c.args.machines.now.items c.args.losses.now.items
-          (rw (c.replace.ensures.value, c.replace-2.ensures.value) (swept_none c.args.loses.now c.args.machines.now.items c.args.losses.now.items (waits_of c.args.waits.items)
-          c.requires.placed c.requires.balanced c.requires.once c.requires.sent));
+          (rw (c.replace.ensures.value, c.replace-2.ensures.value) (swept_none c.args.loses.now c.args.machines.now.items
+          c.args.losses.now.items (waits_of c.args.waits.items) c.requires.placed c.requires.balanced c.requires.once c.requires.sent));
     }
 
 pub loop-floor-preserved : goal.loop-floor-preserved
@@ -43,8 +40,7 @@ returns c =
     let before = c.args.losses.now.items in
     let new = c.round.new.self.machines.items in
     let after = c.round.new.self.losses.items in
-    let is = subst (λ (l : List Lose). IsSwept l old before no_waits new after)
-    (turn.goes_on.loses ∙ c.loop-floor.invariant.loses)
+    let is = rw (turn.goes_on.loses, c.loop-floor.invariant.loses) at
     (turn.goes_on.swept old before c.loop-floor.invariant.swept) in
     let (still, same) = turn.none c.if-branch.false in
     record {
@@ -53,10 +49,12 @@ returns c =
       placed = is.placed;
       makers = is.makers;
       licensed = (is.lost, is.losses, is.licensed);
-      scripted = all_scripted c.args.loses.now old before new after is;
+      scripted = λ from number to lf lt differs low high named.
+          elim (is.scripted from number to lf lt differs low high named) [
+            | inl there ↦ there
+            | inr w ↦ absurd (Contains-none w.0 w.1)
+          ];
       once = is.once;
       whole = λ place m there.
-          all_whole new is.placed
-          (subst (λ ms. AreStillBelow (length ms) ms) (sym same) still) place m
-          (slice_get_within new place m there) there;
+          all_whole new is.placed (rw same still) place m (slice_get_within new place m there) there;
     }

@@ -1,9 +1,11 @@
-use Rattle.folder_calls.proofs.Creations.{clears_nothing, clears_on, creates_after, tried_clears, where_fails}
+use Rattle.folder_calls.proofs.Creations.{clears_on, creates_after, tried_clears, where_fails}
+use Rattle.folder_calls.specs.World.{IsClear}
+use Rattle.folder_calls.proofs.Goes.{goes_none}
 use Rattle.folder_calls.proofs.creating.new_file.Goals as goal
 
 pub loop-init : goal.loop-init
 loop-init g c = record {
-  clears = clears_nothing c.args.name.now (g.F.Folder.moments c.args.folder.now);
+  clears = goes_none (IsClear c.args.name.now) (g.F.Folder.moments c.args.folder.now);
   spared = λ spares. spares;
 }
 

@@ -1,7 +1,10 @@
 use Rattle.std.proofs.Common.{subst}
 use Rattle.folder_calls.specs.World.{Now}
 use Rattle.folder_calls.specs.Leftovers.{AreGone}
-use Rattle.folder_calls.proofs.Endings.{then_fewer, others_now}
+use Rattle.folder_calls.specs.Placing.{IsOldOrNew}
+use Rattle.folder_calls.proofs.Goes.{goes_now, goes_then}
+use Rattle.folder_calls.proofs.Steps.{between_same}
+use Rattle.folder_calls.proofs.Endings.{between_fewer, have_others}
 use Rattle.folder_calls.proofs.Renames.{renamed_gone_now, first_of, gone_joined, left_others}
 use Rattle.folder_calls.proofs.placing.finish_files.Goals as goal
 
@@ -9,15 +12,17 @@ use Rattle.folder_calls.proofs.placing.finish_files.Goals as goal
 pub returns-in-Err-clause-any_moment : goal.returns-in-Err-clause-any_moment
 returns-in-Err-clause-any_moment g c =
     let moments = g.F.Folder.moments in
-    then_fewer c.args.begun.now (moments c.args.folder.now) (moments c.flush_and_place.new.folder)
-    (moments c.discard_all.new.folder) c.requires.begun c.flush_and_place.ensures.any_moment
-    c.discard_all.ensures.any_moment
+    goes_then (IsOldOrNew c.args.begun.now) (λ s are. between_same c.args.begun.now s) (moments c.args.folder.now)
+    (moments c.flush_and_place.new.folder) (moments c.discard_all.new.folder) (λ s w are between. between)
+    (λ s v w are between fewer. between_fewer c.args.begun.now s v w are between fewer)
+    c.requires.begun c.flush_and_place.ensures.any_moment c.discard_all.ensures.any_moment
 
 pub discard_all-requires : goal.discard_all-requires
 discard_all-requires g c =
     let moments = g.F.Folder.moments in
     left_others _ c.args.begun.now _ (moments c.flush_and_place.new.folder) c.left_after.ensures
-    (others_now c.args.begun.now (moments c.args.folder.now) (moments c.flush_and_place.new.folder) c.requires.begun
+    (goes_now (IsOldOrNew c.args.begun.now) (λ s are. between_same c.args.begun.now s) (moments c.args.folder.now)
+    (moments c.flush_and_place.new.folder) (λ s w are between. have_others c.args.begun.now s are) c.requires.begun
     c.flush_and_place.ensures.any_moment)
 
 pub returns-in-Ok-clause-gone : goal.returns-in-Ok-clause-gone

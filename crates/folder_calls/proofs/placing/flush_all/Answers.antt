@@ -1,13 +1,15 @@
-use Rattle.std.proofs.Common.{◌+◌, drop, arith}
+use Rattle.std.proofs.Common.{◌+◌, drop, arith, subst}
 use Rattle.std.proofs.lemmas.List.{drop_all}
 use Rattle.folder_calls.proofs.Steps.{at_item}
-use Rattle.folder_calls.proofs.Endings.{flush_more, no_flush, flushes_start, flushes_next, flushes_end}
+use Rattle.folder_calls.specs.Placing.{IsFlushedMore}
+use Rattle.folder_calls.proofs.Goes.{now_always, now_map, goes_none}
+use Rattle.folder_calls.proofs.Endings.{Flushes, flush_more, flushes_next, flushed_same_moment}
 use Rattle.folder_calls.proofs.placing.flush_all.Goals as goal
 
 pub loop-file-init : goal.loop-file-init
 loop-file-init g c =
     let ws = g.F.Folder.moments c.args.folder.now in
-    record { flushes = flushes_start c.args.begun.now ws; any_moment = no_flush ws }
+    record { flushes = now_always ws (λ w v more flushed. flushed); any_moment = goes_none IsFlushedMore ws }
 
 pub returns-in-Err-clause-any_moment : goal.returns-in-Err-clause-any_moment
 returns-in-Err-clause-any_moment g c =
@@ -31,5 +33,6 @@ loop-file-preserved g c =
 pub returns-clause-flushed : goal.returns-clause-flushed
 returns-clause-flushed g c =
     let l = c.loop-file in
-    flushes_end c.args.begun.now (drop l.file-index c.args.begun.now) (g.F.Folder.moments l.folder)
-    (drop_all l.file-index c.args.begun.now (omega (arith, c.loop-file-test.false))) l.invariant.flushes
+    now_map (g.F.Folder.moments l.folder) (λ w so. so w (flushed_same_moment w) tt)
+    (subst (λ left. Flushes c.args.begun.now left (g.F.Folder.moments l.folder))
+    (drop_all l.file-index c.args.begun.now (omega (arith, c.loop-file-test.false))) l.invariant.flushes)

@@ -1,12 +1,10 @@
-use Rattle.std.proofs.Common.{◌∙◌, [], ◌∷◌, sym, subst}
-use Rattle.folder_calls.specs.World.{Goes}
+use Rattle.std.proofs.Common.{◌∙◌, [], ◌∷◌, sym, subst, refl, arith}
+use Rattle.folder_calls.specs.World.{Goes, Now}
 use Rattle.folder_calls.specs.Placing.{IsOldOrNew}
-use Rattle.folder_calls.proofs.Steps.{one_renamed, one_placed, unmoved}
-use Rattle.std.proofs.Common.{refl}
-use Rattle.std.specs.Prelude.{string_bytes}
-use Rattle.folder_calls.specs.World.{Now}
 use Rattle.folder_calls.specs.Leftovers.{AreRenamed}
-use Rattle.folder_calls.proofs.Renames.{one_moved, one_first, none_first, stay_named, stay_renamed, flush_adds_none}
+use Rattle.folder_calls.proofs.Goes.{now_map}
+use Rattle.folder_calls.proofs.Steps.{one_renamed, one_placed, unmoved}
+use Rattle.folder_calls.proofs.Renames.{one_moved, none_first, stay_named, stay_flushed}
 use Rattle.folder_calls.proofs.placing.place.Goals as goal
 
 pub returns-in-Err-clause-any_moment : goal.returns-in-Err-clause-any_moment
@@ -46,15 +44,16 @@ returns-in-Err-clause-renamed g c = none_first 0 (c.args.file.now ∷ []) (g.F.F
 
 pub returns-in-Err-clause-stay : goal.returns-in-Err-clause-stay
 returns-in-Err-clause-stay g c = λ others are.
-    let moments = g.F.Folder.moments in
+    let ws = g.F.Folder.moments c.args.folder.now in
     subst (λ n. Now n (AreRenamed others)) (sym c.stands.ensures.same)
-    (stay_named c.args.file.now _ (moments c.args.folder.now) (moments c.rename.new.self) c.requires.begun
-    (rw (c.as_str.ensures.value, c.as_str-2.ensures.value) at c.rename.ensures.did) others are)
+    (stay_named _ _ _ others ws (g.F.Folder.moments c.rename.new.self)
+    (now_map ws (λ w begun. begun.0.name) c.requires.begun)
+    (rw (c.as_str.ensures.value, c.as_str-2.ensures.value) at c.rename.ensures.did) are)
 
 pub returns-in-Err-flush_name-clause-renamed : goal.returns-in-Err-flush_name-clause-renamed
 returns-in-Err-flush_name-clause-renamed g c =
     let moments = g.F.Folder.moments in
-    one_first c.args.file.now (moments c.flush_name.new.folder)
+    now_map (moments c.flush_name.new.folder) (λ w are. (omega arith, are))
     (one_moved c.args.file.now _ (moments c.args.folder.now) (moments c.rename.new.self)
     (moments c.flush_name.new.folder) c.requires.begun
     (rw (c.as_str.ensures.value, c.as_str-2.ensures.value) at c.in-Ok.ensures.did)
@@ -70,16 +69,18 @@ returns-in-Ok-flush_name-clause-renamed g c =
 
 pub returns-in-Err-flush_name-clause-stay : goal.returns-in-Err-flush_name-clause-stay
 returns-in-Err-flush_name-clause-stay g c = λ others are.
-    let moments = g.F.Folder.moments in
-    stay_renamed _ _ (flush_adds_none (string_bytes c.args.file.now.name)) others (moments c.rename.new.self)
-    (moments c.flush_name.new.folder) (rw c.as_str-3.ensures.value at c.flush_name.ensures.did)
-    (stay_named c.args.file.now _ (moments c.args.folder.now) (moments c.rename.new.self) c.requires.begun
-    (rw (c.as_str.ensures.value, c.as_str-2.ensures.value) at c.rename.ensures.did) others are)
+    let ws = g.F.Folder.moments c.args.folder.now in
+    let mid = g.F.Folder.moments c.rename.new.self in
+    stay_flushed _ _ others mid (g.F.Folder.moments c.flush_name.new.folder)
+    (rw c.as_str-3.ensures.value at c.flush_name.ensures.did)
+    (stay_named _ _ _ others ws mid (now_map ws (λ w begun. begun.0.name) c.requires.begun)
+    (rw (c.as_str.ensures.value, c.as_str-2.ensures.value) at c.rename.ensures.did) are)
 
 pub returns-in-Ok-flush_name-clause-stay : goal.returns-in-Ok-flush_name-clause-stay
 returns-in-Ok-flush_name-clause-stay g c = λ others are.
-    let moments = g.F.Folder.moments in
-    stay_renamed _ _ (flush_adds_none (string_bytes c.args.file.now.name)) others (moments c.rename.new.self)
-    (moments c.flush_name.new.folder) (rw c.as_str-3.ensures.value at c.flush_name.ensures.did)
-    (stay_named c.args.file.now _ (moments c.args.folder.now) (moments c.rename.new.self) c.requires.begun
-    (rw (c.as_str.ensures.value, c.as_str-2.ensures.value) at c.rename.ensures.did) others are)
+    let ws = g.F.Folder.moments c.args.folder.now in
+    let mid = g.F.Folder.moments c.rename.new.self in
+    stay_flushed _ _ others mid (g.F.Folder.moments c.flush_name.new.folder)
+    (rw c.as_str-3.ensures.value at c.flush_name.ensures.did)
+    (stay_named _ _ _ others ws mid (now_map ws (λ w begun. begun.0.name) c.requires.begun)
+    (rw (c.as_str.ensures.value, c.as_str-2.ensures.value) at c.rename.ensures.did) are)

@@ -1,7 +1,8 @@
-use Rattle.std.proofs.Common.{◌∷◌, ◌++◌, [], refl}
+use Rattle.std.proofs.Common.{◌∷◌, ◌++◌, []}
 use Rattle.folder_calls.proofs.Wholes.{whole_then_fewer, done_then_fewer, set_others_now, goes_aside}
-use Rattle.folder_calls.proofs.Moves.{no_move}
-use Rattle.folder_calls.proofs.Renames.{none_renamed, first_of, renamed_gone_now, gone_turned}
+use Rattle.folder_calls.specs.Asides.{IsSetAside}
+use Rattle.folder_calls.proofs.Goes.{now_always, goes_none}
+use Rattle.folder_calls.proofs.Renames.{first_of, renamed_gone_now, gone_turned}
 use Rattle.folder_calls.proofs.sets.finish_set.Goals as goal
 
 pub flush_and_place_set-requires-clause-other : goal.flush_and_place_set-requires-clause-other
@@ -18,17 +19,17 @@ pub give_up-requires-clause-others : goal.give_up-requires-clause-others
 give_up-requires-clause-others g c =
     let a = g.F.Folder.moments c.args.folder.now in
     set_others_now c.args.mark.now c.args.rest.now a a c.requires
-    (goes_aside c.args.mark.now c.args.rest.now a a c.requires (no_move c.args.mark.now a))
+    (goes_aside c.args.mark.now c.args.rest.now a a c.requires (goes_none (IsSetAside c.args.mark.now) a))
 
 pub give_up-requires-clause-renamed : goal.give_up-requires-clause-renamed
-give_up-requires-clause-renamed g c =
-    none_renamed 0 (c.args.rest.now ++ c.args.mark.now ∷ []) (g.F.Folder.moments c.args.folder.now) refl
+give_up-requires-clause-renamed g c = now_always (g.F.Folder.moments c.args.folder.now) (λ w. tt)
 
 pub returns-then-not-is_free-clause-any_moment : goal.returns-then-not-is_free-clause-any_moment
 returns-then-not-is_free-clause-any_moment g c =
     let a = g.F.Folder.moments c.args.folder.now in
     whole_then_fewer c.args.mark.now c.args.rest.now a a (g.F.Folder.moments c.give_up.new.folder) c.requires
-    (goes_aside c.args.mark.now c.args.rest.now a a c.requires (no_move c.args.mark.now a)) c.give_up.ensures.any_moment
+    (goes_aside c.args.mark.now c.args.rest.now a a c.requires (goes_none (IsSetAside c.args.mark.now) a))
+    c.give_up.ensures.any_moment
 
 pub clear-requires-in-Err : goal.clear-requires-in-Err
 clear-requires-in-Err g c = c.is_free.ensures.other c.if-not-is_free.false

@@ -30,7 +30,7 @@ returns-clause-placed g c =
     where_ok c.place_flushed.result _ _ (λ done. done_after_aside c.args.mark.now c.args.rest.now (moments c.args.folder.now)
     (moments c.flush_set.new.folder) (moments c.place_flushed.new.folder)
     (flush_aside c.args.mark.now (moments c.args.folder.now) (moments c.flush_set.new.folder) c.flush_set.ensures.any_moment)
-    c.place_flushed.ensures.any_moment done) c.place_flushed.ensures.placed
+    done) c.place_flushed.ensures.placed
 
 pub returns-in_err-flush_set-clause-renamed : goal.returns-in_err-flush_set-clause-renamed
 returns-in_err-flush_set-clause-renamed g c =

@@ -3,21 +3,21 @@ use Rattle.folder_calls.specs.World.{Now}
 use Rattle.folder_calls.specs.Leftovers.{AreGone}
 use Rattle.folder_calls.specs.Placing.{HaveOtherNames}
 use Rattle.folder_calls.proofs.Endings.{goes_fewer, others_goes}
-use Rattle.folder_calls.proofs.Wholes.{others_of_rest, other_of_mark}
+use Rattle.folder_calls.proofs.Goes.{now_map}
 use Rattle.folder_calls.proofs.Renames.{left_others, renamed_gone_now, set_gone_before, set_gone_whole}
 use Rattle.folder_calls.proofs.sets.give_up.Goals as goal
 
 pub discard_all-requires : goal.discard_all-requires
 discard_all-requires g c =
     let ws = g.F.Folder.moments c.args.folder.now in
-    left_others _ c.args.rest.now _ ws c.left_after.ensures (others_of_rest c.args.mark.now c.args.rest.now ws c.requires.others)
+    left_others _ c.args.rest.now _ ws c.left_after.ensures (now_map ws (λ w others. others.1) c.requires.others)
 
 pub discard-requires : goal.discard-requires
 discard-requires g c =
     let moments = g.F.Folder.moments in
     others_goes (HaveOtherNames (c.args.mark.now ∷ [])) (moments c.args.folder.now) (moments c.discard_all.new.folder)
     c.discard_all.ensures.any_moment
-    (other_of_mark c.args.mark.now c.args.rest.now (moments c.args.folder.now) c.requires.others)
+    (now_map (moments c.args.folder.now) (λ w others. (others.0, tt)) c.requires.others)
 
 pub returns-then-renamed-rest-clause-any_moment : goal.returns-then-renamed-rest-clause-any_moment
 returns-then-renamed-rest-clause-any_moment g c =

@@ -2,7 +2,10 @@ use Rattle.std.proofs.Common.{◌∷◌, ◌++◌, [], false, subst}
 use Rattle.std.specs.Prelude.{string_bytes}
 use Rattle.folder_calls.specs.World.{Does, renamed}
 use Rattle.folder_calls.proofs.Moves.{goes_moved, goes_flushed, goes_restored}
-use Rattle.folder_calls.proofs.Renames.{goes_after, stay_restored}
+use Rattle.folder_calls.specs.Sets.{IsWholeSet}
+use Rattle.folder_calls.proofs.Goes.{goes_now}
+use Rattle.folder_calls.proofs.Marks.{aside_same, whole_aside}
+use Rattle.folder_calls.proofs.Renames.{stay_first}
 use Rattle.folder_calls.proofs.Wholes.{begun_in, flushed_in, gone_in, goes_aside, after_aside, done_after_aside}
 use Rattle.folder_calls.proofs.sets.replace.Goals as goal
 
@@ -66,7 +69,7 @@ returns-in-Ok-place_set-clause-placed g c =
     (goes_flushed c.args.mark.now _ a m n
     (goes_moved c.args.mark.now c.args.aside.now _ a m c.requires.other (rw c.as_str.ensures.value at c.rename.ensures.did))
     (rw c.as_str-2.ensures.value at c.flush_name.ensures.did))
-    c.place_set.ensures.any_moment c.in-Ok-place_set.ensures.placed
+    c.in-Ok-place_set.ensures.placed
 
 -- no file was renamed, and the mark gets its name back
 pub returns-then-stopped-clause-any_moment : goal.returns-then-stopped-clause-any_moment
@@ -106,6 +109,9 @@ returns-then-stopped-clause-renamed g c =
     (goes_moved c.args.mark.now c.args.aside.now _ a m c.requires.other (rw c.as_str.ensures.value at c.rename.ensures.did))
     (rw c.as_str-2.ensures.value at c.flush_name.ensures.did))
     c.place_set.ensures.any_moment in
-    stay_restored c.args.mark.now c.args.rest.now c.args.aside.now a q (moments c.restore-then-stopped.new.folder)
-    c.requires.begun (goes_after _ a q whole) c.restore-then-stopped.ensures c.in-Err-place_set.stopped.renamed
-    (c.args.rest.now ++ c.args.mark.now ∷ []) c.in-Err-place_set.ensures.renamed
+    stay_first c.args.aside.now (string_bytes c.args.mark.now.name) false c.in-Err-place_set.stopped.renamed
+    (c.args.rest.now ++ c.args.mark.now ∷ []) q (moments c.restore-then-stopped.new.folder)
+    (goes_now (IsWholeSet c.args.mark.now c.args.rest.now)
+    (λ s are. whole_aside c.args.mark.now c.args.rest.now s s are (aside_same c.args.mark.now s)) a q
+    (λ s w are so. are.0.name) c.requires.begun whole)
+    c.restore-then-stopped.ensures c.in-Err-place_set.ensures.renamed

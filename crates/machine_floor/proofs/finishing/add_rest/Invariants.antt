@@ -1,4 +1,4 @@
-use Rattle.machine_floor.proofs.Imports.{◌≡◌, ◌++◌, map, length, waiting}
+use Rattle.machine_floor.proofs.Imports.{◌≡◌, ◌++◌, length, map, waiting}
 use Rattle.machine_floor.proofs.finishing.add_rest.Given as goal
 
 -- those that were added, and the others

@@ -1,43 +1,36 @@
-use Rattle.machine_floor.proofs.Imports.{◌≡◌, List, length, Vec, Global, arith, length-map, SealedEntry, InView}
-use Rattle.machine_floor.proofs.Imports.{lists_of}
-use Rattle.machine_floor.proofs.Rests.{out_fits, inn_fits, made_there, rowing_more, rowing_all}
+use Rattle.machine_floor.proofs.Imports.{◌≢◌, arith, IsInOf, IsOutOf, AreMadeBy}
+use Rattle.machine_floor.proofs.Drops.{lists_many}
+use Rattle.machine_floor.proofs.Rests.{fits, rowing_more, rowing_all}
+use Rattle.machine_floor.proofs.finishing.finish_row.Given.{Over}
 use Rattle.machine_floor.proofs.finishing.finish_row.Goals as goal
+use Rattle.machine_floor.proofs.finishing.finish_row.Goals.{After-pop_at-inn}
 
--- there are as many lists as vectors
-as_many : (vs : List (Vec (InView SealedEntry) Global)) → length (lists_of vs) ≡ length vs
-as_many vs = length-map vs (λ (v : Vec (InView SealedEntry) Global). v.items)
+-- the ends that were read are the link's
+read : (g : Over) (c : After-pop_at-inn g) → IsOutOf c.in-Some.link c.in-Some-next.out ×
+    IsInOf c.in-Some.link c.pop_at-inn.result ×
+    (c.args.from ≢ c.loop-to.to → AreMadeBy c.args.from c.in-Some-next.out.put)
+read g c =
+    fits c.loop-to.invariant c.requires.ends
+    (let k = c.args.inns.now.ok.0 in omega (arith, lists_many c.args.inns.now.items)) c.in-Some.link _
+    c.in-Some-next.out _ c.pop_at-inn.result _ c.in-Some.ensures.items c.in-Some-next.ensures.items c.pop_at-inn.ensures
 
 pub finish_one-requires-clause-out : goal.finish_one-requires-clause-out
-finish_one-requires-clause-out g c =
-    let many = as_many c.args.inns.now.items in
-    out_fits _ _ _ _ _ _ _ _ _ _ c.loop-to.invariant c.requires.ends
-    (let k = c.args.inns.now.ok.0 in omega arith) c.in-Some.link _ c.in-Some-next.out _ c.pop_at-inn.result _
-    c.in-Some.ensures.items c.in-Some-next.ensures.items c.pop_at-inn.ensures
+finish_one-requires-clause-out g c = (read g (goal.at.finish_one-requires-clause-out g c).After-pop_at-inn).0
 
 pub finish_one-requires-clause-inn : goal.finish_one-requires-clause-inn
-finish_one-requires-clause-inn g c =
-    let many = as_many c.args.inns.now.items in
-    inn_fits _ _ _ _ _ _ _ _ _ _ c.loop-to.invariant c.requires.ends
-    (let k = c.args.inns.now.ok.0 in omega arith) c.in-Some.link _ c.in-Some-next.out _ c.pop_at-inn.result _
-    c.in-Some.ensures.items c.in-Some-next.ensures.items c.pop_at-inn.ensures
+finish_one-requires-clause-inn g c = (read g (goal.at.finish_one-requires-clause-inn g c).After-pop_at-inn).1
 
 pub finish_one-requires-clause-makers : goal.finish_one-requires-clause-makers
-finish_one-requires-clause-makers g c = λ differs.
-    let many = as_many c.args.inns.now.items in
-    made_there _ _ _ _ _ _ _ _ _ _ c.loop-to.invariant c.requires.ends
-    (let k = c.args.inns.now.ok.0 in omega arith) c.in-Some.link _ c.in-Some-next.out _ c.pop_at-inn.result _
-    c.in-Some.ensures.items c.in-Some-next.ensures.items c.pop_at-inn.ensures differs
+finish_one-requires-clause-makers g c = (read g (goal.at.finish_one-requires-clause-makers g c).After-pop_at-inn).2
 
 pub loop-to-preserved : goal.loop-to-preserved
 loop-to-preserved g c =
-    let many = as_many c.args.inns.now.items in
-    rowing_more _ _ _ _ _ _ _ _ _ _ c.loop-to.invariant c.requires.ends
-    (let k = c.args.inns.now.ok.0 in omega arith) c.in-Some.link _ c.in-Some-next.out _ c.pop_at-inn.result _
-    c.in-Some.ensures.items c.in-Some-next.ensures.items c.pop_at-inn.ensures c.finish_one.new.waits.items
-    c.in_ok-finish_one.ensures
+    rowing_more c.loop-to.invariant c.requires.ends
+    (let k = c.args.inns.now.ok.0 in omega (arith, lists_many c.args.inns.now.items)) c.in-Some.link _
+    c.in-Some-next.out _ c.pop_at-inn.result _ c.in-Some.ensures.items c.in-Some-next.ensures.items c.pop_at-inn.ensures
+    c.finish_one.new.waits.items c.in_ok-finish_one.ensures
 
 pub returns : goal.returns
 returns g c =
-    let many = as_many c.args.inns.now.items in
-    rowing_all c.args.from c.loop-to.to _ _ _ _ _ _ _ _ c.loop-to.invariant c.requires.ends
-    (let k = c.args.inns.now.ok.0 in omega arith)
+    rowing_all c.loop-to.invariant c.requires.ends
+    (let k = c.args.inns.now.ok.0 in omega (arith, lists_many c.args.inns.now.items))

@@ -1,4 +1,4 @@
-use Rattle.machine_floor.proofs.Imports.{into_iter_items, lists_of}
+use Rattle.machine_floor.proofs.Imports.{lists_of, into_iter_items}
 use Rattle.machine_floor.proofs.Rests.{IsRowing}
 use Rattle.machine_floor.proofs.finishing.finish_row.Given as goal
 

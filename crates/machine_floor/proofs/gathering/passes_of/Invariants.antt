@@ -1,4 +1,4 @@
-use Rattle.machine_floor.proofs.Imports.{◌≡◌, ◌++◌, into_iter_items, by_of}
+use Rattle.machine_floor.proofs.Imports.{◌≡◌, ◌++◌, by_of, into_iter_items}
 use Rattle.machine_floor.proofs.gathering.passes_of.Given as goal
 
 -- the passes so far, and those of the other ticks

@@ -1,4 +1,4 @@
-use Rattle.machine_floor.proofs.Imports.{◌≡◌, ◌++◌, List, into_iter_items, lists_of, StationState, AreParts}
+use Rattle.machine_floor.proofs.Imports.{◌≡◌, List, ◌++◌, lists_of, StationState, AreParts, into_iter_items}
 use Rattle.machine_floor.proofs.gathering.take_apart.Given as goal
 
 -- the stations that were taken apart, and the others

@@ -1,4 +1,4 @@
-use Rattle.machine_floor.proofs.Imports.{List, length, into_iter_items, LinkView, AreNewLinks, lists_of}
+use Rattle.machine_floor.proofs.Imports.{List, length, LinkView, lists_of, AreNewLinks, into_iter_items}
 use Rattle.machine_floor.proofs.FirstStations.{AreFirst}
 use Rattle.machine_floor.proofs.making.prepare.Given as goal
 

@@ -1,10 +1,9 @@
-use Rattle.machine_floor.proofs.Imports.{◌≡◌, subst, IfOk-weaker, IsStopOf, begun, HasBegun}
+use Rattle.machine_floor.proofs.Imports.{◌≡◌, HasBegun, begun, IfOk-weaker}
 use Rattle.machine_floor.proofs.making.station_of.Goals as goal
 
 pub new-requires : goal.new-requires
 new-requires c =
-    c.requires.ends _ _ (subst (λ l. IsStopOf l c.args.at c.stop_of-stop_at.result) c.as_slice.ensures
-    c.stop_of-stop_at.ensures) c.in_ok-machine.ensures
+    c.requires.ends _ _ (rw c.as_slice.ensures at c.stop_of-stop_at.ensures) c.in_ok-machine.ensures
 
 pub returns : goal.returns
 returns c =
@@ -14,7 +13,7 @@ returns c =
     (HasBegun c.args.script.now c.args.at outs inns) (λ s is. record {
       stop = c.stop_of-stop_at.result;
       machine = c.in_ok-machine.machine;
-      stops = subst (λ l. IsStopOf l c.args.at c.stop_of-stop_at.result) c.as_slice.ensures c.stop_of-stop_at.ensures;
+      stops = rw c.as_slice.ensures at c.stop_of-stop_at.ensures;
       fresh = c.in_ok-machine.ensures;
       is = is;
     }) c.new.ensures

@@ -1,4 +1,4 @@
-use Rattle.machine_floor.proofs.Imports.{◌≡◌, take, lose_lines_of}
+use Rattle.machine_floor.proofs.Imports.{◌≡◌, lose_lines_of, take}
 use Rattle.machine_floor.proofs.station.lines_of.Given as goal
 
 -- the lines that were read

@@ -1,6 +1,6 @@
-use Rattle.machine_floor.proofs.Imports.{◌≡◌, ℕ, suc, ◌+◌, ◌<◌, List, get_or, vec_len, vec_items, Ok, refl, ap, ◌∙◌}
-use Rattle.machine_floor.proofs.Imports.{arith, add-zero, below_more, into_iter_items, into_iter_len, StationState}
-use Rattle.machine_floor.proofs.Imports.{made_of}
+use Rattle.machine_floor.proofs.Imports.{◌≡◌, ℕ, suc, ◌+◌, ◌<◌, List, refl, ap, ◌∙◌, arith, get_or, StationState}
+use Rattle.machine_floor.proofs.Imports.{made_of, Ok, add-zero, below_more, vec_items, vec_len, into_iter_items}
+use Rattle.machine_floor.proofs.Imports.{into_iter_len}
 use Rattle.machine_floor.proofs.work.work_each.Goals as goal
 
 -- the station that comes out was first among the rest

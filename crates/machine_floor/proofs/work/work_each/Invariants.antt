@@ -1,5 +1,5 @@
-use Rattle.machine_floor.proofs.Imports.{◌≡◌, ℕ, ◌+◌, ◌<◌, get_or, vec_items, vec_len, Ok, into_iter_items}
-use Rattle.machine_floor.proofs.Imports.{into_iter_len, StationState, made_of}
+use Rattle.machine_floor.proofs.Imports.{◌≡◌, ℕ, ◌+◌, ◌<◌, get_or, StationState, made_of, Ok, vec_items, vec_len}
+use Rattle.machine_floor.proofs.Imports.{into_iter_items, into_iter_len}
 use Rattle.machine_floor.proofs.work.work_each.Given as goal
 
 -- those that came out already are as they were made, and the rest, where they come out

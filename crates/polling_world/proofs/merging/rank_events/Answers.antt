@@ -1,6 +1,6 @@
 use Rattle.polling_world.proofs.Imports.{rules, ◌≡◌, ◌+◌, ◌<◌, ◌∙◌, ◌++◌, ◌∷◌, [], length, get_or, max, take}
 use Rattle.polling_world.proofs.Imports.{take_all, node_of_sealed, entry_of, held, greatest_stamp, kind, step_of}
-use Rattle.polling_world.proofs.Ranking.{clock_more, steps_by_places, steps_more}
+use Rattle.polling_world.proofs.Ranking.{clock_more, steps_more}
 use Rattle.polling_world.proofs.merging.rank_events.Goals as goal
 
 -- the step of one event more
@@ -27,6 +27,4 @@ loop-place-preserved c =
 
 pub returns : goal.returns
 returns c =
-    steps_by_places node_of_sealed c.args.machine c.args.ranked.now.items c.args.events.now c.loop-place.place
-    c.loop-place.ranked.items (take_all c.loop-place.place c.args.events.now c.loop-place-test.false)
-    c.loop-place.invariant.ranked
+    rw (take_all c.loop-place.place c.args.events.now c.loop-place-test.false) at c.loop-place.invariant.ranked

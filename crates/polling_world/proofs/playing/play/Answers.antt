@@ -1,10 +1,10 @@
-use Rattle.polling_world.proofs.Imports.{◌∙◌, Act}
-use Rattle.polling_world.proofs.Played.{stays_first, stays_more, leads_first, leads_more, step_of, played_whole}
+use Rattle.polling_world.proofs.Imports.{◌∙◌, refl, Act}
+use Rattle.polling_world.proofs.Played.{leads_first, leads_more, step_of, played_whole}
 use Rattle.polling_world.proofs.playing.play.Goals as goal
 
 pub loop-step-init : goal.loop-step-init
 loop-step-init c = record {
-  stays = stays_first c.args.script.now c.in_ok-world.world.machines c.in_ok-world.ensures.machines;
+  stays = record { fresh = c.in_ok-world.ensures.machines; configs = refl; stops = refl };
   roster = c.in_ok-world.ensures.roster;
   same = c.as_slice-steps.ensures;
   leads =
@@ -22,8 +22,11 @@ loop-step-preserved c =
     let is = c.loop-step.invariant in
     let stepped = c.in_ok-_stepped.ensures in
     record {
-      stays = stays_more c.args.script.now c.in_ok-world.world.machines c.loop-step.world.machines
-          c.step.new.self.machines is.stays stepped.configs stepped.stops;
+      stays = record {
+        fresh = is.stays.fresh;
+        configs = stepped.configs ∙ is.stays.configs;
+        stops = stepped.stops ∙ is.stays.stops;
+      };
       roster = stepped.roster ∙ is.roster;
       same = is.same;
       leads = leads_more c.args.script.now c.in_ok-world.world.machines c.loop-step.world.machines

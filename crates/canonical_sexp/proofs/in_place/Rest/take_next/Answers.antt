@@ -6,8 +6,9 @@ pub new-requires : goal.new-requires
 new-requires c =
     let (tree, text) = c.in-Whole.ensures in
     let (fits, row) = c.bytes-bytes.ensures in
-    let following = taken c.bytes-bytes.result.now c.args.self.now c.in-Whole.used tree fits row text.fits text.spelt in
-    row_spelt _ following.rest following.fits (take_rest c.bytes-bytes.result.now c.in-Whole.used ∙ following.spelt)
+    let (rest, _, rest_fits, rest_row) =
+    taken c.bytes-bytes.result.now c.args.self.now c.in-Whole.used tree fits row text.fits text.spelt in
+    row_spelt _ rest rest_fits (take_rest c.bytes-bytes.result.now c.in-Whole.used ∙ rest_row)
 
 pub new-requires-in-Whole : goal.new-requires-in-Whole
 new-requires-in-Whole c = let (tree, text) = c.in-Whole.ensures in spelt _ tree text.fits text.spelt
@@ -18,12 +19,13 @@ returns-in-Whole-clause-found c =
     let (fits, row) = c.bytes-bytes.ensures in
     let (rest_fits, rest_row) = c.new.ensures in
     let (found_fits, found_text) = c.new-in-Whole.ensures in
-    let following = taken c.bytes-bytes.result.now c.args.self.now c.in-Whole.used tree fits row text.fits text.spelt in
-    let rest : following.rest ≡ c.new.result = same_members following.rest c.new.result following.fits rest_fits
-    (sym following.spelt ∙ sym (take_rest c.bytes-bytes.result.now c.in-Whole.used) ∙ rest_row) in
+    let (rest, is, fitting, spelt) =
+    taken c.bytes-bytes.result.now c.args.self.now c.in-Whole.used tree fits row text.fits text.spelt in
+    let left : rest ≡ c.new.result = same_members rest c.new.result fitting rest_fits
+    (sym spelt ∙ sym (take_rest c.bytes-bytes.result.now c.in-Whole.used) ∙ rest_row) in
     let found : tree ≡ c.new-in-Whole.result =
     same_text tree c.new-in-Whole.result text.fits found_fits (sym text.spelt ∙ found_text) in
-    following.is ∙ ap (λ t. in_front t following.rest) found ∙ ap (in_front c.new-in-Whole.result) rest
+    is ∙ ap (λ t. in_front t rest) found ∙ ap (in_front c.new-in-Whole.result) left
 
 pub returns-in-Cut : goal.returns-in-Cut
 returns-in-Cut c =

@@ -1,4 +1,4 @@
-use Rattle.canonical_sexp.proofs.Imports.{◌∙◌, ap, sym, subst, Fits, Sexp}
+use Rattle.canonical_sexp.proofs.Imports.{◌∙◌, ap, sym, subst, Fits}
 use Rattle.canonical_sexp.specs.declared.sexp.Sexp.TheVariants.{List as Branch}
 use Rattle.canonical_sexp.proofs.InPlace.{listed, row_spelt, same_members}
 use Rattle.canonical_sexp.proofs.in_place.Text.as_list.Goals as goal
@@ -6,14 +6,12 @@ use Rattle.canonical_sexp.proofs.in_place.Text.as_list.Goals as goal
 pub new-requires : goal.new-requires
 new-requires c =
     let (fits, text) = c.bytes-bytes.ensures in
-    let list = listed c.bytes-bytes.result.now c.args.self.now fits text c.if-bytes-ne40.false in
-    let P : Sexp → Type 0 = λ t. Fits t in
-    row_spelt _ list.row (subst P list.is fits) list.spelt
+    let (row, is, spelt) = listed c.bytes-bytes.result.now c.args.self.now fits text c.if-bytes-ne40.false in
+    row_spelt _ row (subst Fits is fits) spelt
 
 pub returns-clause-found : goal.returns-clause-found
 returns-clause-found c =
     let (fits, text) = c.bytes-bytes.ensures in
-    let (row_fits, row) = c.new.ensures in
-    let list = listed c.bytes-bytes.result.now c.args.self.now fits text c.if-bytes-ne40.false in
-    let P : Sexp → Type 0 = λ t. Fits t in
-    list.is ∙ ap Branch (same_members list.row c.new.result (subst P list.is fits) row_fits (sym list.spelt ∙ row))
+    let (row_fits, members) = c.new.ensures in
+    let (row, is, spelt) = listed c.bytes-bytes.result.now c.args.self.now fits text c.if-bytes-ne40.false in
+    is ∙ ap Branch (same_members row c.new.result (subst Fits is fits) row_fits (sym spelt ∙ members))

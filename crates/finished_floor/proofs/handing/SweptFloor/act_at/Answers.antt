@@ -1,18 +1,16 @@
-use Rattle.finished_floor.proofs.Imports.{◌-◌, ◌∙◌, List, length, ap, arith, refl, subst, sym, true≢false}
-use Rattle.finished_floor.proofs.Imports.{MachineState, stands_at, AreNumbered, IsSwept, no_waits}
-use Rattle.finished_floor.proofs.Acts.{copies_makers, copies_same, maker_at, not_did, sent_left, sent_numbered}
-use Rattle.finished_floor.proofs.Acts.{still_at, swept_sent}
-use Rattle.finished_floor.proofs.Places.{length_set}
+use Rattle.finished_floor.proofs.Imports.{stands_at, ap, length, refl, sym, true≢false, ◌-◌, ◌∙◌}
 use Rattle.finished_floor.proofs.handing.SweptFloor.act_at.Goals as goal
+use Rattle.finished_floor.proofs.Acts.{swept_sent, copies_same, maker_at, copies_makers, sent_numbered, sent_left}
+use Rattle.finished_floor.proofs.Acts.{still_at, not_did}
+use Rattle.finished_floor.proofs.Places.{length_set}
 
 pub hand_out-requires-clause-numbered : goal.hand_out-requires-clause-numbered
 hand_out-requires-clause-numbered c =
     let done = rw c.in-Did.is at c.in_ok-copies.ensures.ok in
     let ms = c.args.self.now.machines.items in
     let m = c.index_mut.result.now in
-    let few = c.requires.numbered.few in
     record {
-      few = let same = length_set ms c.args.at c.act.new.self in omega arith;
+      few = rw (length_set ms c.args.at c.act.new.self) c.requires.numbered.few;
       numbers = sent_numbered ms c.args.at m (stands_at ms c.args.at m c.requires.at c.index_mut.ensures.value) _ _ _
           c.act.new.self done c.requires.numbered.numbers;
     }
@@ -46,9 +44,7 @@ returns-in_ok-hand_out-in-Did c =
             (swept_sent floor.loses.now first before ms floor.losses.items swept c.args.at m stood _ _ _ c.act.new.self
             done);
       };
-      acted = λ is.
-          let less = sent_left ms c.args.at m stood _ _ _ c.act.new.self done numbers in
-          let same = went.left in omega arith;
+      acted = λ is. rw went.left (sent_left ms c.args.at m stood _ _ _ c.act.new.self done numbers);
       none = λ isnt. absurd (true≢false isnt);
     }
 
@@ -62,15 +58,10 @@ returns-in_default c =
     stood c.in_ok-copies.ensures.ok (not_did c.in_ok-copies.field-0 c.in_default.not-Did) in
     record {
       goes_on = record {
-        numbered = record {
-          few = let few = c.requires.numbered.few in let same = ap length stays in omega arith;
-          numbers = subst AreNumbered (sym stays) c.requires.numbered.numbers;
-        };
+        numbered = record { few = rw stays c.requires.numbered.few; numbers = rw stays c.requires.numbered.numbers };
         count = ap length stays;
         loses = refl;
-        swept = λ first before swept.
-            subst (λ (l : List MachineState). IsSwept floor.loses.now first before no_waits l floor.losses.items)
-            (sym stays) swept;
+        swept = λ first before swept. rw stays swept;
       };
       acted = λ is. absurd (true≢false (sym is));
       none = λ isnt. (still, stays);

@@ -1,6 +1,6 @@
-use Rattle.finished_floor.proofs.Imports.{List, or_right, subst, MachineState, IsStillAt}
-use Rattle.finished_floor.proofs.Turns.{nothing_more, turn_more, turn_none}
+use Rattle.finished_floor.proofs.Imports.{IsStillAt, MachineState, List, subst, or_right}
 use Rattle.finished_floor.proofs.handing.SweptFloor.act_while.Goals as goal
+use Rattle.finished_floor.proofs.Turns.{turn_none, turn_more, nothing_more}
 
 pub loop-did-init : goal.loop-did-init
 loop-did-init c = turn_none (Unit {0}) c.args.self.now c.requires.numbered tt

@@ -1,8 +1,7 @@
-use Rattle.finished_floor.proofs.Imports.{◌+◌, ◌∙◌, Vec, Global, arith, subst, sym, SealedEntry, SweptFloor}
-use Rattle.finished_floor.proofs.Outs.{Handing, copy_maker, handing_done, handing_more, handing_none, handing_past}
-use Rattle.finished_floor.proofs.Outs.{some_left}
+use Rattle.finished_floor.proofs.Imports.{arith, sym, ◌∙◌}
 use Rattle.finished_floor.proofs.handing.SweptFloor.hand_out.Goals as goal
 use Rattle.finished_floor.proofs.handing.SweptFloor.hand_out.Goals.{then-to-from+in-Some+in_ok-hand_to, else-to-from}
+use Rattle.finished_floor.proofs.Outs.{handing_none, handing_past, some_left, copy_maker, handing_more, handing_done}
 
 pub loop-to-init : goal.loop-to-init
 loop-to-init c =
@@ -27,20 +26,14 @@ hand_to-requires-clause-other c = λ same.
 pub loop-to-preserved : goal.loop-to-preserved
 loop-to-preserved c =
     let is = c.loop-to.invariant in
-    let Goal : Vec SealedEntry Global → SweptFloor → Type 0 = λ copies floor.
-    Handing c.args.from c.len-count.result c.args.copies.items c.args.self.now (c.loop-to.to + 1) copies.items floor in
     elim c.if-to-from.branch [
       | then-to-from+in-Some+in_ok-hand_to w ↦
-          subst (λ copies. Goal copies c.if-to-from.self) (sym w.copies-is)
-          (subst (λ floor. Goal w.pop.new.self floor) (sym w.self-is)
-          (handing_more c.args.from c.len-count.result c.args.copies.items c.args.self.now c.loop-to.to
-          c.loop-to.copies.items c.loop-to.self is c.loop-to-test.true w.pop.new.self.items w.in-Some.copy
-          w.in-Some.ensures.items w.hand_to.new.self w.if-to-from.true w.in_ok-hand_to.ensures))
+          rw (w.copies-is, w.self-is) (handing_more c.args.from c.len-count.result c.args.copies.items c.args.self.now
+          c.loop-to.to c.loop-to.copies.items c.loop-to.self is c.loop-to-test.true w.pop.new.self.items w.in-Some.copy
+          w.in-Some.ensures.items w.hand_to.new.self w.if-to-from.true w.in_ok-hand_to.ensures)
       | else-to-from w ↦
-          subst (λ copies. Goal copies c.if-to-from.self) (sym w.copies-is)
-          (subst (λ floor. Goal c.loop-to.copies floor) (sym w.self-is)
-          (handing_past c.args.from c.len-count.result c.args.copies.items c.args.self.now c.loop-to.to
-          c.loop-to.copies.items c.loop-to.self is c.loop-to-test.true w.if-to-from.false))
+          rw (w.copies-is, w.self-is) (handing_past c.args.from c.len-count.result c.args.copies.items c.args.self.now
+          c.loop-to.to c.loop-to.copies.items c.loop-to.self is c.loop-to-test.true w.if-to-from.false)
     ]
 
 pub returns-clause-goes_on : goal.returns-clause-goes_on

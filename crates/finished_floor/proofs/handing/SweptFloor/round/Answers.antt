@@ -1,6 +1,6 @@
-use Rattle.finished_floor.proofs.Imports.{◌≡◌, ◌+◌, length, arith, refl, subst, AreStillBelow, IsStillAt, IsTurn}
-use Rattle.finished_floor.proofs.Turns.{still_more, turn_more, turn_none}
+use Rattle.finished_floor.proofs.Imports.{AreStillBelow, IsStillAt, IsTurn, arith, length, refl, subst, ◌+◌, ◌≡◌}
 use Rattle.finished_floor.proofs.handing.SweptFloor.round.Goals as goal
+use Rattle.finished_floor.proofs.Turns.{turn_none, turn_more, still_more}
 
 pub loop-at-init : goal.loop-at-init
 loop-at-init c =

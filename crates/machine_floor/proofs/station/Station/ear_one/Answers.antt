@@ -1,187 +1,131 @@
-use Rattle.machine_floor.proofs.Imports.{◌≡◌, ◌<◌, [], ◌∷◌, ◌++◌, length, sym, ap, ◌∙◌, subst, arith, get_or}
-use Rattle.machine_floor.proofs.Imports.{slice_set, get_or_default, SealedEntry, InView, IsInOf, FoundLinkEmpty}
-use Rattle.machine_floor.proofs.Imports.{IsHeard, machine_after, StationState, EarTook, EarFoundNone, state_of}
-use Rattle.machine_floor.proofs.Imports.{Config, History}
-use Rattle.machine_floor.proofs.EarTurns.{look, room_for_loss, room_for_heard, station_heard, ear_heard}
-use Rattle.machine_floor.proofs.EarTurns.{station_lost, ear_lost, station_bare, ear_bare, same_config, loss_is}
-use Rattle.machine_floor.proofs.EarTurns.{maker_of}
+use Rattle.machine_floor.proofs.Imports.{◌≡◌, List, [], ◌∷◌, ◌++◌, refl, sym, ap, ◌∙◌, subst, arith, Some, History}
+use Rattle.machine_floor.proofs.Imports.{SealedEntry, Loss, LossWhy, Tick, IsStation, EarFoundNone, EarTook, cause_of}
+use Rattle.machine_floor.proofs.Imports.{state_of, Config, IsHeard, machine_after, MachineState, get_or_default}
+use Rattle.machine_floor.proofs.Imports.{slice_set}
+use Rattle.machine_floor.proofs.Ears.{Looked, found_none, maker_is, room_for_loss, room_for_heard, same_config, looked}
+use Rattle.machine_floor.proofs.Ears.{Adds, took_one}
+use Rattle.machine_floor.proofs.Ticks.{ticks_as_many}
+use Rattle.machine_floor.proofs.station.Station.ear_one.Given.{Over}
 use Rattle.machine_floor.proofs.station.Station.ear_one.Goals as goal
+use Rattle.machine_floor.proofs.station.Station.ear_one.Goals.{In_default, After-owner-own}
+
+-- the link was found empty
+bare : (g : Over) (c : In_default g) →
+    let old = state_of c.self.inside in let now = record old { inns = slice_set old.inns c.args.from c.take.new.inn } in
+    IsStation now × EarFoundNone c.args.from old now
+bare g c =
+    let within = rw (← c.self.view_is) at c.requires.from in
+    found_none (state_of c.self.inside) c.args.from c.args.link.now c.take.new.inn c.self.invariant.0 within
+    (rw (← c.self.view_is) at c.requires.other) c.take.ensures.end (rw (← c.self.view_is) at c.requires.end)
+    (λ d. rw (c.index_mut.ensures.value ∙ get_or_default _ c.args.from c.index_mut.result.now d within) at
+    c.in_default.ensures.none)
 
 pub invariant_of-self : goal.invariant_of-self
 invariant_of-self g c =
-    let old = state_of c.self.inside in
-    let within : c.args.from < length old.inns =
-    subst (λ (s : StationState). c.args.from < length s.inns) (sym c.self.view_is) c.requires.from in
-    let empty : (d : InView SealedEntry) → FoundLinkEmpty (get_or old.inns c.args.from d) c.take.new.inn =
-    λ d. subst (λ (i : InView SealedEntry). FoundLinkEmpty i c.take.new.inn) (c.index_mut.ensures.value
-    ∙ get_or_default old.inns c.args.from c.index_mut.result.now d within) c.in_default.ensures.none in
-    let (is, losses_fit, ticks_fit) = c.self.invariant in
-    (station_bare old c.args.from c.take.new.inn is within empty, losses_fit, ticks_fit)
+    let (_, losses_fit, ticks_fit) = c.self.invariant in
+    ((bare g (goal.at.invariant_of-self g c).In_default).0, losses_fit, ticks_fit)
 
 pub returns-in_default : goal.returns-in_default
-returns-in_default g c =
-    let old = state_of c.self.inside in
-    let within : c.args.from < length old.inns =
-    subst (λ (s : StationState). c.args.from < length s.inns) (sym c.self.view_is) c.requires.from in
-    let ends = subst (λ (s : StationState). (d : InView SealedEntry) →
-    IsInOf c.args.link.now (get_or s.inns c.args.from d)) (sym c.self.view_is) c.requires.end in
-    let empty : (d : InView SealedEntry) → FoundLinkEmpty (get_or old.inns c.args.from d) c.take.new.inn =
-    λ d. subst (λ (i : InView SealedEntry). FoundLinkEmpty i c.take.new.inn) (c.index_mut.ensures.value
-    ∙ get_or_default old.inns c.args.from c.index_mut.result.now d within) c.in_default.ensures.none in
-    subst (λ (s : StationState). EarFoundNone c.args.from s
-    (record old { inns = slice_set old.inns c.args.from c.take.new.inn })) c.self.view_is
-    (ear_bare old c.args.from c.take.new.inn c.self.invariant.0 within empty (λ d. c.take.ensures.end.0
-    ∙ sym (ends d).0) (λ d. c.take.ensures.end.1 ∙ sym (ends d).1))
+returns-in_default g c = rw (← c.self.view_is) (bare g (goal.at.returns-in_default g c).In_default).1
+
+-- what is known once an entry was taken
+known : (g : Over) (c : After-owner-own g) →
+    Looked (state_of c.self.inside) c.args.from c.take.new.inn c.in-Some.parcel
+known g c =
+    let within = rw (← c.self.view_is) at c.requires.from in
+    let ends = rw (← c.self.view_is) at c.requires.end in
+    record {
+      is = c.self.invariant.0;
+      within = within;
+      other = rw (← c.self.view_is) at c.requires.other;
+      took = λ d. rw (c.index_mut.ensures.value ∙ get_or_default _ c.args.from c.index_mut.result.now d within) at
+          c.in-Some.ensures.some;
+      small = c.«open».ensures.small;
+      of = λ d. (ends d).1 ∙ c.requires.sender;
+      same = λ d. (c.take.ensures.end.0 ∙ sym (ends d).0, c.take.ensures.end.1 ∙ sym (ends d).1);
+    }
+
+-- the machine's answer
+answers : (g : Over) (c : After-owner-own g) →
+    IsHeard c.self.inside.machine c.in-Some.parcel c.hear-answer.result
+answers g c = rw c.«open».ensures.value at c.hear-answer.ensures.answer
+
+-- and what became of the machine
+after : (g : Over) (c : After-owner-own g) →
+    c.hear-answer.new.self ≡ machine_after c.hear-answer.result c.in-Some.parcel c.self.inside.machine
+after g c = rw c.«open».ensures.value at c.hear-answer.ensures.machine
+
+-- its configuration stays
+config : (g : Over) (c : After-owner-own g) → c.hear-answer.new.self.config ≡ c.self.inside.machine.config
+config g c = ap (λ (m : MachineState). m.config) (same_config _ _ _ _ (after g c))
+
+-- the entry was heard or lost
+took : (g : Over) (c : After-owner-own g) (losses : List Loss) (ticks : List Tick) →
+    Adds (known g c) (cause_of c.hear-answer.result) losses ticks →
+    let now = looked (known g c) c.hear-answer.new.self losses ticks in
+    IsStation now × EarTook c.args.from (state_of c.self.inside) now
+took g c losses ticks adds =
+    took_one (known g c) c.hear-answer.result c.hear-answer.new.self losses ticks (answers g c) (after g c)
+    c.log.ensures.machine adds
 
 pub push_reserved-requires : goal.push_reserved-requires
 push_reserved-requires g c =
-    let l = look c.args.self.now (state_of c.self.inside) c.args.from c.args.link.now c.index_mut.result.now
-    c.take.new.inn c.in-Some.parcel c.self.view_is c.self.invariant.0 c.requires.from c.requires.other
-    c.requires.end c.requires.sender c.index_mut.ensures.value c.in-Some.ensures.some c.take.ensures.end
-    c.«open».ensures.small in
-    let old = state_of c.self.inside in
-    let answers : IsHeard old.machine c.in-Some.parcel c.hear-answer.result =
-    subst (λ (y : SealedEntry). IsHeard old.machine y c.hear-answer.result) c.«open».ensures.value
-    c.hear-answer.ensures.answer in
-    let after : c.hear-answer.new.self ≡ machine_after c.hear-answer.result c.in-Some.parcel old.machine =
-    subst (λ (y : SealedEntry). c.hear-answer.new.self ≡ machine_after c.hear-answer.result y old.machine)
-    c.«open».ensures.value c.hear-answer.ensures.machine in
-    let room = room_for_heard (state_of c.self.inside) c.args.from c.take.new.inn c.in-Some.parcel l.is l.within
-    l.other l.took l.small l.of l.same_from l.queue c.hear-answer.result c.hear-answer.new.self answers after
-    c.log.ensures.machine (sym c.in-None.ensures) in
+    let k = (goal.at.push_reserved-requires g c).After-owner-own in
+    let room = room_for_heard (known g k) c.hear-answer.result (answers g k) c.in-None.ensures in
     let ok = c.self.inside.ticks.ok.0 in omega (arith, c.self.invariant.2)
+
+pub push_reserved-requires-in-Some-cause_of : goal.push_reserved-requires-in-Some-cause_of
+push_reserved-requires-in-Some-cause_of g c =
+    let room = room_for_loss (known g (goal.at.push_reserved-requires-in-Some-cause_of g c).After-owner-own) in
+    let ok = c.self.inside.losses.ok.0 in omega (arith, c.self.invariant.1)
 
 pub invariant_of-self-in-None : goal.invariant_of-self-in-None
 invariant_of-self-in-None g c =
     let (is, losses_fit, ticks_fit) = c.self.invariant in
-    let l = look c.args.self.now (state_of c.self.inside) c.args.from c.args.link.now c.index_mut.result.now
-    c.take.new.inn c.in-Some.parcel c.self.view_is is c.requires.from c.requires.other
-    c.requires.end c.requires.sender c.index_mut.ensures.value c.in-Some.ensures.some c.take.ensures.end
-    c.«open».ensures.small in
-    let old = state_of c.self.inside in
-    let answers : IsHeard old.machine c.in-Some.parcel c.hear-answer.result =
-    subst (λ (y : SealedEntry). IsHeard old.machine y c.hear-answer.result) c.«open».ensures.value
-    c.hear-answer.ensures.answer in
-    let after : c.hear-answer.new.self ≡ machine_after c.hear-answer.result c.in-Some.parcel old.machine =
-    subst (λ (y : SealedEntry). c.hear-answer.new.self ≡ machine_after c.hear-answer.result y old.machine)
-    c.«open».ensures.value c.hear-answer.ensures.machine in
+    let k = (goal.at.invariant_of-self-in-None g c).After-owner-own in
     let ticked = c.push_reserved.ensures.items
-    ∙ ap (λ n. c.self.inside.ticks.items ++ record { pass = 1; what = n } ∷ []) (let k =
-    c.self.inside.ticks.ok.0 in omega arith) in
-    let log = ap (λ (k : Config). k.log)
-    (same_config c.hear-answer.result c.in-Some.parcel old.machine c.hear-answer.new.self after) in (
-      station_heard (state_of c.self.inside) c.args.from c.take.new.inn c.in-Some.parcel l.is l.within l.other l.took
-          l.small l.of l.same_from l.queue c.hear-answer.result c.hear-answer.new.self answers after
-          c.log.ensures.machine (sym c.in-None.ensures) c.push_reserved.new.self.items ticked,
+    ∙ ap (λ n. c.self.inside.ticks.items ++ record { pass = 1; what = n } ∷ [])
+    (let t = c.self.inside.ticks.ok.0 in omega (arith, ticks_as_many (state_of c.self.inside) is)) in (
+      (took g k c.self.inside.losses.items c.push_reserved.new.self.items (subst (λ o. Adds (known g k) o
+          c.self.inside.losses.items c.push_reserved.new.self.items) c.in-None.ensures (refl, ticked))).0,
       losses_fit,
-      omega (arith, c.push_reserved.ensures.capacity, ticks_fit, log),
-    )
-
-pub push_reserved-requires-in-Some-cause_of : goal.push_reserved-requires-in-Some-cause_of
-push_reserved-requires-in-Some-cause_of g c =
-    let l = look c.args.self.now (state_of c.self.inside) c.args.from c.args.link.now c.index_mut.result.now
-    c.take.new.inn c.in-Some.parcel c.self.view_is c.self.invariant.0 c.requires.from c.requires.other
-    c.requires.end c.requires.sender c.index_mut.ensures.value c.in-Some.ensures.some c.take.ensures.end
-    c.«open».ensures.small in
-    let old = state_of c.self.inside in
-    let answers : IsHeard old.machine c.in-Some.parcel c.hear-answer.result =
-    subst (λ (y : SealedEntry). IsHeard old.machine y c.hear-answer.result) c.«open».ensures.value
-    c.hear-answer.ensures.answer in
-    let after : c.hear-answer.new.self ≡ machine_after c.hear-answer.result c.in-Some.parcel old.machine =
-    subst (λ (y : SealedEntry). c.hear-answer.new.self ≡ machine_after c.hear-answer.result y old.machine)
-    c.«open».ensures.value c.hear-answer.ensures.machine in
-    let room = room_for_loss (state_of c.self.inside) c.args.from c.take.new.inn c.in-Some.parcel l.is l.within
-    l.other l.took l.small l.of l.same_from l.queue in
-    let ok = c.self.inside.losses.ok.0 in omega (arith, c.self.invariant.1)
-
-pub invariant_of-self-in-Some-cause_of : goal.invariant_of-self-in-Some-cause_of
-invariant_of-self-in-Some-cause_of g c =
-    let (is, losses_fit, ticks_fit) = c.self.invariant in
-    let l = look c.args.self.now (state_of c.self.inside) c.args.from c.args.link.now c.index_mut.result.now
-    c.take.new.inn c.in-Some.parcel c.self.view_is is c.requires.from c.requires.other
-    c.requires.end c.requires.sender c.index_mut.ensures.value c.in-Some.ensures.some c.take.ensures.end
-    c.«open».ensures.small in
-    let old = state_of c.self.inside in
-    let answers : IsHeard old.machine c.in-Some.parcel c.hear-answer.result =
-    subst (λ (y : SealedEntry). IsHeard old.machine y c.hear-answer.result) c.«open».ensures.value
-    c.hear-answer.ensures.answer in
-    let after : c.hear-answer.new.self ≡ machine_after c.hear-answer.result c.in-Some.parcel old.machine =
-    subst (λ (y : SealedEntry). c.hear-answer.new.self ≡ machine_after c.hear-answer.result y old.machine)
-    c.«open».ensures.value c.hear-answer.ensures.machine in
-    let config = same_config c.hear-answer.result c.in-Some.parcel old.machine c.hear-answer.new.self after in
-    let added = loss_is old.losses c.push_reserved-in-Some-cause_of.new.self.items c.from-maker.result
-    c.number-number.result c.owner-own.result c.in-Some-cause_of.why c.args.from c.in-Some.parcel.entry.number
-    old.machine.config.number
-    (c.from-maker.ensures ∙ maker_of old c.args.from c.take.new.inn c.in-Some.parcel l) c.number-number.ensures
-    (c.owner-own.ensures ∙ ap (λ (h : History SealedEntry). h.owner) c.log.ensures.log
-    ∙ ap (λ (k : Config). k.number) config) c.push_reserved-in-Some-cause_of.ensures.items in (
-      station_lost (state_of c.self.inside) c.args.from c.take.new.inn c.in-Some.parcel l.is l.within l.other l.took
-          l.small l.of l.same_from l.queue c.hear-answer.result c.hear-answer.new.self answers after
-          c.log.ensures.machine c.in-Some-cause_of.why (sym c.in-Some-cause_of.ensures)
-          c.push_reserved-in-Some-cause_of.new.self.items added,
-      omega (arith, c.push_reserved-in-Some-cause_of.ensures.capacity, losses_fit),
-      omega (arith, ticks_fit, ap (λ (k : Config). k.log) config),
+      omega (arith, c.push_reserved.ensures.capacity, ticks_fit, ap (λ (x : Config). x.log) (config g k)),
     )
 
 pub returns-in-None : goal.returns-in-None
 returns-in-None g c =
-    let l = look c.args.self.now (state_of c.self.inside) c.args.from c.args.link.now c.index_mut.result.now
-    c.take.new.inn c.in-Some.parcel c.self.view_is c.self.invariant.0 c.requires.from c.requires.other
-    c.requires.end c.requires.sender c.index_mut.ensures.value c.in-Some.ensures.some c.take.ensures.end
-    c.«open».ensures.small in
-    let old = state_of c.self.inside in
-    let answers : IsHeard old.machine c.in-Some.parcel c.hear-answer.result =
-    subst (λ (y : SealedEntry). IsHeard old.machine y c.hear-answer.result) c.«open».ensures.value
-    c.hear-answer.ensures.answer in
-    let after : c.hear-answer.new.self ≡ machine_after c.hear-answer.result c.in-Some.parcel old.machine =
-    subst (λ (y : SealedEntry). c.hear-answer.new.self ≡ machine_after c.hear-answer.result y old.machine)
-    c.«open».ensures.value c.hear-answer.ensures.machine in
+    let k = (goal.at.returns-in-None g c).After-owner-own in
     let ticked = c.push_reserved.ensures.items
-    ∙ ap (λ n. c.self.inside.ticks.items ++ record { pass = 1; what = n } ∷ []) (let k =
-    c.self.inside.ticks.ok.0 in omega arith) in
-    subst (λ (s : StationState). EarTook c.args.from s (record {
-      machine = c.hear-answer.new.self;
-      link = old.link;
-      loses = old.loses;
-      outs = old.outs;
-      inns = slice_set old.inns c.args.from c.take.new.inn;
-      losses = old.losses;
-      ticks = c.push_reserved.new.self.items;
-    })) c.self.view_is
-    (ear_heard (state_of c.self.inside) c.args.from c.take.new.inn c.in-Some.parcel l.is l.within l.other l.took
-    l.small l.of l.same_from l.queue c.hear-answer.result c.hear-answer.new.self answers after
-    c.log.ensures.machine (sym c.in-None.ensures) c.push_reserved.new.self.items ticked)
+    ∙ ap (λ n. c.self.inside.ticks.items ++ record { pass = 1; what = n } ∷ [])
+    (let t = c.self.inside.ticks.ok.0 in omega (arith, ticks_as_many (state_of c.self.inside) c.self.invariant.0)) in
+    rw (← c.self.view_is) (took g k c.self.inside.losses.items c.push_reserved.new.self.items (subst (λ o.
+    Adds (known g k) o c.self.inside.losses.items c.push_reserved.new.self.items) c.in-None.ensures (refl, ticked))).1
+
+-- the loss that was added is the entry's
+lost : (g : Over) (c : After-owner-own g) (why : LossWhy) (after : List Loss) →
+    after ≡ c.self.inside.losses.items
+    ++ record { from = c.from-maker.result; number = c.number-number.result; to = c.owner-own.result; why = why } ∷ [] →
+    Some why ≡ cause_of c.hear-answer.result →
+    Adds (known g c) (cause_of c.hear-answer.result) after c.self.inside.ticks.items
+lost g c why after is some =
+    let maker = c.from-maker.ensures ∙ maker_is (known g c) in
+    let own = c.owner-own.ensures ∙ ap (λ (h : History SealedEntry). h.owner) c.log.ensures.log
+    ∙ ap (λ (k : Config). k.number) (config g c) in
+    subst (λ o. Adds (known g c) o after c.self.inside.ticks.items) some
+    (refl, rw (maker, c.number-number.ensures, own) at is)
+
+pub invariant_of-self-in-Some-cause_of : goal.invariant_of-self-in-Some-cause_of
+invariant_of-self-in-Some-cause_of g c =
+    let (_, losses_fit, ticks_fit) = c.self.invariant in
+    let k = (goal.at.invariant_of-self-in-Some-cause_of g c).After-owner-own in (
+      (took g k _ _ (lost g k c.in-Some-cause_of.why c.push_reserved-in-Some-cause_of.new.self.items
+          c.push_reserved-in-Some-cause_of.ensures.items c.in-Some-cause_of.ensures)).0,
+      omega (arith, c.push_reserved-in-Some-cause_of.ensures.capacity, losses_fit),
+      omega (arith, ticks_fit, ap (λ (x : Config). x.log) (config g k)),
+    )
 
 pub returns-in-Some-cause_of : goal.returns-in-Some-cause_of
 returns-in-Some-cause_of g c =
-    let l = look c.args.self.now (state_of c.self.inside) c.args.from c.args.link.now c.index_mut.result.now
-    c.take.new.inn c.in-Some.parcel c.self.view_is c.self.invariant.0 c.requires.from c.requires.other
-    c.requires.end c.requires.sender c.index_mut.ensures.value c.in-Some.ensures.some c.take.ensures.end
-    c.«open».ensures.small in
-    let old = state_of c.self.inside in
-    let answers : IsHeard old.machine c.in-Some.parcel c.hear-answer.result =
-    subst (λ (y : SealedEntry). IsHeard old.machine y c.hear-answer.result) c.«open».ensures.value
-    c.hear-answer.ensures.answer in
-    let after : c.hear-answer.new.self ≡ machine_after c.hear-answer.result c.in-Some.parcel old.machine =
-    subst (λ (y : SealedEntry). c.hear-answer.new.self ≡ machine_after c.hear-answer.result y old.machine)
-    c.«open».ensures.value c.hear-answer.ensures.machine in
-    let config = same_config c.hear-answer.result c.in-Some.parcel old.machine c.hear-answer.new.self after in
-    let added = loss_is old.losses c.push_reserved-in-Some-cause_of.new.self.items c.from-maker.result
-    c.number-number.result c.owner-own.result c.in-Some-cause_of.why c.args.from c.in-Some.parcel.entry.number
-    old.machine.config.number
-    (c.from-maker.ensures ∙ maker_of old c.args.from c.take.new.inn c.in-Some.parcel l) c.number-number.ensures
-    (c.owner-own.ensures ∙ ap (λ (h : History SealedEntry). h.owner) c.log.ensures.log
-    ∙ ap (λ (k : Config). k.number) config) c.push_reserved-in-Some-cause_of.ensures.items in
-    subst (λ (s : StationState). EarTook c.args.from s (record {
-      machine = c.hear-answer.new.self;
-      link = old.link;
-      loses = old.loses;
-      outs = old.outs;
-      inns = slice_set old.inns c.args.from c.take.new.inn;
-      losses = c.push_reserved-in-Some-cause_of.new.self.items;
-      ticks = old.ticks;
-    })) c.self.view_is
-    (ear_lost (state_of c.self.inside) c.args.from c.take.new.inn c.in-Some.parcel l.is l.within l.other l.took
-    l.small l.of l.same_from l.queue c.hear-answer.result c.hear-answer.new.self answers after
-    c.log.ensures.machine c.in-Some-cause_of.why (sym c.in-Some-cause_of.ensures)
-    c.push_reserved-in-Some-cause_of.new.self.items added)
+    let k = (goal.at.returns-in-Some-cause_of g c).After-owner-own in
+    rw (← c.self.view_is) (took g k _ _ (lost g k c.in-Some-cause_of.why c.push_reserved-in-Some-cause_of.new.self.items
+    c.push_reserved-in-Some-cause_of.ensures.items c.in-Some-cause_of.ensures)).1

@@ -1,10 +1,11 @@
-use Rattle.machine_floor.proofs.Imports.{◌≤◌, HasLooked}
-use Rattle.machine_floor.proofs.EarLoops.{HasHeard}
+use Rattle.machine_floor.proofs.Imports.{◌≡◌, ◌≤◌, made_of, HasLooked}
+use Rattle.machine_floor.proofs.Ticks.{HasGrown}
 use Rattle.machine_floor.proofs.station.Station.ear_turn.Given as goal
 
 abbrev pub invariant-loop-from : goal.invariant-loop-from
 invariant-loop-from g l = record {
-  heard : HasHeard l.fn.self l.self;
+  made : made_of l.self ≡ made_of l.fn.self;
+  grown : HasGrown 1 l.fn.self.ticks l.self.ticks;
   few : l.heard ≤ l.from;
   looked : HasLooked l.own l.from l.fn.self l.self l.heard;
 }
