@@ -1,7 +1,7 @@
 -- The gaps of entries, by a table of their places.
 use Rattle.entry_graph.proofs.Imports.{◌≡◌, ◌∙◌, ◌++◌, ◌∷◌, [], ◌+◌, ◌<◌, ℕ, Bool, true, false, List, Option, None, Some}
-use Rattle.entry_graph.proofs.Imports.{ap, refl, sym, subst, length, take, get_or, not, filter, is_none, Contains}
-use Rattle.entry_graph.proofs.Imports.{cases_Bool, none-some, Node, filter-append, append-nil, gaps, number_at, ArePlaces}
+use Rattle.entry_graph.proofs.Imports.{ap, refl, sym, length, take, get_or, not, filter, is_none}
+use Rattle.entry_graph.proofs.Imports.{Node, filter-append, append-nil, gaps, number_at, ArePlaces}
 use Rattle.entry_graph.proofs.Imports.{has_digest, has_digest_of, has_digest_from, member_at, place_of}
 use Rattle.std.specs.List.{flat_map}
 use Rattle.std.proofs.lemmas.List.{take_more}

@@ -1,112 +1,92 @@
 -- Links by the table of places.
 use Rattle.entry_graph.proofs.Imports.{◌≡◌, ℕ, zero, suc, ◌+◌, ◌<◌, ◌≤◌, Bool, true, false, List, [], ◌∷◌, ◌++◌}
 use Rattle.entry_graph.proofs.Imports.{length, get_or, take, refl, sym, ap, subst, ◌∙◌, inl, inr, Some, None, Option}
-use Rattle.entry_graph.proofs.Imports.{arith, ◌↔◌, ◌||◌, slice_get, is_none, AllPairs, Contains, list_any, cases_lt}
-use Rattle.entry_graph.proofs.Imports.{cases_order, true≢false, false_from_ne_true, or_right, Contains-push}
-use Rattle.entry_graph.proofs.Imports.{Contains-push_cases, Contains-append_left, or-false, none-some, same_Some}
+use Rattle.entry_graph.proofs.Imports.{arith, ◌↔◌, slice_get, is_none, AllPairs, Contains, list_any, cases_lt}
+use Rattle.entry_graph.proofs.Imports.{cases_order, true≢false, false_from_ne_true}
+use Rattle.entry_graph.proofs.Imports.{none-some, same_Some}
 use Rattle.entry_graph.proofs.Imports.{slice_get_within, slice_get_past, get_or_from_slice_get, Node, Names}
 use Rattle.entry_graph.proofs.Imports.{IsBorneIn, gaps, NamesNoGap, gaps_are_unique, Contains-none, list_any_some}
 use Rattle.entry_graph.proofs.Imports.{list_any_of, member_at, place_of, taken_more, Links, IsLower, AreLinks}
 use Rattle.entry_graph.proofs.Imports.{parents_of, ragged_of, parents_in, ragged_in, HasNoDigestTwice, NamesLower}
-use Rattle.entry_graph.proofs.Imports.{number_at, ArePlaces, IsLinked, AreLinked}
-use Rattle.entry_graph.proofs.Places.{any_push, one_place, zip_at, zip_length, zip_push}
+use Rattle.entry_graph.proofs.Imports.{number_at, ArePlaces, links_by, links_of, place_in, with_next, filter_map, filter_map-append, cons_option}
+use Rattle.entry_graph.proofs.Imports.{Contains-cons_cases, Contains-head, Contains-later, bytes_eq, bytes_eq-Decides}
+use Rattle.entry_graph.proofs.Imports.{cond, length-map, map, option_map, position_from, slice_get-map}
+use Rattle.entry_graph.proofs.Places.{any_push, one_place}
 
--- what is found at one of the names, with one name more
-pub found_more : (table : List (List ℕ × ℕ)) (names : List (List ℕ)) (name : List ℕ) (parents : List ℕ) (p : ℕ)
-    → number_at table name ≡ Some p
-    → ((q : ℕ) → Contains parents q ↔ ((d : List ℕ) × Contains names d × (number_at table d ≡ Some q))) → (q : ℕ)
-    → Contains (parents ++ p ∷ []) q
-    ↔ ((d : List ℕ) × Contains (names ++ name ∷ []) d × (number_at table d ≡ Some q))
-found_more table names name parents p is before q = (
-  λ c. elim (Contains-push_cases parents p q c) [
-    | inl h ↦
-        (let (d, named, found) = (before q).0 h in (d, Contains-append_left names (name ∷ []) d named, found))
-    | inr same ↦ (name, Contains-push names name, is ∙ ap (λ (n : ℕ). Some n) same)
-  ],
-  λ (d, c, at). elim (Contains-push_cases names name d c) [
-    | inl h ↦ Contains-append_left parents (p ∷ []) q ((before q).1 (d, h, at))
-    | inr same ↦
-        (let e : p ≡ q = same_Some p q (sym is ∙ ap (number_at table) same ∙ at) in
-        subst (λ (n : ℕ). Contains (parents ++ p ∷ []) n) e (Contains-push parents p))
-  ],
-)
+-- the links by the first names and one more
+pub next_links : (place : List ℕ → Option ℕ) (names : List (List ℕ)) (i : ℕ) (name : List ℕ) (links : Links)
+    → i < length names → name ≡ get_or names i name → links ≡ links_by place (take i names)
+    → with_next links (place name) ≡ links_by place (take (i + 1) names)
+next_links place names i name links within is before =
+    let earlier = take i names in
+    let more : links_by place (earlier ++ name ∷ []) ≡ with_next (links_by place earlier) (place name) =
+    λ k. record {
+      parents = filter_map-append place earlier (name ∷ []) k;
+      ragged = any_push (λ d. is_none (place d)) earlier name k;
+    } in
+    ap (λ (l : Links). with_next l (place name)) before
+    ∙ sym (ap (links_by place) (taken_more names i name within is) ∙ more)
 
--- where nothing is found at the name, no place is added
-pub lacking_more : (table : List (List ℕ × ℕ)) (names : List (List ℕ)) (name : List ℕ) (parents : List ℕ)
-    → number_at table name ≡ None
-    → ((q : ℕ) → Contains parents q ↔ ((d : List ℕ) × Contains names d × (number_at table d ≡ Some q))) → (q : ℕ)
-    → Contains parents q ↔ ((d : List ℕ) × Contains (names ++ name ∷ []) d × (number_at table d ≡ Some q))
-lacking_more table names name parents none before q = (
-  λ h. let (d, named, found) = (before q).0 h in (d, Contains-append_left names (name ∷ []) d named, found),
-  λ (d, c, at). elim (Contains-push_cases names name d c) [
-    | inl h ↦ (before q).1 (d, h, at)
-    | inr same ↦ absurd (none-some q (sym none ∙ ap (number_at table) same ∙ at))
-  ],
-)
+-- a place among those of the names is that of one of them
+pub place_named : (place : List ℕ → Option ℕ) (names : List (List ℕ)) (p : ℕ) → Contains (filter_map place names) p
+    → (d : List ℕ) × Contains names d × (place d ≡ Some p)
+place_named place [] p c = absurd (Contains-none p c)
+place_named place (name ∷ names) p c = by (place_named place names p) (place name) refl c
+  where
+    -- by the place of the first
+    by : (Contains (filter_map place names) p → (d : List ℕ) × Contains names d × (place d ≡ Some p))
+        → (o : Option ℕ) → place name ≡ o → Contains (cons_option o (filter_map place names)) p
+        → (d : List ℕ) × Contains (name ∷ names) d × (place d ≡ Some p)
+    by later None is c = let (d, named, at) = later c in (d, Contains-later name names d named, at)
+    by later (Some q) is c = elim (Contains-cons_cases q (filter_map place names) p c) [
+      | inl same ↦ (name, Contains-head name names, is ∙ ap (λ (n : ℕ). Some n) same)
+      | inr rest ↦ let (d, named, at) = later rest in (d, Contains-later name names d named, at)
+    ]
 
--- a name that is found adds its place
-pub linked_found : (table : List (List ℕ × ℕ)) (names : List (List ℕ)) (name : List ℕ) (parents : List ℕ)
-    (ragged : Bool) (p : ℕ) → number_at table name ≡ Some p
-    → IsLinked table names (record { parents = parents; ragged = ragged })
-    → IsLinked table (names ++ name ∷ []) (record { parents = parents ++ p ∷ []; ragged = ragged })
-linked_found table names name parents ragged p is before =
-    let lacking : List ℕ → Bool = λ d. is_none (number_at table d) in
-    record {
-      parents = found_more table names name parents p is before.parents;
-      ragged =
-          before.ragged ∙ sym (or-false (list_any lacking names))
-          ∙ ap (λ b. list_any lacking names || b) (sym (ap is_none is))
-          ∙ sym (any_push lacking names name);
-    }
+-- and the place of each name is among them
+pub named_place : (place : List ℕ → Option ℕ) (names : List (List ℕ)) (d : List ℕ) (p : ℕ) → Contains names d
+    → place d ≡ Some p → Contains (filter_map place names) p
+named_place place [] d p c is = absurd (Contains-none d c)
+named_place place (name ∷ names) d p c is = elim (Contains-cons_cases name names d c) [
+  | inl same ↦
+      subst (λ (o : Option ℕ). Contains (cons_option o (filter_map place names)) p) (sym (ap place same ∙ is))
+      (Contains-head p (filter_map place names))
+  | inr rest ↦ behind (place name) (named_place place names d p rest is)
+]
+  where
+    -- it stays among them behind another place
+    behind : (o : Option ℕ) → Contains (filter_map place names) p
+        → Contains (cons_option o (filter_map place names)) p
+    behind None c = c
+    behind (Some q) c = Contains-later q (filter_map place names) p c
 
--- a name that isn't found makes the links ragged
-pub linked_lacking : (table : List (List ℕ × ℕ)) (names : List (List ℕ)) (name : List ℕ) (parents : List ℕ)
-    (ragged : Bool) → number_at table name ≡ None
-    → IsLinked table names (record { parents = parents; ragged = ragged })
-    → IsLinked table (names ++ name ∷ []) (record { parents = parents; ragged = true })
-linked_lacking table names name parents ragged none before =
-    let lacking : List ℕ → Bool = λ d. is_none (number_at table d) in
-    record {
-      parents = lacking_more table names name parents none before.parents;
-      ragged =
-          sym (or_right (list_any lacking names) (lacking name) (ap is_none none))
-          ∙ sym (any_push lacking names name);
-    }
+-- the first element that passes is found at its place
+pub found_first : {X : Type 0} (test : X → Bool) (xs : List X) (n i : ℕ) (x : X) → slice_get xs i ≡ Some x
+    → test x ≡ true → ((j : ℕ) (y : X) → slice_get xs j ≡ Some y → test y ≡ true → j ≡ i)
+    → position_from test n xs ≡ Some (n + i)
+found_first test [] n i x at passes one = absurd (none-some x at)
+found_first test (y ∷ xs) n zero x at passes one =
+    let here : test y ≡ true = ap test (same_Some y x at) ∙ passes in
+    ap (λ b. cond b (Some n) (position_from test (n + 1) xs)) here ∙ ap (λ m. Some m) (omega arith)
+found_first test (y ∷ xs) n (suc i) x at passes one =
+    let not_here : test y ≡ false = false_from_ne_true (test y) (λ t. let no = one zero y refl t in omega arith) in
+    ap (λ b. cond b (Some n) (position_from test (n + 1) xs)) not_here
+    ∙ found_first test xs (n + 1) i x at passes (λ j z jz t. let same = one (suc j) z jz t in omega arith)
+    ∙ ap (λ m. Some m) (omega arith)
 
--- a next name that is found adds its number to the links of the first names
-pub found_step : (table : List (List ℕ × ℕ)) (names : List (List ℕ)) (i : ℕ) (name : List ℕ) (parents : List ℕ)
-    (ragged : Bool) (p : ℕ) → i < length names → name ≡ get_or names i name → number_at table name ≡ Some p
-    → IsLinked table (take i names) (record { parents = parents; ragged = ragged })
-    → IsLinked table (take (i + 1) names) (record { parents = parents ++ p ∷ []; ragged = ragged })
-found_step table names i name parents ragged p within is at before =
-    subst (λ ds. IsLinked table ds (record { parents = parents ++ p ∷ []; ragged = ragged }))
-    (sym (taken_more names i name within is))
-    (linked_found table (take i names) name parents ragged p at before)
+-- and where none passes, none is found
+pub found_none : {X : Type 0} (test : X → Bool) (xs : List X) (n : ℕ)
+    → ((j : ℕ) (y : X) → slice_get xs j ≡ Some y → test y ≡ true → ⊥) → position_from test n xs ≡ None
+found_none test [] n none = refl
+found_none test (y ∷ xs) n none =
+    ap (λ b. cond b (Some n) (position_from test (n + 1) xs)) (false_from_ne_true (test y) (none zero y refl))
+    ∙ found_none test xs (n + 1) (λ j z jz. none (suc j) z jz)
 
--- a next name that isn't found makes the links of the first names ragged
-pub lacking_step : (table : List (List ℕ × ℕ)) (names : List (List ℕ)) (i : ℕ) (name : List ℕ) (parents : List ℕ)
-    (ragged : Bool) → i < length names → name ≡ get_or names i name → number_at table name ≡ None
-    → IsLinked table (take i names) (record { parents = parents; ragged = ragged })
-    → IsLinked table (take (i + 1) names) (record { parents = parents; ragged = true })
-lacking_step table names i name parents ragged within is none before =
-    subst (λ ds. IsLinked table ds (record { parents = parents; ragged = true }))
-    (sym (taken_more names i name within is))
-    (linked_lacking table (take i names) name parents ragged none before)
-
--- before the first name nothing is linked
-pub no_links : (table : List (List ℕ × ℕ)) → IsLinked table [] (record { parents = []; ragged = false })
-no_links table = record {
-  parents = λ p. ((λ c. absurd (Contains-none p c)), (λ (d, c, at). absurd (Contains-none d c)));
-  ragged = refl;
-}
-
--- the links of the first survivors and one more
-pub linked_step : {T : Type 0} (node : T → Node) (table : List (List ℕ × ℕ)) (S : List T) (i : ℕ) (e : T)
-    (links : List Links) (l : Links) → i < length S → e ≡ get_or S i e → AreLinked node table (take i S) links
-    → IsLinked table (node e).names l → AreLinked node table (take (i + 1) S) (links ++ l ∷ [])
-linked_step node table S i e links l within is before here =
-    subst (λ es. AreLinked node table es (links ++ l ∷ [])) (sym (taken_more S i e within is))
-    (zip_push (λ e l. IsLinked table (node e).names l) (take i S) links e l before here)
+-- there is a link for each entry
+pub one_link_each : {T : Type 0} (node : T → Node) (S : List T) (links : List Links) → AreLinks node S links
+    → length links ≡ length S
+one_link_each node S links are =
+    ap length are.in_order ∙ length-map S (λ e. links_by (place_in node S) (node e).names)
 
 -- within the list there is an element
 within_not_none : {X : Type 0} (xs : List X) (i : ℕ) → i < length xs → slice_get xs i ≡ None → ⊥
@@ -137,34 +117,27 @@ none_of o is = ap is_none is
 
 module _ {T : Type 0} (node : T → Node) (S : List T) (table : List (List ℕ × ℕ)) (links : List Links)
     (single : HasNoDigestTwice node S) (numbered : AllPairs (IsLower node) S) (falling : NamesLower node S)
-    (places : ArePlaces node S table) (linked : AreLinked node table S links) where
-  -- the links are those of what the entry names
-  abbrev Linked : T → Links → Type 0
-  Linked e l = IsLinked table (node e).names l
+    (places : ArePlaces node S table) (linked : links ≡ links_of node table S) where
+  -- the place of a digest by the table
+  abbrev place : List ℕ → Option ℕ
+  place = number_at table
 
   -- a link for each
   one_each : length links ≡ length S
-  one_each = zip_length Linked S links linked
+  one_each = ap length linked ∙ length-map S (λ e. links_by place (node e).names)
 
   -- the links at a place
-  linked_at : (i : ℕ) (e : T) → slice_get S i ≡ Some e
-      → (l : Links) × (slice_get links i ≡ Some l) × IsLinked table (node e).names l
-  linked_at i e ie = zip_at Linked S links i e linked ie
-
-  -- the parents at a place are those of its links
-  parents_at : (i : ℕ) (l : Links) → slice_get links i ≡ Some l → parents_of links i ≡ l.parents
-  parents_at i l is = ap parents_in is
-
-  -- and the place is ragged where its links are
-  ragged_at : (i : ℕ) (l : Links) → slice_get links i ≡ Some l → ragged_of links i ≡ l.ragged
-  ragged_at i l is = ap ragged_in is
+  linked_at : (i : ℕ) (e : T) → slice_get S i ≡ Some e → slice_get links i ≡ Some (links_by place (node e).names)
+  linked_at i e ie =
+      let f : T → Links = λ e. links_by place (node e).names in
+      ap (λ ls. slice_get ls i) linked ∙ slice_get-map f S i ∙ ap (option_map f) ie
 
   -- a parent is the place of an entry that is named
   arrow_at : (i p : ℕ) (e : T) → slice_get S i ≡ Some e → Contains (parents_of links i) p
       → (f : T) × (slice_get S p ≡ Some f) × Names node e f
   arrow_at i p e ie c =
-      let (l, at_l, linked_l) = linked_at i e ie in
-      let (d, named, found) = (linked_l.parents p).0 (subst (λ ps. Contains ps p) (parents_at i l at_l) c) in
+      let (d, named, found) = place_named place (node e).names p
+      (subst (λ ps. Contains ps p) (ap parents_in (linked_at i e ie)) c) in
       let (f, at_p, same) = places.found d p found in
       (f, at_p, subst (λ d. Contains (node e).names d) (sym same) named)
 
@@ -191,14 +164,12 @@ module _ {T : Type 0} (node : T → Node) (S : List T) (table : List (List ℕ �
   arrow_from : (i p : ℕ) (e f : T) → slice_get S i ≡ Some e → slice_get S p ≡ Some f → Names node e f
       → Contains (parents_of links i) p
   arrow_from i p e f ie pf names =
-      let (l, at_l, linked_l) = linked_at i e ie in
-      let (n, found) = found_from (number_at table (node f).digest)
+      let (n, found) = found_from (place (node f).digest)
       (λ none. places.lacks (node f).digest p none (f, pf, refl)) in
       let (g, at_n, bears) = places.found (node f).digest n found in
       let same : n ≡ p = one_place node S n p g f single at_n pf bears in
-      let among = (linked_l.parents p).1
-      ((node f).digest, names, found ∙ ap (λ (k : ℕ). Some k) same) in
-      subst (λ ps. Contains ps p) (sym (parents_at i l at_l)) among
+      subst (λ ps. Contains ps p) (sym (ap parents_in (linked_at i e ie)))
+      (named_place place (node e).names (node f).digest p names (found ∙ ap (λ (k : ℕ). Some k) same))
 
   -- a parent has a lower stamp, and so a lower place
   descends : (x z : ℕ) → Contains (parents_of links x) z → z < x
@@ -227,7 +198,8 @@ module _ {T : Type 0} (node : T → Node) (S : List T) (table : List (List ℕ �
   -- the ragged ones are those that name a gap
   gaps_shown : (i : ℕ) (e : T) → slice_get S i ≡ Some e → (ragged_of links i ≡ false) ↔ NamesNoGap node S e
   gaps_shown i e ie =
-      let (l, at_l, linked_l) = linked_at i e ie in
+      let told : ragged_of links i ≡ list_any (λ d. is_none (place d)) (node e).names =
+      ap ragged_in (linked_at i e ie) in
       let are = (gaps_are_unique node S (gaps node S)).0 refl in
       let lacking : List ℕ → Bool = λ d. is_none (number_at table d) in (
         λ clean d named gap.
@@ -235,11 +207,11 @@ module _ {T : Type 0} (node : T → Node) (S : List T) (table : List (List ℕ �
             let (n, found) = found_from (number_at table d) (λ none.
             true≢false
             (sym (list_any_of lacking (node e).names d named (none_of (number_at table d) none))
-            ∙ sym linked_l.ragged ∙ sym (ragged_at i l at_l) ∙ clean)) in
+            ∙ sym told ∙ clean)) in
             let (f, at_n, bears) = places.found d n found in
             known.1 (f, member_at S n f at_n, bears),
         λ free.
-            ragged_at i l at_l ∙ linked_l.ragged
+            told
             ∙ false_from_ne_true (list_any lacking (node e).names) (λ t.
             let (d, named, test) = list_any_some lacking (node e).names t in
             let none = none_from (number_at table d) test in
@@ -248,10 +220,28 @@ module _ {T : Type 0} (node : T → Node) (S : List T) (table : List (List ℕ �
             ((e, member_at S i e ie, named), lacks_borne node S table d places none))),
       )
 
+  -- the table has a digest where the survivors have it
+  same_place : (d : List ℕ) → place d ≡ place_in node S d
+  same_place d = by (place d) refl
+    where
+      -- whether an entry has the digest
+      bears : T → Bool
+      bears e = bytes_eq (node e).digest d
+
+      by : (o : Option ℕ) → place d ≡ o → o ≡ place_in node S d
+      by None is =
+          sym (found_none bears S 0 (λ j e je t.
+          places.lacks d j is (e, je, (bytes_eq-Decides (node e).digest d).0 t)))
+      by (Some p) is =
+          let (f, at_p, same) = places.found d p is in
+          ap (λ n. Some n) (omega arith)
+          ∙ sym (found_first bears S 0 p f at_p ((bytes_eq-Decides (node f).digest d).1 same) (λ j e je t.
+          one_place node S j p e f single je at_p ((bytes_eq-Decides (node e).digest d).0 t ∙ sym same)))
+
   -- the links of all survivors are those of the names
   pub links_are_right : AreLinks node S links
   links_are_right = record {
-    one_each = one_each;
+    in_order = linked ∙ ap (λ at. map (λ e. links_by at (node e).names) S) (λ i d. same_place d i);
     arrows = record {
       descends = descends;
       inside = λ i p c. let (_, f, _, at_p, _) = arrow_cases i p c in (f, at_p);

@@ -1,7 +1,7 @@
 -- Places of entries, and entries of which no two have one digest.
-use Rattle.entry_graph.proofs.Imports.{◌≡◌, ℕ, zero, suc, Bool, true, false, cond, List, [], ◌∷◌, ◌++◌, length, map}
+use Rattle.entry_graph.proofs.Imports.{◌≡◌, ℕ, zero, suc, Bool, true, false, cond, List, [], ◌∷◌, ◌++◌, map}
 use Rattle.entry_graph.proofs.Imports.{get_or, refl, sym, ap, subst, ◌∙◌, Some, arith, ◌||◌, slice_get, IfOk, Result}
-use Rattle.entry_graph.proofs.Imports.{Ok, Err, All, AllZip, Contains, IsDistinct, filter, list_any, is_eq, bytes_eq}
+use Rattle.entry_graph.proofs.Imports.{Ok, Err, All, Contains, IsDistinct, filter, list_any, is_eq, bytes_eq}
 use Rattle.entry_graph.proofs.Imports.{Ordering, Less, Equal, Greater, true≢false, false_from_ne_true, map_push}
 use Rattle.entry_graph.proofs.Imports.{list_any-append, or-false, All-from_recursion, recursion_from_All}
 use Rattle.entry_graph.proofs.Imports.{All-contains, All-map, All-filter, Contains-get_or, IsDistinct-head}
@@ -25,31 +25,6 @@ pub if_ok_both : {A E : Type 0} (r : Result A E) {P Q R : A → Type 0} → IfOk
     → ((x : A) → P x → Q x → R x) → IfOk r R
 if_ok_both (Ok x) p q both = both x p q
 if_ok_both (Err e) p q both = tt
-
--- two lists side by side: one pair more, as many of each, and what is beside an element
-module _ {X Y : Type 0} (R : X → Y → Type 0) where
-  -- a related pair more at the end keeps all pairs related
-  pub zip_push : (xs : List X) (ys : List Y) (x : X) (y : Y) → AllZip R xs ys → R x y
-      → AllZip R (xs ++ x ∷ []) (ys ++ y ∷ [])
-  zip_push [] [] x y all here = (here, tt)
-  zip_push [] (z ∷ ys) x y all here = absurd all
-  zip_push (z ∷ xs) [] x y all here = absurd all
-  zip_push (z ∷ xs) (w ∷ ys) x y all here = (all.0, zip_push xs ys x y all.1 here)
-
-  -- lists that are related pair by pair are of one length
-  pub zip_length : (xs : List X) (ys : List Y) → AllZip R xs ys → length ys ≡ length xs
-  zip_length [] [] all = refl
-  zip_length [] (y ∷ ys) all = absurd all
-  zip_length (x ∷ xs) [] all = absurd all
-  zip_length (x ∷ xs) (y ∷ ys) all = ap (λ n. suc n) (zip_length xs ys all.1)
-
-  -- beside each element, at its place, is one that it is related to
-  pub zip_at : (xs : List X) (ys : List Y) (i : ℕ) (x : X) → AllZip R xs ys → slice_get xs i ≡ Some x
-      → (y : Y) × (slice_get ys i ≡ Some y) × R x y
-  zip_at [] ys i x all is = absurd (none-some x is)
-  zip_at (z ∷ xs) [] i x all is = absurd all
-  zip_at (z ∷ xs) (y ∷ ys) zero x all is = (y, refl, subst (λ w. R w y) (same_Some z x is) all.0)
-  zip_at (z ∷ xs) (y ∷ ys) (suc i) x all is = zip_at xs ys i x all.1 is
 
 module _ {T : Type 0} (node : T → Node) where
   -- the first has another digest than each later one

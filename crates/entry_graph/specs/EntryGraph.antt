@@ -1,7 +1,8 @@
 -- What an auditor works from: the survivors, what they name, and what is reported of them.
 use Rattle.std.specs.Prelude.{◌≡◌, ◌≢◌, ◌↔◌, ◌⊎◌, ℕ, ◌<◌, ◌≤◌, Bool, false, List, []}
-use Rattle.std.specs.Prelude.{Option, Some, None, length, slice_get}
-use Rattle.std.specs.List.{AllPairs, Contains}
+use Rattle.std.specs.Prelude.{Option, Some, None, is_none, length, map, slice_get}
+use Rattle.std.specs.List.{AllPairs, Contains, filter_map, list_any, position_from}
+use Rattle.std.specs.Str.{bytes_eq}
 use Rattle.std.specs.List.Sorted.{IsStrictlySortedBy}
 use Rattle.std.specs.Cmp.Lexicographic.{slice_cmp}
 use Rattle.std.specs.Ordering.{nat_cmp, ordering_then}
@@ -16,6 +17,14 @@ use Rattle.entry_order.specs.Settled.{IsGraphOf}
 pub record Links : Type 0 where
   pub parents : List ℕ
   pub ragged : Bool
+
+-- what these names link to, where each digest has its place or none: the places, in the order of the
+-- names, and whether some name has none
+abbrev pub links_by : (List ℕ → Option ℕ) → List (List ℕ) → Links
+links_by place names = record {
+  parents = filter_map place names;
+  ragged = list_any (λ d. is_none (place d)) names;
+}
 
 -- the survivors by their numbers, the links of each, the gaps, the strays, and the forks by maker
 -- and number
@@ -72,9 +81,14 @@ module _ {T : Type 0} (node : T → Node) where
     pub rises : IsStrictlySortedBy pair_cmp forks
     pub members : (m n : ℕ) → Contains forks (m, n) ↔ IsFork S m n
 
-  -- one place for each entry of S, by which its graph is that of the names (Auditorium, EVT 2007)
+  -- the place of the entry of S with this digest
+  abbrev pub place_in : List T → List ℕ → Option ℕ
+  place_in S d = position_from (λ e. bytes_eq (node e).digest d) 0 S
+
+  -- the links of each entry of S are those of its names, by which its graph is that of the names
+  -- (Auditorium, EVT 2007)
   pub record AreLinks (S : List T) (links : List Links) : Type 0 where
-    pub one_each : length links ≡ length S
+    pub in_order : links ≡ map (λ e. links_by (place_in S) (node e).names) S
     pub arrows : IsGraphOf node S (parents_of links) (ragged_of links)
 
   -- what holds of each graph: the survivors go by stamp and then digest, each is there once, the

@@ -1,8 +1,8 @@
 //! What each survivor names.
 ghost use Rattle.std.specs.Prelude.{◌≡◌, ◌<◌, ◌≤◌, ◌^◌, ℕ, IfOk, List, Some, length};
 ghost use Rattle.std.specs.List.{AllPairs};
-ghost use Rattle.entry_graph.specs.EntryGraph.{AreLinks, IsLower};
-ghost use Rattle.entry_graph.specs.inside.Tables.{ArePlaces, IsLinked, number_at};
+ghost use Rattle.entry_graph.specs.EntryGraph.{AreLinks, IsLower, links_by};
+ghost use Rattle.entry_graph.specs.inside.Tables.{ArePlaces, number_at};
 ghost use Rattle.entry_graph.specs.inside.Distinct.{HasNoDigestTwice, NamesLower};
 
 use crate::digest_table::DigestTable;
@@ -72,10 +72,10 @@ pub fn places_of<T: Knot>(alloc: Global, survivors: &[T]) -> Result<DigestTable,
     Ok(places)
 }
 
-/// What is linked by these names.
+/// What these names link to.
 fn links_at(alloc: Global, names: &[[u8; 32]], places: &DigestTable) -> Result<Links, AllocError>
     requires { (d : List ℕ) (p : ℕ) → number_at places.now d ≡ Some p → p < 2 ^ 32 }
-    ensures { IfOk result (IsLinked places.now names.now) }
+    ensures { IfOk result (λ links. links ≡ links_by (number_at places.now) names.now) }
 {
     let mut parents = Vec::new(alloc);
     let mut ragged = false;

@@ -65,12 +65,12 @@ pub use Rattle.log_files.specs.declared.found.Found.{Found}
 pub use Rattle.log_files.specs.declared.plain_log.End.{End}
 pub use Rattle.log_files.specs.declared.plain_log.End.TheVariants.{Clean, Torn}
 pub use Rattle.log_files.specs.declared.plain_log.LogFault.{LogFault}
-pub use Rattle.log_files.specs.declared.plain_log.PlainLog.{PlainLog}
+pub use Rattle.log_files.specs.Logs.{PlainLog}
 pub use Rattle.log_files.specs.declared.records.Progress.{Progress}
 pub use Rattle.log_files.specs.declared.records.Stage.{Stage}
 pub use Rattle.log_files.specs.declared.records.Stage.TheVariants.{Header, NoLog}
 pub use Rattle.log_files.specs.declared.sealed_log.Kept.{Kept}
-pub use Rattle.log_files.specs.declared.sealed_log.LogRead.{LogRead}
+pub use Rattle.log_files.specs.Logs.{LogRead}
 pub use Rattle.log_files.specs.inside.Fed.{IsReadOf, IsWithBreak}
 pub use Rattle.log_files.specs.inside.FileFaults.{log_fault_of}
 pub use Rattle.log_files.specs.inside.Found.{AddsReading, AreReadBy, AreSplit, IsFound, IsKnownBy}

@@ -22,6 +22,7 @@ use entry_order::Knot;
 use hall_outside::Store;
 use roster::Roster;
 use std::alloc::Global;
+use std::marker::Model;
 use ways_of_work::Alone;
 
 /// A record whose entry is valid.
@@ -74,6 +75,20 @@ pub struct LogRead {
     /// The place of the first kept record at which the kept ones stop being a legal history of the
     /// owner.
     pub broke: Option<u32>,
+}
+
+impl Model for LogRead {
+    ghost use Rattle.log_files.specs.Logs.{LogRead};
+
+    ghost Value = { LogRead };
+
+    ghost view = { λ log. record {
+      owner = log.owner;
+      kept = log.kept.items;
+      refused = log.refused.items;
+      end = log.end;
+      broke = log.broke;
+    } };
 }
 
 /// The log with the place at which its records break.
@@ -175,7 +190,7 @@ pub fn read_log_by<W: EntryWork, S: Store>(
     before: &[LogRead],
 ) -> Result<LogRead, LogFault>
     requires shared { W.may_share work.now }
-    requires before { All (λ log. AreValid roster.now.machines election.now log.kept.items) before.now }
+    requires before { All (λ log. AreValid roster.now.machines election.now log.kept) before.now }
     // The log is what each file says that is such as was read, and so is a refusal. The file is read
     // to its end, or to the first byte past the limit.
     ensures ok { IfOk result (λ log. OnReadFile S.Store name.now max_bytes
@@ -185,7 +200,7 @@ pub fn read_log_by<W: EntryWork, S: Store>(
 
     // So it may be among those that were read before.
     ensures valid { IfOk result (λ log.
-        AreValid roster.now.machines election.now log.kept.items) }
+        AreValid roster.now.machines election.now log.kept) }
 
     // Absent and TooLong come exactly when the store said so in this call, ReadFault only so.
     ensures absent { ComesExactly (S.answered store.old).absences (S.answered store.new).absences

@@ -1,11 +1,11 @@
 -- What tables of numbers by digest say of entries.
-use Rattle.std.specs.Prelude.{◌≡◌, ◌↔◌, ℕ, Bool, false, nat_le, List}
-use Rattle.std.specs.Prelude.{Option, Some, None, is_none, slice_get}
-use Rattle.std.specs.List.{AllZip, Contains, list_any}
+use Rattle.std.specs.Prelude.{◌≡◌, ℕ, Bool, false, ◌||◌, nat_le, List, [], ◌++◌, map, Option, Some, None, is_none}
+use Rattle.std.specs.Prelude.{slice_get}
+use Rattle.std.specs.List.{Contains, cons_option}
 use Rattle.std.specs.Map.{lookup}
 use Rattle.std.specs.Str.{bytes_eq}
 use Rattle.entry_order.specs.Node.{Node}
-use Rattle.entry_graph.specs.EntryGraph.{Links}
+use Rattle.entry_graph.specs.EntryGraph.{Links, links_by}
 
 -- what the table has at a digest
 abbrev pub number_at : List (List ℕ × ℕ) → List ℕ → Option ℕ
@@ -21,11 +21,12 @@ pub record IsTableOf (Belongs : List ℕ → ℕ → Type 0) (table : List (List
   pub found : (d : List ℕ) (n : ℕ) → number_at table d ≡ Some n → Belongs d n
   pub lacks : (d : List ℕ) (n : ℕ) → number_at table d ≡ None → ¬ (Belongs d n)
 
--- the links by these names: the numbers that the table has at them, and whether it lacks one
-pub record IsLinked (table : List (List ℕ × ℕ)) (names : List (List ℕ)) (links : Links) : Type 0 where
-  pub parents : (p : ℕ) → Contains links.parents p
-      ↔ ((d : List ℕ) × Contains names d × (number_at table d ≡ Some p))
-  pub ragged : links.ragged ≡ list_any (λ d. is_none (number_at table d)) names
+-- the links with those of one name more, which has this place or none
+abbrev pub with_next : Links → Option ℕ → Links
+with_next links place = record {
+  parents = links.parents ++ cons_option place [];
+  ragged = links.ragged || is_none place;
+}
 
 module _ {T : Type 0} (node : T → Node) where
   -- the stamps of the entries
@@ -36,6 +37,6 @@ module _ {T : Type 0} (node : T → Node) where
   abbrev pub ArePlaces : List T → List (List ℕ × ℕ) → Type 0
   ArePlaces es = IsTableOf (λ d n. (e : T) × (slice_get es n ≡ Some e) × ((node e).digest ≡ d))
 
-  -- each of the entries has its links
-  abbrev pub AreLinked : List (List ℕ × ℕ) → List T → List Links → Type 0
-  AreLinked table = AllZip (λ e links. IsLinked table (node e).names links)
+  -- the links of the entries by the table of places
+  abbrev pub links_of : List (List ℕ × ℕ) → List T → List Links
+  links_of table es = map (λ e. links_by (number_at table) (node e).names) es

@@ -1,6 +1,7 @@
-use Rattle.entry_graph.proofs.Imports.{rules, ◌≡◌, ◌+◌, ◌<◌, ◌++◌, ◌∷◌, [], ℕ, List, Some, None, true, length, get_or}
-use Rattle.entry_graph.proofs.Imports.{take, ap, sym, subst, Links, IsLinked, number_at}
-use Rattle.entry_graph.proofs.LinkFacts.{found_step, lacking_step}
+use Rattle.entry_graph.proofs.Imports.{rules, ◌≡◌, ◌<◌, ◌++◌, ◌∙◌, ◌∷◌, [], ℕ, List, Some, None, Option, true}
+use Rattle.entry_graph.proofs.Imports.{length, get_or, ap, sym, number_at, or-false, or_right}
+use Rattle.entry_graph.proofs.Imports.{append-nil, Links, refl, with_next}
+use Rattle.entry_graph.proofs.LinkFacts.{next_links}
 use Rattle.entry_graph.proofs.links.links_at.Goals as goal
 use Rattle.entry_graph.proofs.links.links_at.Goals.{in-Some+in_ok-push-in-Some, in-None}
 
@@ -8,26 +9,28 @@ use Rattle.entry_graph.proofs.links.links_at.Goals.{in-Some+in_ok-push-in-Some, 
 pub loop-name-preserved : goal.loop-name-preserved
 loop-name-preserved c =
     let names = c.args.names.now in
-    let table = c.args.places.now in
+    let place : List ℕ → Option ℕ = number_at c.args.places.now in
     let i = c.loop-name.name-index in
     let name : List ℕ = get_or names i [] in
     let within : i < length names = c.loop-name-test.true in
     let is : name ≡ get_or names i name = search rules in
+    let parents = c.loop-name.parents.items in
+    let before : Links = record { parents = parents; ragged = c.loop-name.ragged } in
+    let next = next_links place names i name before within is c.loop-name.invariant in
     elim c.match-get.branch [
       | in-Some+in_ok-push-in-Some w ↦
-          (let at : number_at table name ≡ Some w.in-Some.place = search rules in
-          let parents : c.match-get.parents.items ≡ c.loop-name.parents.items ++ w.in-Some.place ∷ [] = search rules in
-          let ragged : c.match-get.ragged ≡ c.loop-name.ragged = w.ragged-is in
-          subst (λ (l : Links). IsLinked table (take (i + 1) names) l)
-          (λ k. record { parents = sym parents k; ragged = sym ragged k })
-          (found_step table names i name c.loop-name.parents.items c.loop-name.ragged w.in-Some.place within is at
-          c.loop-name.invariant))
+          (let at : place name ≡ Some w.in-Some.place = search rules in
+          let pushed : c.match-get.parents.items ≡ parents ++ w.in-Some.place ∷ [] = search rules in
+          let same : before.ragged ≡ c.match-get.ragged = sym w.ragged-is in
+          (λ k. record { parents = pushed k; ragged = (sym same ∙ sym (or-false before.ragged)) k })
+          ∙ ap (with_next before) (sym at) ∙ next)
       | in-None w ↦
-          (let none : number_at table name ≡ None = search rules in
-          let parents : c.match-get.parents.items ≡ c.loop-name.parents.items = ap (λ v. v.items) w.parents-is in
+          (let none : place name ≡ None = search rules in
+          let same : c.match-get.parents.items ≡ parents = ap (λ v. v.items) w.parents-is in
           let ragged : c.match-get.ragged ≡ true = w.ragged-is in
-          subst (λ (l : Links). IsLinked table (take (i + 1) names) l)
-          (λ k. record { parents = sym parents k; ragged = sym ragged k })
-          (lacking_step table names i name c.loop-name.parents.items c.loop-name.ragged within is none
-          c.loop-name.invariant))
+          (λ k. record {
+            parents = (same ∙ sym (append-nil parents)) k;
+            ragged = (ragged ∙ sym (or_right before.ragged true refl)) k;
+          })
+          ∙ ap (with_next before) (sym none) ∙ next)
     ]
