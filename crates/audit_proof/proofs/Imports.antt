@@ -4,8 +4,6 @@ pub use Rattle.audit_proof.specs.Canonical.{IsCanonicalProof, IsCanonicalText, I
 pub use Rattle.audit_proof.specs.KnownBy.{before_by, before_on, is_whole_line, lists, own_line, three_by, whole_by}
 pub use Rattle.audit_proof.specs.Lines.{HasEachLine, IsBegun, IsLineOf, IsOnLine, IsProofOf, IsReached, LacksNoParent}
 pub use Rattle.audit_proof.specs.Lines.{Line, listed_in}
-pub use Rattle.audit_proof.specs.OneReading.{HaveSameArrows, SameArrowsGiveOneValue, SameArrowsHaveOneText}
-pub use Rattle.audit_proof.specs.OneReading.{TextsAreReadInOneWay}
 pub use Rattle.audit_proof.specs.ProofText.{form_line, head_text, line_text, line_words, proof_text, step_text}
 pub use Rattle.audit_proof.specs.ProofText.{step_word, survivors_line}
 pub use Rattle.audit_proof.specs.Reading.{ProofRead, TextLine, after_line, at_number, decimal_read, is_above}

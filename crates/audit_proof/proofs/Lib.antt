@@ -13,4 +13,3 @@ pub mod Walked
 pub mod Canonicals
 pub mod StepsRead
 pub mod LinesRead
-pub mod SameArrows

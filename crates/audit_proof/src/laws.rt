@@ -2,11 +2,7 @@
 //! body.
 ghost use Rattle.rule_language.specs.declared.row.Row.{Row as RowOf};
 ghost use Rattle.audit_proof.specs.Canonical.{OneTextIsCanonical};
-ghost use Rattle.audit_proof.specs.OneReading.{
-  SameArrowsGiveOneValue,
-  SameArrowsHaveOneText,
-  TextsAreReadInOneWay,
-};
+ghost use Rattle.audit_proof.specs.OneReading.{TextsAreReadInOneWay};
 ghost use Rattle.audit_proof.specs.Reads.{TextsOfProofsAreRead};
 ghost use Rattle.audit_proof.specs.Trust.{
   FullProofsSayAll,
@@ -37,12 +33,9 @@ pub fn texts_of_proofs_are_read()
     ensures { TextsOfProofsAreRead }
 {}
 
-/// Of a text there is one answer, also for another graph with the same arrows, which has the same
-/// canonical text. By a proof for both a rule has one value.
+/// Of a text there is one answer.
 pub fn proofs_are_read_in_one_way()
-    ensures read { TextsAreReadInOneWay }
-    ensures text { SameArrowsHaveOneText }
-    ensures value { SameArrowsGiveOneValue }
+    ensures { TextsAreReadInOneWay }
 {}
 
 /// What `prove` writes is accepted by `read_proof`, and by it a rule has the value that it has by

@@ -37,11 +37,10 @@ pub use Rattle.evidence.specs.Graphs.{GivesGraph, entries_of, entries_of_records
 pub use Rattle.evidence.specs.Logs.{GivesLogs}
 pub use Rattle.evidence.specs.NamedFiles.{AreAsRead, AreRead, FileRead, OnOneFile, OnRead}
 pub use Rattle.evidence.specs.OneAnswer.{EntriesGiveOneGraph, LogFilesGiveOneAnswer, RosterFilesGiveOneAnswer}
-pub use Rattle.evidence.specs.OneAnswer.{SameLogsKeepTheSameEntries}
 pub use Rattle.evidence.specs.Reading.{IsReadFrom, IsReadFromFile}
 pub use Rattle.evidence.specs.Refusal.{IsAbsent, IsFaultOf, Refusal, refusal_of, refused, too_long}
 pub use Rattle.evidence.specs.RosterFile.{GivesRoster}
-pub use Rattle.evidence.specs.Same.{Agree, SameGraph, SameLog, SameLogs}
+pub use Rattle.evidence.specs.Same.{Agree}
 pub use Rattle.evidence.specs.declared.fault.InputFault.{InputFault}
 pub use Rattle.evidence.specs.declared.roster_file.RosterRead.{RosterRead}
 pub use Rattle.hall_outside.proofs.ReadFiles.{found_file}
@@ -52,7 +51,7 @@ pub use Rattle.log_files.specs.Lines.{end_line, line, refused_lines}
 pub use Rattle.log_files.specs.LogFile.{IsSealedLogOf}
 pub use Rattle.log_files.specs.LogText.{EachGives, Gives, kept_of}
 pub use Rattle.log_files.specs.SealedLog.{IsReadSealed}
-pub use Rattle.log_files.specs.declared.sealed_log.LogRead.{LogRead}
+pub use Rattle.log_files.specs.Logs.{LogRead}
 pub use Rattle.precedence.specs.Graph.{Graph}
 pub use Rattle.roster.specs.declared.post.Post.{Post}
 pub use Rattle.rule_engine.proofs.Graphs.{same_answer}

@@ -77,7 +77,7 @@ kept_each machines election place (t ∷ trees) (Ok kept ∷ readings) (gives, r
 
 -- so are those that the log of a file keeps
 log_each : (machines : List Post) (election : List ℕ) (log : LogRead) (file : Option (List ℕ)) →
-    IsSealedLogOf machines election log file → Each machines (entries_of_records log.kept.items)
+    IsSealedLogOf machines election log file → Each machines (entries_of_records log.kept)
 log_each machines election log None is = absurd is
 log_each machines election log (Some bytes) is =
     let says = is.1.says in
@@ -93,7 +93,7 @@ logs_each machines election [] (file ∷ files) logs gives = absurd gives
 logs_each machines election (name ∷ names) [] logs gives = absurd gives
 logs_each machines election (name ∷ names) (file ∷ files) [] gives = absurd gives
 logs_each machines election (name ∷ names) (file ∷ files) (log ∷ logs) gives =
-    each_append machines (entries_of_records log.kept.items) (entries_of logs)
+    each_append machines (entries_of_records log.kept) (entries_of logs)
     (log_each machines election log file gives.0)
     (logs_each machines election names files logs gives.1)
 

@@ -1,9 +1,9 @@
 -- Steps one after another give one answer where each of them does.
-use Rattle.auditor.proofs.Imports.{◌≡◌, ◌∙◌, ℕ, List, [], ◌∷◌, inl, inr, sym, subst, arith, Option, Some, None, Result}
+use Rattle.auditor.proofs.Imports.{◌≡◌, ◌∙◌, ℕ, List, [], ◌∷◌, inl, inr, ap, sym, subst, arith, Option, Some, None, Result}
 use Rattle.auditor.proofs.Imports.{Ok, Err, LogRead, SealedEntry, EntryGraph, RuleFault, At, Reads, RuleTree}
-use Rattle.auditor.proofs.Imports.{standard_rules, RosterRead, Refusal, GivesRoster, GivesLogs, entries_of, GivesGraph}
-use Rattle.auditor.proofs.Imports.{Agree, SameLogs, SameGraph, RosterFilesGiveOneAnswer, LogFilesGiveOneAnswer}
-use Rattle.auditor.proofs.Imports.{SameLogsKeepTheSameEntries, EntriesGiveOneGraph, RuleSource, standard, in_file}
+use Rattle.auditor.proofs.Imports.{standard_rules, RosterRead, Refusal, GivesRoster, GivesLogs, GivesGraph}
+use Rattle.auditor.proofs.Imports.{Agree, RosterFilesGiveOneAnswer, LogFilesGiveOneAnswer}
+use Rattle.auditor.proofs.Imports.{EntriesGiveOneGraph, RuleSource, standard, in_file}
 use Rattle.auditor.proofs.Imports.{GivesRules, AndThen, FileThen, RulesThen}
 
 -- what is given is one answer, up to what is the same
@@ -47,9 +47,9 @@ RulesAreReadInOneWay =
     answer ≡ other
 
 -- so a file of rules gives one answer
-pub one_rules : RulesAreReadInOneWay → (name : List ℕ) (file : Option (List ℕ)) →
-    IsOne (λ x y. x ≡ y) (GivesRules name file)
-one_rules one name None a b x y = agree_equal a b (x ∙ sym y)
+pub one_rules : RulesAreReadInOneWay → (name : List ℕ) (file : Option (List ℕ))
+    (a b : Result (List RuleTree) Refusal) → GivesRules name file a → GivesRules name file b → a ≡ b
+one_rules one name None a b x y = x ∙ sym y
 one_rules one name (Some bytes) (Ok rules) (Ok others) (_, read) (_, also) =
     let same : Ok rules ≡ Ok others = one bytes (Ok rules) (Ok others) read also in cc
 one_rules one name (Some bytes) (Ok rules) (Err s) (fits, _) (inl (long, _)) = absurd (omega (arith, fits, long))
@@ -58,7 +58,7 @@ one_rules one name (Some bytes) (Ok rules) (Err s) (_, read) (inr (fits, (at, wh
 one_rules one name (Some bytes) (Err r) (Ok others) (inl (long, _)) (fits, _) = absurd (omega (arith, long, fits))
 one_rules one name (Some bytes) (Err r) (Ok others) (inr (fits, (at, why, first, e))) (_, read) =
     let same : Ok others ≡ Err (At at why) = one bytes (Ok others) (Err (At at why)) read first in cc
-one_rules one name (Some bytes) (Err r) (Err s) (inl (_, is)) (inl (_, also)) = is ∙ sym also
+one_rules one name (Some bytes) (Err r) (Err s) (inl (_, is)) (inl (_, also)) = ap Err (is ∙ sym also)
 one_rules one name (Some bytes) (Err r) (Err s) (inl (long, _)) (inr (fits, _)) = absurd (omega (arith, long, fits))
 one_rules one name (Some bytes) (Err r) (Err s) (inr (fits, _)) (inl (long, _)) = absurd (omega (arith, fits, long))
 one_rules one name (Some bytes) (Err r) (Err s) (inr (_, (at, why, first, e))) (inr (_, (at', why', first', e'))) =
@@ -66,19 +66,23 @@ one_rules one name (Some bytes) (Err r) (Err s) (inr (_, (at, why, first, e))) (
     cc
 
 module _ {B : Type 0} (Same : B → B → Type 0) where
+  -- a step with one answer and the next one give one answer
+  pub first_then_one : {A : Type 0} (First : Result A Refusal → Type 0) (Next : A → Result B Refusal → Type 0) →
+      ((a b : Result A Refusal) → First a → First b → a ≡ b) →
+      ((found : A) → First (Ok found) → IsOne Same (Next found)) → IsOne Same (AndThen First Next)
+  first_then_one First Next first next =
+      steps_agree First First Next Next (λ x y. x ≡ y) Same (λ a b x y. agree_equal a b (first a b x y))
+      (λ f g is also same a b left right. next f is a b left (subst (λ found. Next found b) (sym same) right))
+
   -- a step on the first file and the next one give one answer
   pub file_then_one : {A : Type 0} (First : Option (List ℕ) → Result A Refusal → Type 0)
       (Next : A → List (Option (List ℕ)) → Result B Refusal → Type 0) →
-      ((file : Option (List ℕ)) → IsOne (λ x y. x ≡ y) (First file)) →
-      ((x : A) (files : List (Option (List ℕ))) → IsOne Same (Next x files)) → (files : List (Option (List ℕ))) →
-      IsOne Same (FileThen First Next files)
+      ((file : Option (List ℕ)) (a b : Result A Refusal) → First file a → First file b → a ≡ b) →
+      ((found : A) (files : List (Option (List ℕ))) → IsOne Same (Next found files)) →
+      (files : List (Option (List ℕ))) → IsOne Same (FileThen First Next files)
   file_then_one First Next first next [] p q x y = absurd x
   file_then_one First Next first next (file ∷ files) p q x y =
-      steps_agree (First file) (First file) (λ found. Next found files) (λ found. Next found files) (λ x y. x ≡ y) Same
-      (first file)
-      (λ f g is also same a b left right. next f files a b left
-      (subst (λ found. Next found files b) (sym same) right))
-      p q x y
+      first_then_one (First file) (λ found. Next found files) (first file) (λ found is. next found files) p q x y
 
   -- the rules and the next step give one answer
   pub rules_then_one : RulesAreReadInOneWay → (source : RuleSource)
@@ -95,11 +99,9 @@ pub record Ones : Type 0 where
   pub rosters : RosterFilesGiveOneAnswer
   -- a text of rules is read in one way
   pub readings : RulesAreReadInOneWay
-  -- the files of logs give logs that say the same, or one refusal
+  -- the files of logs give one list of logs, or one refusal
   pub logs : LogFilesGiveOneAnswer
-  -- logs that say the same keep the same entries
-  pub entries : SameLogsKeepTheSameEntries
-  -- given entries have graphs that say the same, or one refusal
+  -- given entries have one graph, or one refusal
   pub graphs : EntriesGiveOneGraph
 
 module _ (ones : Ones) {B : Type 0} (Same : B → B → Type 0) where
@@ -107,30 +109,18 @@ module _ (ones : Ones) {B : Type 0} (Same : B → B → Type 0) where
   pub roster_then_one : (roster : List ℕ) (Next : RosterRead → List (Option (List ℕ)) → Result B Refusal → Type 0) →
       ((read : RosterRead) (files : List (Option (List ℕ))) → IsOne Same (Next read files)) →
       (files : List (Option (List ℕ))) → IsOne Same (FileThen (GivesRoster roster) Next files)
-  roster_then_one roster Next next =
-      file_then_one Same (GivesRoster roster) Next
-      (λ file a b x y. agree_equal a b (ones.rosters roster file a b x y)) next
+  roster_then_one roster Next next = file_then_one Same (GivesRoster roster) Next (ones.rosters roster) next
 
-  -- logs and the next step give one answer where logs that say the same give it
+  -- logs and the next step give one answer
   pub logs_then_one : (read : RosterRead) (names : List (List ℕ)) (files : List (Option (List ℕ)))
-      (Next : List LogRead → Result B Refusal → Type 0) →
-      ((logs others : List LogRead) → SameLogs logs others → (p q : Result B Refusal) → Next logs p → Next others q →
-      Agree Same p q) →
+      (Next : List LogRead → Result B Refusal → Type 0) → ((logs : List LogRead) → IsOne Same (Next logs)) →
       IsOne Same (AndThen (GivesLogs read.roster.machines read.election names files) Next)
   logs_then_one read names files Next next =
-      let Gives = GivesLogs read.roster.machines read.election names files in
-      steps_agree Gives Gives Next Next SameLogs Same (ones.logs read.roster.machines read.election names files)
-      (λ logs others is also. next logs others)
+      first_then_one Same (GivesLogs read.roster.machines read.election names files) Next
+      (ones.logs read.roster.machines read.election names files) (λ logs is. next logs)
 
-  -- logs that say the same give graphs that do, so one answer where these give it
-  pub graphs_then_agree : (logs others : List LogRead) → SameLogs logs others →
-      (Next Later : EntryGraph SealedEntry → Result B Refusal → Type 0) →
-      ((graph other : EntryGraph SealedEntry) → GivesGraph (entries_of logs) (Ok graph) →
-      GivesGraph (entries_of logs) (Ok other) → SameGraph graph other → (p q : Result B Refusal) → Next graph p →
-      Later other q → Agree Same p q) →
-      (p q : Result B Refusal) → AndThen (GivesGraph (entries_of logs)) Next p →
-      AndThen (GivesGraph (entries_of others)) Later q → Agree Same p q
-  graphs_then_agree logs others same Next Later next p q x y =
-      let Gives = GivesGraph (entries_of logs) in
-      steps_agree Gives Gives Next Later SameGraph Same (ones.graphs (entries_of logs)) next p q x
-      (subst (λ given. AndThen (GivesGraph given) Later q) (sym (ones.entries logs others same)) y)
+  -- entries, by their graph, and the next step give one answer
+  pub graph_then_one : (given : List SealedEntry) (Next : EntryGraph SealedEntry → Result B Refusal → Type 0) →
+      ((graph : EntryGraph SealedEntry) → GivesGraph given (Ok graph) → IsOne Same (Next graph)) →
+      IsOne Same (AndThen (GivesGraph given) Next)
+  graph_then_one given Next = first_then_one Same (GivesGraph given) Next (ones.graphs given)

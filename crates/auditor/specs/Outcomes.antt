@@ -3,7 +3,7 @@ use Rattle.std.specs.Prelude.{ℕ, Bool, true, false, not, ◌||◌, nat_lt, Lis
 use Rattle.std.specs.List.{list_any}
 use Rattle.log_files.specs.declared.plain_log.End.{End}
 use Rattle.log_files.specs.declared.plain_log.End.TheVariants.{Clean, Torn, Malformed}
-use Rattle.log_files.specs.declared.sealed_log.LogRead.{LogRead}
+use Rattle.log_files.specs.Logs.{LogRead}
 use Rattle.entry_graph.specs.EntryGraph.{EntryGraph}
 use Rattle.rule_engine.specs.declared.verdict.Verdict.{Verdict}
 use Rattle.rule_engine.specs.declared.verdict.Verdict.TheVariants as verdict
@@ -30,7 +30,7 @@ is_clean (Malformed at why) = false
 
 -- whether a log has a refused record, an end that isn't clean, or a break
 abbrev pub log_has_finding : LogRead → Bool
-log_has_finding log = has_some log.refused.items || (not (is_clean log.end) || is_some log.broke)
+log_has_finding log = has_some log.refused || (not (is_clean log.end) || is_some log.broke)
 
 -- whether there is a stray, a fork or a gap
 abbrev pub graph_has_finding : {T : Type 0} → EntryGraph T → Bool

@@ -1,7 +1,7 @@
 -- What an audit reports.
 use Rattle.std.specs.Prelude.{◌≡◌, ℕ, List, length, map, Ok}
 use Rattle.roster.specs.declared.post.Post.{Post}
-use Rattle.log_files.specs.declared.sealed_log.LogRead.{LogRead}
+use Rattle.log_files.specs.Logs.{LogRead}
 use Rattle.entry_format.specs.SealedEntry.{SealedEntry}
 use Rattle.entry_graph.specs.EntryGraph.{EntryGraph}
 use Rattle.rule_language.specs.declared.formula.Rule.{Rule}

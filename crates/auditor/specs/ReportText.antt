@@ -5,7 +5,7 @@ use Rattle.std.specs.Fmt.{decimal}
 use Rattle.hex.specs.Hex.{encode_lower}
 use Rattle.log_files.specs.Lines.{line, refused_lines, end_line, gap_lines}
 use Rattle.roster.specs.declared.post.Post.{Post}
-use Rattle.log_files.specs.declared.sealed_log.LogRead.{LogRead}
+use Rattle.log_files.specs.Logs.{LogRead}
 use Rattle.entry_format.specs.SealedEntry.{SealedEntry}
 use Rattle.entry_graph.specs.EntryGraph.{EntryGraph}
 use Rattle.rule_language.specs.Trees.{RuleTree}
@@ -22,7 +22,7 @@ maker_name machines maker = slice_index_or (map (λ (post : Post). post.name) ma
 abbrev pub log_head_line : List ℕ → LogRead → List ℕ
 log_head_line file log =
     line (codes "log " ++ file ++ codes " owner " ++ decimal log.owner ++ codes " kept "
-    ++ decimal (length log.kept.items) ++ codes " refused " ++ decimal (length log.refused.items))
+    ++ decimal (length log.kept) ++ codes " refused " ++ decimal (length log.refused))
 
 -- a line where the kept records stop being a legal history of the owner
 abbrev pub break_line : List ℕ → Option ℕ → List ℕ
@@ -32,7 +32,7 @@ break_line file (Some place) = line (codes "break " ++ file ++ codes " " ++ deci
 -- all lines of a log
 abbrev pub log_lines : List ℕ × LogRead → List ℕ
 log_lines named =
-    log_head_line named.0 named.1 ++ refused_lines named.0 named.1.refused.items ++ end_line named.0 named.1.end
+    log_head_line named.0 named.1 ++ refused_lines named.0 named.1.refused ++ end_line named.0 named.1.end
     ++ break_line named.0 named.1.broke
 
 -- how many survivors there are

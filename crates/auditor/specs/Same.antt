@@ -1,7 +1,6 @@
 -- How far two reports for the same files agree.
 use Rattle.std.specs.Prelude.{◌≡◌}
 use Rattle.std.specs.List.{AllZip}
-use Rattle.evidence.specs.Same.{SameGraph}
 use Rattle.rule_engine.specs.declared.verdict.Verdict.{Verdict}
 use Rattle.rule_engine.specs.declared.verdict.Verdict.TheVariants.{Kept, Broken, Unsettled}
 use Rattle.auditor.specs.Report.{AuditReport}
@@ -15,9 +14,9 @@ SameVerdict (Broken places) (Broken others) = places.items ≡ others.items
 SameVerdict Unsettled Unsettled = Unit {0}
 SameVerdict verdict other = ⊥
 
--- two reports have one text, come to the same, and are of graphs and of verdicts that say the same
+-- two reports have one text, come to the same, and are of one graph and of verdicts that say the same
 pub record SameReport (report other : AuditReport) : Type 0 where
   pub text : report_text report ≡ report_text other
   pub outcome : outcome_of report ≡ outcome_of other
-  pub graph : SameGraph report.graph other.graph
+  pub graph : report.graph ≡ other.graph
   pub verdicts : AllZip SameVerdict report.verdicts other.verdicts

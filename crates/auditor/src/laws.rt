@@ -3,10 +3,7 @@
 ghost use Rattle.auditor.specs.OneReport.{FilesGiveOneReport};
 ghost use Rattle.auditor.specs.PlainRules.{PlainRules};
 
-use evidence::{
-    entries_give_one_graph, log_files_give_one_answer, roster_files_give_one_answer,
-    same_logs_keep_the_same_entries,
-};
+use evidence::{entries_give_one_graph, log_files_give_one_answer, roster_files_give_one_answer};
 use rule_language::one_reading_is_right;
 
 /// Files give at most one answer: a report with one text, or one refusal.
@@ -16,7 +13,6 @@ pub fn files_give_one_report()
     roster_files_give_one_answer();
     one_reading_is_right();
     log_files_give_one_answer();
-    same_logs_keep_the_same_entries();
     entries_give_one_graph();
 }
 

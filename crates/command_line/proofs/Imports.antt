@@ -30,6 +30,7 @@ pub use Rattle.command_line.specs.Reports.{IsCarriedOut}
 pub use Rattle.command_line.specs.Lines.{Answer, OrRefused, refusal_answer}
 pub use Rattle.command_line.specs.declared.status.Status.{Status}
 pub use Rattle.evidence.specs.Refusal.{Refusal, absent, refused}
+pub use Rattle.auditor.proofs.OneStep.{agree_equal}
 pub use Rattle.evidence.specs.Same.{Agree}
 pub use Rattle.std.proofs.Common.{List, ap, inl, inr, subst, sym, ℕ, ◌∙◌, ◌≡◌}
 pub use Rattle.std.specs.Prelude.{Err, Ok, Result, ⊤}

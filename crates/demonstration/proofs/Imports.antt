@@ -30,7 +30,7 @@ pub use Rattle.honest_places.specs.WhatIsLeft.{IsLeftOf, end_of}
 pub use Rattle.log_files.specs.LogFile.{IsSealedLogOf}
 pub use Rattle.log_files.specs.LogText.{HasHeader, header_tree}
 pub use Rattle.log_files.specs.Written.{log_text, record_text}
-pub use Rattle.log_files.specs.declared.sealed_log.LogRead.{LogRead}
+pub use Rattle.log_files.specs.Logs.{LogRead}
 pub use Rattle.polling_world.proofs.Rosters.{roster_has_text}
 pub use Rattle.polling_world.specs.Keys.{roster_of}
 pub use Rattle.polling_world.specs.Machines.{MachineState}

@@ -94,9 +94,9 @@ same_shown sent report other a b same p q =
     let alike = same.verdicts in
     ap (λ n. made_of n a.survivors a.gaps a.kept a.broken a.unsettled a.outcome) (p.entries ∙ sym q.entries)
     ∙ ap (λ n. made_of b.entries n a.gaps a.kept a.broken a.unsettled a.outcome)
-    (p.survivors ∙ ap length same.graph.survivors ∙ sym q.survivors)
+    (p.survivors ∙ ap (λ g. length g.survivors) same.graph ∙ sym q.survivors)
     ∙ ap (λ n. made_of b.entries b.survivors n a.kept a.broken a.unsettled a.outcome)
-    (p.gaps ∙ ap length same.graph.gaps ∙ sym q.gaps)
+    (p.gaps ∙ ap (λ g. length g.gaps) same.graph ∙ sym q.gaps)
     ∙ ap (λ n. made_of b.entries b.survivors b.gaps n a.broken a.unsettled a.outcome)
     (p.kept ∙ same_count is_kept (λ v w e. (one_count v w e).kept) vs ws alike ∙ sym q.kept)
     ∙ ap (λ n. made_of b.entries b.survivors b.gaps b.kept n a.unsettled a.outcome)

@@ -19,7 +19,7 @@ pub use Rattle.entry_format.specs.SealedEntry.{SealedEntry}
 pub use Rattle.entry_format.specs.declared.plain.EntryFault.{EntryFault}
 pub use Rattle.entry_graph.specs.EntryGraph.{IsLower}
 pub use Rattle.log_files.specs.declared.plain_log.End.{End}
-pub use Rattle.log_files.specs.declared.sealed_log.LogRead.{LogRead}
+pub use Rattle.log_files.specs.Logs.{LogRead}
 pub use Rattle.std.proofs.Common.{Bool, List, [], ap, arith, drop, get_or, length, map, refl, suc, take, true, zero, ℕ}
 pub use Rattle.std.proofs.Common.{◌++◌, ◌+◌, ◌-◌, ◌<◌, ◌^◌, ◌∷◌, ◌≡◌, ◌≤◌, ◌⊎◌}
 pub use Rattle.std.proofs.lemmas.Grind.{flat_map-append}

@@ -89,7 +89,7 @@ log_found : (logs : List LogRead) (machines column place : ℕ) (log : Option Lo
 log_found logs machines column place None = record { are = refl }
 log_found logs machines column place (Some log) =
     let edge = edge_of (take place logs) machines column log in
-    let records = log.refused.items in
+    let records = log.refused in
     let marks : Stand (refused_marks records place edge) (map (λ (item : ℕ × EntryFault). refused place item.0) records)
     = ones records (λ i x is. record { are = grind arith }) in
     let break : Stand (option_to_list (break_of edge (length records) place log.broke)) (break_found place log.broke)

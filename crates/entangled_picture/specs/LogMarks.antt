@@ -5,7 +5,7 @@ use Rattle.std.specs.List.{flat_map, range_with_len}
 use Rattle.entry_format.specs.declared.plain.EntryFault.{EntryFault}
 use Rattle.log_files.specs.declared.plain_log.End.{End}
 use Rattle.log_files.specs.declared.plain_log.End.TheVariants.{Clean, Torn, Malformed}
-use Rattle.log_files.specs.declared.sealed_log.LogRead.{LogRead}
+use Rattle.log_files.specs.Logs.{LogRead}
 use Rattle.entangled_picture.specs.declared.shape.Spot.{Spot}
 use Rattle.entangled_picture.specs.declared.shape.Shape.{Shape}
 use Rattle.entangled_picture.specs.declared.shape.Shape.TheVariants as shape
@@ -50,9 +50,9 @@ break_of at order log (Some place) = Some (shape.Break at order log place)
 abbrev pub marks_of_log : LogRead → ℕ → Spot → List Shape
 marks_of_log log place edge =
     shape.Log edge place ∷ []
-    ++ refused_marks log.refused.items place edge
-    ++ option_to_list (break_of edge (length log.refused.items) place log.broke)
-    ++ option_to_list (ending_of edge (length log.refused.items + 1) place log.end)
+    ++ refused_marks log.refused place edge
+    ++ option_to_list (break_of edge (length log.refused) place log.broke)
+    ++ option_to_list (ending_of edge (length log.refused + 1) place log.end)
 
 -- the spot after which a log's marks are: in the last column, below the logs that have the same
 -- lane

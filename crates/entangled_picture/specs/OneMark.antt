@@ -5,7 +5,7 @@ use Rattle.entry_format.specs.SealedEntry.{SealedEntry}
 use Rattle.entry_format.specs.declared.plain.EntryFault.{EntryFault}
 use Rattle.log_files.specs.declared.plain_log.End.{End}
 use Rattle.log_files.specs.declared.plain_log.End.TheVariants.{Clean, Torn, Malformed}
-use Rattle.log_files.specs.declared.sealed_log.LogRead.{LogRead}
+use Rattle.log_files.specs.Logs.{LogRead}
 use Rattle.auditor.specs.Report.{AuditReport}
 use Rattle.entangled_picture.specs.declared.shape.Shape.{Shape}
 use Rattle.entangled_picture.specs.declared.shape.Shape.TheVariants.{Lane, Log, Arrow, Bar, Light, Entry, Gap, Loss}
@@ -54,7 +54,7 @@ end_found place (Malformed offset why) = damaged place ∷ []
 abbrev pub found_in : ℕ → Option LogRead → List Finding
 found_in place None = []
 found_in place (Some log) =
-    map (λ (item : ℕ × EntryFault). refused place item.0) log.refused.items ++ break_found place log.broke
+    map (λ (item : ℕ × EntryFault). refused place item.0) log.refused ++ break_found place log.broke
     ++ end_found place log.end
 
 -- what a report finds, each once: what is found at its logs, its gaps and its strays, up to the number

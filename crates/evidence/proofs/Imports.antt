@@ -3,8 +3,8 @@ pub use Rattle.entry_format.specs.Nodes.{node_of_sealed}
 pub use Rattle.entry_format.specs.SealedEntry.{SealedEntry}
 pub use Rattle.entry_graph.proofs.DistinctFacts.{distinct_again, distinct_new}
 pub use Rattle.entry_graph.specs.Answers.{IsGraphAnswer}
-pub use Rattle.entry_graph.specs.EntryGraph.{AreForks, EntryGraph, IsGraphOfGiven, IsLower, pair_cmp, parents_of}
-pub use Rattle.entry_graph.specs.EntryGraph.{ragged_of}
+pub use Rattle.entry_graph.specs.EntryGraph.{AreForks, EntryGraph, IsGraphOfGiven, IsLower, Links, links_by, pair_cmp}
+pub use Rattle.entry_graph.specs.EntryGraph.{parents_of, place_in, ragged_of}
 pub use Rattle.entry_graph.specs.Given.{HasNoCollision, IsCollision, distinct}
 pub use Rattle.entry_graph.specs.declared.fault.GraphFault.{GraphFault}
 pub use Rattle.entry_graph.specs.declared.fault.GraphFault.TheVariants.{Collision, TooMany}
@@ -29,7 +29,6 @@ pub use Rattle.evidence.specs.Reading.{IsReadFrom, IsReadFromFile}
 pub use Rattle.evidence.specs.Refusal.{IsAbsent, IsFaultOf, IsFileFault, Refusal, absent, refusal_of, refused}
 pub use Rattle.evidence.specs.Refusal.{too_long}
 pub use Rattle.evidence.specs.RosterFile.{GivesRoster, max_roster}
-pub use Rattle.evidence.specs.Same.{Agree, SameGraph, SameLog, SameLogs}
 pub use Rattle.evidence.specs.declared.fault.InputFault.{InputFault}
 pub use Rattle.evidence.specs.declared.fault.InputFault.TheVariants.{Absent, ReadFault, Refused}
 pub use Rattle.evidence.specs.declared.roster_file.RosterRead.{RosterRead}
@@ -46,7 +45,7 @@ pub use Rattle.log_files.specs.LogText.{HasHeader}
 pub use Rattle.log_files.specs.SealedLog.{AreValid, SaysSealed}
 pub use Rattle.log_files.specs.declared.plain_log.LogFault.{LogFault}
 pub use Rattle.log_files.specs.declared.sealed_log.Kept.{Kept}
-pub use Rattle.log_files.specs.declared.sealed_log.LogRead.{LogRead}
+pub use Rattle.log_files.specs.Logs.{LogRead}
 pub use Rattle.roster.specs.declared.post.Post.{Post}
 pub use Rattle.std.proofs.Common.{Bool, Global, List, String, [], ap, append-nil, append_assoc, arith, drop, false}
 pub use Rattle.std.proofs.Common.{get_or, inl, inr, map, not, refl, rules, string_bytes, subst, suc, sym, take, zero}

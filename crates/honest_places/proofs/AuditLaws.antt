@@ -52,7 +52,7 @@ use Rattle.log_files.specs.Lines.{refused_lines}
 use Rattle.log_files.specs.SealedLog.{SaysSealed}
 use Rattle.log_files.specs.declared.plain_log.End.{End}
 use Rattle.log_files.specs.declared.plain_log.End.TheVariants.{Clean, Malformed}
-use Rattle.log_files.specs.declared.sealed_log.LogRead.{LogRead}
+use Rattle.log_files.specs.Logs.{LogRead}
 use Rattle.polling_world.specs.Keys.{roster_of}
 use Rattle.polling_world.specs.Making.{election_of}
 use Rattle.report_exactness.proofs.Reports.{reports_are_exact}

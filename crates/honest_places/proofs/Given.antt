@@ -33,7 +33,7 @@ use Rattle.honest_places.specs.Agreement.{HaveAll, IsAllGiven, IsAllTold, IsHone
 use Rattle.honest_places.specs.HonestWorld.{IsHonestWorld}
 use Rattle.honest_places.specs.WhatIsLeft.{AreReadIn, IsReadIn}
 use Rattle.log_files.proofs.KeptRecords.{held_kept}
-use Rattle.log_files.specs.declared.sealed_log.LogRead.{LogRead}
+use Rattle.log_files.specs.Logs.{LogRead}
 use Rattle.polling_world.specs.Making.{election_of}
 use Rattle.roster.specs.declared.post.Post.{Post}
 use Rattle.std.proofs.Common.{Bool, Contains, Err, List, Ok, [], ap, arith, bytes_eq, cond, false, filter, length, not}
@@ -85,10 +85,10 @@ were_sent : (w : World SealedEntry) → IsOrderly node_of_sealed w → (logs : L
     (e : SealedEntry) → Contains (entries_of logs) e → Contains (sent_in w) e
 were_sent w orderly logs all e c =
     let (log, there, inside) =
-    Contains-flat_map_cases (λ (log : LogRead). entries_of_records log.kept.items) logs e c in
+    Contains-flat_map_cases (λ (log : LogRead). entries_of_records log.kept) logs e c in
     let is = All-contains (IsReadIn w) logs log all there in
-    let same : entries_of_records log.kept.items ≡ held (take is.read.count (history w is.machine)) =
-    sym (held_kept log.kept.items) ∙ ap held is.read.kept in
+    let same : entries_of_records log.kept ≡ held (take is.read.count (history w is.machine)) =
+    sym (held_kept log.kept) ∙ ap held is.read.kept in
     let (x, among, of) = Contains-map_cases entry_of (take is.read.count (history w is.machine)) e
     (subst (λ (es : List SealedEntry). Contains es e) same inside) in
     subst (Contains (sent_in w)) of
@@ -192,8 +192,8 @@ all_given w logs all e c =
     let (m, there) = sent_in_cases w e c in
     let (before, later, is) = member_split (history w m) (Sent e) there in
     let (log, member, read) = all m (in_world w m before (Sent e) later is) in
-    Contains-flat_map (λ (l : LogRead). entries_of_records l.kept.items) logs log e member
-    (subst (λ (es : List SealedEntry). Contains es e) (ap held (sym read.kept) ∙ held_kept log.kept.items)
+    Contains-flat_map (λ (l : LogRead). entries_of_records l.kept) logs log e member
+    (subst (λ (es : List SealedEntry). Contains es e) (ap held (sym read.kept) ∙ held_kept log.kept)
     (Contains-map entry_of (history w m) (Sent e) there))
 
 -- entries of one text are one, so where nothing that was sent collides, different entries have

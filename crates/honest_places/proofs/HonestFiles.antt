@@ -21,7 +21,7 @@ use Rattle.honest_places.specs.HonestWorld.{IsHonestWorld}
 use Rattle.honest_places.specs.LeftFiles.{AreAllFilesOf, AreFilesOf}
 use Rattle.honest_places.specs.OfScript.{IsOfScript}
 use Rattle.honest_places.specs.WhatIsLeft.{AreReadIn}
-use Rattle.log_files.specs.declared.sealed_log.LogRead.{LogRead}
+use Rattle.log_files.specs.Logs.{LogRead}
 use Rattle.polling_world.specs.Making.{election_of}
 use Rattle.roster.specs.RosterText.{roster_tree}
 use Rattle.roster.specs.declared.post.Post.{Post}

@@ -14,7 +14,7 @@ use Rattle.honest_places.specs.ReportsKept.{EndClean}
 use Rattle.honest_places.specs.WhatIsLeft.{AreReadIn, IsReadIn}
 use Rattle.log_files.specs.declared.plain_log.End.{End}
 use Rattle.log_files.specs.declared.plain_log.End.TheVariants.{Clean}
-use Rattle.log_files.specs.declared.sealed_log.LogRead.{LogRead}
+use Rattle.log_files.specs.Logs.{LogRead}
 use Rattle.rule_engine.specs.Verdicts.{IsJudged}
 use Rattle.rule_engine.specs.declared.verdict.Verdict.{Verdict}
 use Rattle.rule_language.specs.Standard.{standard_rules}
@@ -111,7 +111,7 @@ module _ (report : AuditReport) (kept : report.verdicts ≡ map (λ (rule : Rule
           let logs = (or_parts (list_any log_has_finding report.logs) (graph_has_finding report.graph) is).0 in
           absurd (torn (λ log inside.
           let each = none_passes log_has_finding report.logs logs log inside in
-          let rest = (or_parts (has_some log.refused.items) (not (is_clean log.end) || is_some log.broke) each).1 in
+          let rest = (or_parts (has_some log.refused) (not (is_clean log.end) || is_some log.broke) each).1 in
           end_clean log.end (or_parts (not (is_clean log.end)) (is_some log.broke) rest).0))
 
   -- where each log of an honest place ends clean, and there is no gap, nothing is found

@@ -13,7 +13,7 @@ use Rattle.honest_places.specs.LeftFiles.{AreAllFilesOf, AreFilesOf, AreReadOf, 
 use Rattle.honest_places.specs.WhatIsLeft.{AreReadIn, IsLeftIn, IsReadIn}
 use Rattle.log_files.specs.LogFile.{IsSealedLogOf, max_bytes}
 use Rattle.log_files.specs.Written.{log_text}
-use Rattle.log_files.specs.declared.sealed_log.LogRead.{LogRead}
+use Rattle.log_files.specs.Logs.{LogRead}
 use Rattle.polling_world.specs.Making.{election_of}
 use Rattle.roster.specs.Machines.{max_machines}
 use Rattle.roster.specs.declared.post.Post.{Post}

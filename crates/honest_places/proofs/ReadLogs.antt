@@ -30,7 +30,7 @@ use Rattle.log_files.specs.Written.{log_text, record_text}
 use Rattle.log_files.specs.declared.plain_log.End.{End}
 use Rattle.log_files.specs.declared.plain_log.End.TheVariants.{Clean, Malformed, Torn}
 use Rattle.log_files.specs.declared.sealed_log.Kept.{Kept}
-use Rattle.log_files.specs.declared.sealed_log.LogRead.{LogRead}
+use Rattle.log_files.specs.Logs.{LogRead}
 use Rattle.polling_world.specs.Making.{election_of}
 use Rattle.roster.specs.declared.post.Post.{Post}
 use Rattle.std.proofs.Common.{All, Bool, Contains, List, None, Ok, Result, Some, [], ap, append-nil, append_assoc}
@@ -420,7 +420,7 @@ module _ (posts : List Post) (w : World SealedEntry) (honest : IsHonestWorld pos
       read_in log said =
           let same =
           one_said (IsReadSealed posts (election_of posts)) (one_sealed posts (election_of posts)) bytes log.owner m
-          log.kept.items (kept_from 0 first) log.refused.items [] log.end end said.says are_log in
+          log.kept (kept_from 0 first) log.refused [] log.end end said.says are_log in
           record {
             count = cut.count;
             whole = record { some_of = cut.some_of; fit = omega (arith, size_is); no_more = no_more };
@@ -434,8 +434,8 @@ module _ (posts : List Post) (w : World SealedEntry) (honest : IsHonestWorld pos
             none_refused = same.refused;
             ends = subst (IsCutAt (end_of m events cut.count) (length bytes)) (sym same.ends)
                 (is_cut_at (end_of m events cut.count) (length bytes) cut.rest size_is);
-            no_break = breaks_once m log.kept.items log.broke None
-                (subst (λ (o : ℕ). BreaksAt o log.kept.items log.broke) same.owners said.broke)
+            no_break = breaks_once m log.kept log.broke None
+                (subst (λ (o : ℕ). BreaksAt o log.kept log.broke) same.owners said.broke)
                 (subst (λ (ks : List Kept). BreaksAt m ks None) (sym same.kept) no_break);
           }
 
@@ -506,11 +506,11 @@ module _ (owner : ℕ) (events : List (Event SealedEntry)) (bytes : List ℕ) (l
   counts = one_count owner events (length bytes) one.count two.count one.whole two.whole
 
   -- two readings of the same bytes have the same records
-  pub same_kept : log.kept.items ≡ other.kept.items
+  pub same_kept : log.kept ≡ other.kept
   same_kept =
-      remade 0 log.kept.items (λ i k at. omega (arith, one.places i k at))
+      remade 0 log.kept (λ i k at. omega (arith, one.places i k at))
       ∙ ap (kept_from 0) (one.kept ∙ ap (λ n. take n events) counts ∙ sym two.kept)
-      ∙ sym (remade 0 other.kept.items (λ i k at. omega (arith, two.places i k at)))
+      ∙ sym (remade 0 other.kept (λ i k at. omega (arith, two.places i k at)))
 
   -- two readings of the same bytes have the same end
   pub same_end : log.end ≡ other.end

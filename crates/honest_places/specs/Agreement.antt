@@ -13,7 +13,7 @@ use Rattle.entry_graph.specs.declared.fault.GraphFault.TheVariants.{Memory}
 use Rattle.entry_graph.specs.Answers.{IsGraphAnswer}
 use Rattle.entry_graph.specs.EntryGraph.{EntryGraph, IsGraphOfGiven, parents_of, ragged_of}
 use Rattle.entry_graph.specs.Given.{distinct, HasNoCollision}
-use Rattle.log_files.specs.declared.sealed_log.LogRead.{LogRead}
+use Rattle.log_files.specs.Logs.{LogRead}
 use Rattle.honest_places.specs.WhatIsLeft.{IsWholeRead}
 
 -- each log of w is among them, whole

@@ -4,7 +4,7 @@ use Rattle.roster.specs.declared.post.Post.{Post}
 use Rattle.entry_format.specs.SealedEntry.{SealedEntry}
 use Rattle.entry_graph.specs.EntryGraph.{EntryGraph}
 use Rattle.entry_order.specs.World.{World}
-use Rattle.log_files.specs.declared.sealed_log.LogRead.{LogRead}
+use Rattle.log_files.specs.Logs.{LogRead}
 use Rattle.evidence.specs.Graphs.{GivesGraph, entries_of}
 use Rattle.evidence.specs.Logs.{GivesLogs}
 use Rattle.honest_places.specs.Agreement.{IsAllGiven, IsHonestGraph}

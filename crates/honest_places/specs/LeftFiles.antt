@@ -3,7 +3,7 @@ use Rattle.std.specs.Prelude.{◌≡◌, ℕ, ◌<◌, List, length, map, All, O
 use Rattle.std.specs.List.{AllZip, Contains}
 use Rattle.entry_format.specs.SealedEntry.{SealedEntry}
 use Rattle.entry_order.specs.World.{World, history}
-use Rattle.log_files.specs.declared.sealed_log.LogRead.{LogRead}
+use Rattle.log_files.specs.Logs.{LogRead}
 use Rattle.log_files.specs.Written.{log_text}
 use Rattle.polling_world.specs.Machines.{MachineState}
 use Rattle.honest_places.specs.WhatIsLeft.{IsLeftIn, IsLeftOf, IsPrefixRead}

@@ -6,7 +6,7 @@ use Rattle.election_script.specs.declared.script.Script.{Script}
 use Rattle.entry_format.specs.SealedEntry.{SealedEntry}
 use Rattle.entry_order.specs.World.{World}
 use Rattle.log_files.specs.declared.plain_log.End.TheVariants.{Malformed}
-use Rattle.log_files.specs.declared.sealed_log.LogRead.{LogRead}
+use Rattle.log_files.specs.Logs.{LogRead}
 use Rattle.log_files.specs.Lines.{refused_lines}
 use Rattle.polling_world.specs.Keys.{roster_of}
 use Rattle.evidence.specs.Graphs.{entries_of}
@@ -19,7 +19,7 @@ use Rattle.auditor.specs.ReportText.{break_line, stray_lines, fork_lines}
 -- fork.
 pub record AccusesNobody (report : AuditReport) : Type 0 where
   pub no_refused : (file : List ℕ) (log : LogRead) → Contains report.logs log →
-      refused_lines file log.refused.items ≡ []
+      refused_lines file log.refused ≡ []
   pub no_malformed : (log : LogRead) → Contains report.logs log → (at : ℕ) (why : Why) → log.end ≢ Malformed at why
   pub no_break : (file : List ℕ) (log : LogRead) → Contains report.logs log → break_line file log.broke ≡ []
   pub no_stray : stray_lines report.graph.strays ≡ []

@@ -4,7 +4,7 @@ use Rattle.std.specs.List.{Contains}
 use Rattle.entry_format.specs.SealedEntry.{SealedEntry}
 use Rattle.entry_order.specs.World.{World}
 use Rattle.log_files.specs.declared.plain_log.End.TheVariants.{Clean}
-use Rattle.log_files.specs.declared.sealed_log.LogRead.{LogRead}
+use Rattle.log_files.specs.Logs.{LogRead}
 use Rattle.rule_language.specs.Trees.{RuleTree}
 use Rattle.rule_language.specs.Standard.{standard_rules}
 use Rattle.rule_engine.specs.declared.verdict.Verdict.{Verdict}

@@ -8,7 +8,7 @@ use Rattle.entry_order.specs.World.{World, history}
 use Rattle.log_files.specs.declared.plain_log.End.{End}
 use Rattle.log_files.specs.declared.plain_log.End.TheVariants.{Clean, Torn, Malformed}
 use Rattle.log_files.specs.declared.sealed_log.Kept.{Kept}
-use Rattle.log_files.specs.declared.sealed_log.LogRead.{LogRead}
+use Rattle.log_files.specs.Logs.{LogRead}
 use Rattle.log_files.specs.LogText.{header_tree, AreLog}
 use Rattle.log_files.specs.SealedLog.{event_of, BreaksAt, IsReadSealed}
 use Rattle.log_files.specs.Written.{log_text}
@@ -45,16 +45,16 @@ pub record IsPrefixRead (owner : ℕ) (events : List (Event SealedEntry)) (bytes
   pub count : ℕ
   pub whole : StandWhole owner events (length bytes) count
   pub of_owner : log.owner ≡ owner
-  pub kept : map event_of log.kept.items ≡ take count events
-  pub places : (i : ℕ) (kept : Kept) → slice_get log.kept.items i ≡ Some kept → kept.place ≡ i
-  pub none_refused : log.refused.items ≡ []
+  pub kept : map event_of log.kept ≡ take count events
+  pub places : (i : ℕ) (kept : Kept) → slice_get log.kept i ≡ Some kept → kept.place ≡ i
+  pub none_refused : log.refused ≡ []
   pub ends : IsCutAt (end_of owner events count) (length bytes) log.end
   pub no_break : log.broke ≡ None
 
 -- a complete log is read: its records are all of the events, and it ends after the last
 pub record IsWholeRead (owner : ℕ) (events : List (Event SealedEntry)) (log : LogRead) : Type 0 where
   pub prefix : IsPrefixRead owner events (log_text owner events) log
-  pub kept : map event_of log.kept.items ≡ events
+  pub kept : map event_of log.kept ≡ events
   pub ends : log.end ≡ Clean
 
 -- the bytes are a log of the owner under the roster, of which no record is refused and which breaks

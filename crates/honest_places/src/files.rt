@@ -12,7 +12,7 @@ ghost use Rattle.entry_graph.specs.EntryGraph.{EntryGraph};
 ghost use Rattle.entry_order.specs.declared.step.Step.{Step};
 ghost use Rattle.entry_order.specs.Naming.{Distinct};
 ghost use Rattle.entry_order.specs.World.{World, sent_in};
-ghost use Rattle.log_files.specs.declared.sealed_log.LogRead.{LogRead};
+ghost use Rattle.log_files.specs.Logs.{LogRead};
 ghost use Rattle.polling_world.specs.Keys.{roster_of};
 ghost use Rattle.polling_world.specs.Making.{election_of};
 ghost use Rattle.polling_world.specs.Machines.{MachineState};

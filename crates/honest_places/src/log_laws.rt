@@ -12,7 +12,7 @@ ghost use Rattle.entry_order.specs.declared.event.Event.{Event};
 ghost use Rattle.entry_order.specs.declared.step.Step.{Step};
 ghost use Rattle.entry_order.specs.Naming.{Distinct};
 ghost use Rattle.entry_order.specs.World.{World, history, sent_in};
-ghost use Rattle.log_files.specs.declared.sealed_log.LogRead.{LogRead};
+ghost use Rattle.log_files.specs.Logs.{LogRead};
 ghost use Rattle.log_files.specs.LogText.{HasHeader, header_tree};
 ghost use Rattle.log_files.specs.SealedLog.{SaysSealed};
 ghost use Rattle.log_files.specs.Written.{log_text};
@@ -71,7 +71,7 @@ pub fn what_is_left_is_read()
 pub fn prefixes_are_read_in_one_way()
     ensures kept { (owner : ℕ) (events : List (Event SealedEntry)) (bytes : List ℕ)
         (log other : LogRead) → IsPrefixRead owner events bytes log →
-        IsPrefixRead owner events bytes other → log.kept.items ≡ other.kept.items }
+        IsPrefixRead owner events bytes other → log.kept ≡ other.kept }
     ensures end { (owner : ℕ) (events : List (Event SealedEntry)) (bytes : List ℕ)
         (log other : LogRead) → IsPrefixRead owner events bytes log →
         IsPrefixRead owner events bytes other → log.end ≡ other.end }

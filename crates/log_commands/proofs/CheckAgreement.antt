@@ -5,12 +5,12 @@ use Imports.{CheckReport, ChecksAgreeWithAudits, ChecksFiles, ChecksLogs, entrie
 use Imports.{full_proofs_say_all, GivesCheck, GivesGraph, GivesMade, GivesReport, inl, inr, IsCanonicalProof}
 use Imports.{IsCanonicalText, IsCheckAnswer, IsCheckOver, IsJudged, length, length-map, Line, List, LogRead, map}
 use Imports.{max_proof, nodes_of, Ok, Option, parents_of, Post, ProofMade, ProvesFiles, ragged_of, refl, Refusal}
-use Imports.{refusal_answer, refused, RosterRead, Row, row_of, RuleSource, RuleTree, same_entries, SameGraph, SameLogs}
+use Imports.{refusal_answer, refused, RosterRead, Row, row_of, RuleSource, RuleTree}
 use Imports.{SealedEntry, Some, source_named, subst, sym, three_by, three_in, verdict_of, WithGraph, without_entries}
 use Imports.{WithRules, ℕ, ◌++◌, ◌∙◌, ◌∷◌, ◌≡◌, ◌≤◌}
 use Rattle.log_commands.proofs.FilesBegun.{begun_by, same_found, whole_by}
-use Rattle.log_commands.proofs.OneProof.{one_check, ProofOne, SameCheck}
-use Rattle.log_commands.proofs.{OneOrderAnswer.OrderOne, SameNodes.same_nodes, SoundReports.given_is_sound}
+use Rattle.log_commands.proofs.OneProof.{one_check, ProofOne}
+use Rattle.log_commands.proofs.{OneOrderAnswer.OrderOne, SoundReports.given_is_sound}
 use Rattle.rule_engine.specs.declared.verdict.Verdict.TheVariants as audited
 use Rattle.log_commands.specs.Prove.{proof_answer}
 
@@ -74,13 +74,11 @@ module _ (order : OrderOne) (one : ProofOne) (proof : List ℕ) (names : List (L
       ChecksFiles read source rules proof names (files ++ Some made.text ∷ []) (Ok (check_of report))
   files_give read source rules files (inl (found, keep, inl (graph, gives, (count, canonical, fits))))
       (inl (logs, also, inl (other, graphed, with))) =
-      let alike : SameLogs found logs =
-      order.logs read.roster.machines read.election names files (Ok found) (Ok logs) keep also in
-      let entries : entries_of found ≡ entries_of logs = same_entries found logs alike in
-      let moved = subst (λ (es : List SealedEntry). GivesGraph es (Ok graph)) entries gives in
-      let same : SameGraph graph other = order.graph (entries_of logs) (Ok graph) (Ok other) moved graphed in
-      let text = one.text (nodes_of graph) (nodes_of other) (same_nodes (entries_of logs) graph other moved graphed same)
-      made.text canonical in (
+      let alike = order.logs read.roster.machines read.election names files (Ok found) (Ok logs) keep also in
+      let one_read : found ≡ logs = same_found found logs alike in
+      let moved = subst (λ ls. GivesGraph (entries_of ls) (Ok graph)) one_read gives in
+      let same = same_found graph other (order.graph (entries_of logs) (Ok graph) (Ok other) moved graphed) in
+      let text = subst (λ g. IsCanonicalText (nodes_of g) made.text) same canonical in (
         files,
         Some made.text,
         refl,
@@ -143,6 +141,6 @@ checks_agree order one roster rules proof logs roster_file rules_file log_files 
         absurd (one_check order one roster (source_named rules) proof logs files (Err refusal) (Ok (check_of report))
         gives found)
     by files found (inr (other, gives, is)) =
-        let same : SameCheck other (check_of report) =
+        let same : other ≡ check_of report =
         one_check order one roster (source_named rules) proof logs files (Ok other) (Ok (check_of report)) gives found in
-        is.told ∙ (λ i. check_answer (same.rules i) (same.verdicts i))
+        is.told ∙ ap (λ r. check_answer r.rules r.verdicts) same

@@ -3,9 +3,9 @@ use Rattle.log_commands.proofs.Imports.{[], All-from_recursion, arith, Broken, c
 use Rattle.log_commands.proofs.Imports.{check_parts, checked_status, CheckReport, Contains, contains_as, Err}
 use Rattle.log_commands.proofs.Imports.{HasOneAnswer, HasStatuses, inl, inr, IsCarriedOut, IsCompleted, IsOfCommands}
 use Rattle.log_commands.proofs.Imports.{List, of_read, Ok, refl, same_or, source_named, Status, sym, Unsettled}
-use Rattle.log_commands.proofs.Imports.{verdict_on_all, ℕ, ◌∙◌, ◌∷◌, ◌≢◌}
+use Rattle.log_commands.proofs.Imports.{ap, verdict_on_all, ℕ, ◌∙◌, ◌∷◌, ◌≡◌, ◌≢◌}
 use Rattle.audit_proof.specs.{declared.fault.Verdict.Verdict, declared.fault.Verdict.TheVariants.Kept}
-use Rattle.log_commands.proofs.OneProof.{one_check, ProofOne, SameCheck}
+use Rattle.log_commands.proofs.OneProof.{one_check, ProofOne}
 use Rattle.log_commands.proofs.{OneOrderAnswer.OrderOne}
 use Rattle.command_line.specs.declared.status.Status.TheVariants as status
 use Rattle.log_commands.specs.Check.{IsCheckOf}
@@ -15,8 +15,9 @@ use Rattle.log_commands.specs.Check.{GivesCheck}
 pub check_one : OrderOne → ProofOne → (roster rules proof : List ℕ) (logs : List (List ℕ)) →
     HasOneAnswer (check_parts roster rules proof logs)
 check_one order one roster rules proof logs files a b =
-    same_or SameCheck _ IsCheckOf a b (one_check order one roster (source_named rules) proof logs files)
-    (λ f g gives same x y. x.told ∙ (λ i. check_answer (same.rules i) (same.verdicts i)) ∙ sym y.told)
+    same_or (λ (r s : CheckReport). r ≡ s) _ IsCheckOf a b
+    (one_check order one roster (source_named rules) proof logs files)
+    (λ r s gives same x y. x.told ∙ ap (λ t. check_answer t.rules t.verdicts) same ∙ sym y.told)
 
 -- each verdict has a status of a command that was carried out
 verdict_done : (verdict : Verdict) → IsCarriedOut (checked_status verdict)

@@ -4,10 +4,10 @@ use Imports.{[], AllZip, AndThen, ap, AreChecked, AreJudged, AuditReport, AuditV
 use Imports.{CheckReport, ChecksFiles, ChecksLogs, ChecksSayNoMore, Descends, entries_of, EntryGraph, files_read}
 use Imports.{GivesCheck, GivesGraph, GivesLogs, GivesReport, inl, inr, is_whole, IsCheckAnswer, IsJudged, IsLessKnown}
 use Imports.{IsOfReport, IsProofOf, IsVerdict, length, length-map, Line, List, LogRead, map, nodes_of, Ok, Option}
-use Imports.{orders_agree, parents_of, Post, proofs_say_no_more, ragged_of, refl, refusal_answer, RosterRead, Row}
-use Imports.{row_of, RulesAreReadInOneWay, RuleSource, RuleTree, same_answer, same_entries, SameGraph, SameLogs}
+use Imports.{parents_of, Post, proofs_say_no_more, ragged_of, refl, refusal_answer, RosterRead, Row}
+use Imports.{row_of, RulesAreReadInOneWay, RuleSource, RuleTree}
 use Imports.{SaysNoMore, SealedEntry, source_named, status_is, subst, sym, Three, three, three_by, Trees, verdict_of}
-use Imports.{WithGraph, WithRules, ℕ, ◌++◌, ◌<◌, ◌∙◌, ◌∷◌, ◌≡◌}
+use Imports.{WithGraph, WithRules, ℕ, ◌++◌, ◌∙◌, ◌∷◌, ◌≡◌}
 use Rattle.audit_proof.specs.declared.fault.Verdict.{Verdict}
 use Rattle.log_commands.proofs.FilesBegun.{begun_by, one_begun, same_found}
 use Rattle.log_commands.proofs.{CheckSound.proof_of, OneOrderAnswer.OrderOne, OneProof.ones_of, OneProof.same_ends}
@@ -25,28 +25,21 @@ less_said rows order wholes tree (audited.Broken places) value (inr same) (is, _
 less_said rows order wholes tree audited.Unsettled value (inl unknown) is = inl (ap verdict_of unknown)
 less_said rows order wholes tree audited.Unsettled value (inr same) is = inr (ap verdict_of (same ∙ is))
 
-module _ (rows : List Row) (graph other : EntryGraph SealedEntry) (down : Descends (parents_of graph.links))
-    (down' : Descends (parents_of other.links)) (same : SameGraph graph other)
-    (size : length rows ≡ length graph.survivors) (lines : List Line) (is : IsProofOf (nodes_of other) lines) where
-  -- what a proof for a graph that says the same gives of a rule
+module _ (rows : List Row) (graph : EntryGraph SealedEntry) (down : Descends (parents_of graph.links))
+    (size : length rows ≡ length graph.survivors) (lines : List Line) (is : IsProofOf (nodes_of graph) lines) where
+  -- what a proof gives of a rule
   no_more : (rule : RuleTree) (v : AuditVerdict) (c : Verdict) → IsJudged rows (nodes_of graph) rule.body (Ok v) →
-      IsCheckAnswer rows (ragged_of other.links) lines rule.body (Ok c) → SaysNoMore v c
+      IsCheckAnswer rows (ragged_of graph.links) lines rule.body (Ok c) → SaysNoMore v c
   no_more rule v c judged checked =
       let order = before (parents_of graph.links) (ragged_of graph.links) in
       let wholes : ℕ → Bool = λ x. is_whole (parents_of graph.links) (ragged_of graph.links) x x in
-      let order' = before (parents_of other.links) (ragged_of other.links) in
-      let wholes' : ℕ → Bool = λ x. is_whole (parents_of other.links) (ragged_of other.links) x x in
-      let moved = same_answer rows order order' wholes wholes'
-      (λ y x within. orders_agree graph other down down' same y x (subst (λ n. x < n) size within))
-      (λ x within. same.wholes x (subst (λ n. x < n) size within)) rule.body (Ok v) judged in
-      let value = three_by rows (ragged_of other.links) lines rule.body in
-      let less = proofs_say_no_more rows (nodes_of other) lines
-      (size ∙ ap (λ (S : List SealedEntry). length S) same.survivors) down' is rule.body in
-      subst (SaysNoMore v) (sym checked.1) (less_said rows order' wholes' rule.body v value less moved.1)
+      let value = three_by rows (ragged_of graph.links) lines rule.body in
+      let less = proofs_say_no_more rows (nodes_of graph) lines size down is rule.body in
+      subst (SaysNoMore v) (sym checked.1) (less_said rows order wholes rule.body v value less judged.1)
 
   -- and of all rules
   all_no_more : (rules : List RuleTree) (vs : List AuditVerdict) (cs : List Verdict) →
-      AreJudged rows (nodes_of graph) rules vs → AreChecked rows (nodes_of other) lines rules cs →
+      AreJudged rows (nodes_of graph) rules vs → AreChecked rows (nodes_of graph) lines rules cs →
       AllZip SaysNoMore vs cs
   all_no_more [] [] [] a b = tt
   all_no_more [] [] (c ∷ cs) a b = absurd b
@@ -62,26 +55,23 @@ record IsNoMoreThan (report : AuditReport) (checked : CheckReport) : Type 0 wher
 
 module _ (order : OrderOne) (rules_one : RulesAreReadInOneWay) (proof : List ℕ) (names : List (List ℕ))
     (report : AuditReport) (checked : CheckReport) where
-  -- by logs that say the same
+  -- by logs
   by_logs : (machines : List Post) (source : RuleSource) (rules : List RuleTree) (file : Option (List ℕ))
-      (logs others : List LogRead) → SameLogs logs others →
+      (logs : List LogRead) →
       AndThen (GivesGraph (entries_of logs)) (WithGraph machines source rules names logs) (Ok report) →
-      ChecksLogs machines source rules proof file others (Ok checked) → IsNoMoreThan report checked
-  by_logs machines source rules file logs others alike (inl (graph, gives, inl (vs, judged, e)))
+      ChecksLogs machines source rules proof file logs (Ok checked) → IsNoMoreThan report checked
+  by_logs machines source rules file logs (inl (graph, gives, inl (vs, judged, e)))
       (inl (other, graphed, inl (lines, read, inl (cs, are, f)))) =
-      let moved = subst (λ (es : List SealedEntry). GivesGraph es (Ok graph)) (same_entries logs others alike) gives in
-      let same : SameGraph graph other = order.graph (entries_of others) (Ok graph) (Ok other) moved graphed in
-      let here = subst (λ (S : List SealedEntry). AreChecked (map (row_of machines) S) (nodes_of other) lines rules cs)
-      (sym same.survivors) are in
-      let less = all_no_more (map (row_of machines) graph.survivors) graph other gives.2.kept.linked.arrows.descends
-      graphed.2.kept.linked.arrows.descends same (length-map graph.survivors (row_of machines)) lines
-      (proof_of proof other file lines read) rules vs cs judged here in
+      let same = same_found graph other (order.graph (entries_of logs) (Ok graph) (Ok other) gives graphed) in
+      let here = subst (λ g. AreJudged (map (row_of machines) g.survivors) (nodes_of g) rules vs) same judged in
+      let less = all_no_more (map (row_of machines) other.survivors) other graphed.2.kept.linked.arrows.descends
+      (length-map other.survivors (row_of machines)) lines (proof_of proof other file lines read) rules vs cs here are in
       coe 1 0 (i. IsNoMoreThan (same_found report _ e i) (same_found checked _ f i)) (record { rules = refl; less = less })
-  by_logs machines source rules file logs others alike (inl (graph, gives, inr (r, bad, e))) checks = cc
-  by_logs machines source rules file logs others alike (inr (r, bad, e)) checks = cc
-  by_logs machines source rules file logs others alike x (inl (other, graphed, inl (lines, read, inr (r, bad, e)))) = cc
-  by_logs machines source rules file logs others alike x (inl (other, graphed, inr (r, bad, e))) = cc
-  by_logs machines source rules file logs others alike x (inr (r, bad, e)) = cc
+  by_logs machines source rules file logs (inl (graph, gives, inr (r, bad, e))) checks = cc
+  by_logs machines source rules file logs (inr (r, bad, e)) checks = cc
+  by_logs machines source rules file logs x (inl (other, graphed, inl (lines, read, inr (r, bad, e)))) = cc
+  by_logs machines source rules file logs x (inl (other, graphed, inr (r, bad, e))) = cc
+  by_logs machines source rules file logs x (inr (r, bad, e)) = cc
 
   -- by the files of logs, under one roster
   by_files : (read : RosterRead) (source : RuleSource) (rules : List RuleTree) (files : List (Option (List ℕ)))
@@ -90,9 +80,10 @@ module _ (order : OrderOne) (rules_one : RulesAreReadInOneWay) (proof : List ℕ
   by_files read source rules files last (inl (logs, keep, with)) (others, end, e, inl (found, also, checks)) =
       let (front, ends) = same_ends files others last end e in
       let here = subst (λ fs. GivesLogs read.roster.machines read.election names fs (Ok found)) (sym front) also in
-      let alike : SameLogs logs found = order.logs read.roster.machines read.election names files (Ok logs) (Ok found)
-      keep here in
-      by_logs read.roster.machines source rules end logs found alike with checks
+      let alike = order.logs read.roster.machines read.election names files (Ok found) (Ok logs) here keep in
+      by_logs read.roster.machines source rules end logs with
+      (subst (λ ls. ChecksLogs read.roster.machines source rules proof end ls (Ok checked))
+      (same_found found logs alike) checks)
   by_files read source rules files last (inl (logs, keep, with)) (others, end, e, inr (r, bad, f)) = cc
   by_files read source rules files last (inr (r, bad, f)) checks = cc
 

@@ -1,6 +1,6 @@
 -- What a check says holds, whoever made the proof.
 use Rattle.log_commands.proofs.Imports
-use Imports.{[], AllZip-long, Answer, AreChecked, Broken, check_answer, CheckReport, ChecksFiles, Completes, entries_of}
+use Imports.{AllZip-long, Answer, AreChecked, Broken, check_answer, CheckReport, ChecksFiles, Completes, entries_of}
 use Imports.{EntryGraph, False, GivesCheck, GivesGraph, GivesProof, HaveMakers, HoldsOf, inl, inr, IsCheckAnswer}
 use Imports.{IsCheckOf, IsLessKnown, IsProofOf, length, length-map, Line, List, logs_have_makers, map, nodes_of, None}
 use Imports.{Ok, Option, parents_of, Plain, plain_rules, ProofsSayNoMore, ragged_of, refl, RosterRead, row_of, row_said}

@@ -31,7 +31,8 @@ one_begun ones roster source first second b c = (read, by source b.are c.are)
 
     by : (from : RuleSource) → AreRules from second b.rules → AreRules from second c.rules → b.rules ≡ c.rules
     by standard x y = sym x ∙ y
-    by (in_file name) x y = one_rules ones.readings name second (Ok b.rules) (Ok c.rules) x y
+    by (in_file name) x y =
+        same_found b.rules c.rules (one_rules ones.readings name second (Ok b.rules) (Ok c.rules) x y)
 
 module _ {B : Type 0} (Next : RosterRead → List RuleTree → List (Option (List ℕ)) → Result B Refusal → Type 0)
     (roster : List ℕ) where

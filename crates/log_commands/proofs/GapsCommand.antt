@@ -1,35 +1,21 @@
 -- The command `gaps`.
 use Rattle.log_commands.proofs.Imports
 use Imports.{[], absent_answer, All-from_recursion, Answer, ap, arith, carried_out_as, codes, Contains, contains_as}
-use Imports.{findings_answer, gaps_log_lines, gaps_of, gaps_parts, HasOneAnswer, HasStatuses, Header, inl, inr}
-use Imports.{IsAnswerAsRead, IsCarriedOut, IsCompleted, IsGapsAnswer, IsOfCommands, IsRefusal, length, List, node_of}
+use Imports.{findings_answer, gaps_log_lines, gaps_parts, HasOneAnswer, HasStatuses, Header, inl, inr}
+use Imports.{IsAnswerAsRead, IsCarriedOut, IsCompleted, IsGapsAnswer, IsOfCommands, IsRefusal, length, List}
 use Imports.{None, one_read, OnReadFile, Option, read_weaker, refl, refused_answer, Some, Status, status_of}
-use Imports.{StoreGhosts, subst, sym, TooLong, ℕ, ◌++◌, ◌<◌, ◌∙◌, ◌∷◌, ◌≡◌, ◌≢◌, ◌≤◌, ◌⊎◌}
-use Rattle.log_files.specs.Lines.{end_line, gap_lines, refused_lines}
+use Imports.{StoreGhosts, subst, sym, TooLong, ℕ, ◌<◌, ◌∙◌, ◌∷◌, ◌≡◌, ◌≢◌, ◌≤◌, ◌⊎◌}
 use Rattle.log_files.specs.LogFile.{IsLogOf, IsLogRefused, max_bytes}
 use Rattle.log_files.specs.declared.plain_log.LogFault.TheVariants.{Absent, Memory, ReadFault}
 use Rattle.log_files.specs.{LogText.HasHeader, LogText.Says, declared.plain_log.LogFault.LogFault}
-use Rattle.log_files.specs.{declared.plain_log.PlainLog.PlainLog}
+use Rattle.log_files.specs.Logs.{PlainLog}
 
 -- bytes say at most one log, and only where they have a header
 pub record SayOne : Type 0 where
-  -- the bytes say which entries are kept
-  pub entries : (bytes : List ℕ) (log other : PlainLog) → Says bytes log → Says bytes other
-      → log.kept.items ≡ other.kept.items
-  -- and which records are refused, with the cause of each
-  pub refused : (bytes : List ℕ) (log other : PlainLog) → Says bytes log → Says bytes other
-      → log.refused.items ≡ other.refused.items
-  -- and how the log ends
-  pub end : (bytes : List ℕ) (log other : PlainLog) → Says bytes log → Says bytes other → log.end ≡ other.end
+  -- two logs said by the same bytes are one
+  pub one : (bytes : List ℕ) (log other : PlainLog) → Says bytes log → Says bytes other → log ≡ other
   -- bytes that say a log have a header
   pub header : (bytes : List ℕ) (log : PlainLog) → Says bytes log → HasHeader bytes
-
--- one log has one text of lines
-same_lines : (name : List ℕ) (log other : PlainLog) → log.kept.items ≡ other.kept.items
-    → log.refused.items ≡ other.refused.items
-    → log.end ≡ other.end → gaps_log_lines name log ≡ gaps_log_lines name other
-same_lines name log other kept refused end =
-    λ i. refused_lines name (refused i) ++ end_line name (end i) ++ gap_lines (gaps_of node_of (kept i))
 
 -- what an answer of `gaps` is, where there is a file
 abbrev pub Cases : List ℕ → List ℕ → Answer → Type 0
@@ -80,9 +66,7 @@ same_case one name bytes a b (inr (inr (log, short, says, e))) (inl (long, f)) =
 same_case one name bytes a b (inr (inr (log, short, says, e))) (inr (inl (short', none, f))) = absurd
     (none (one.header bytes log says))
 same_case one name bytes a b (inr (inr (log, short, says, e))) (inr (inr (other, short', says', f))) =
-    e ∙ ap findings_answer
-    (same_lines name log other (one.entries bytes log other says says') (one.refused bytes log other says says')
-    (one.end bytes log other says says')) ∙ sym f
+    e ∙ ap (λ (read : PlainLog). findings_answer (gaps_log_lines name read)) (one.one bytes log other says says') ∙ sym f
 
 -- so one is in any case
 same_gaps : SayOne → (name : List ℕ) (file : Option (List ℕ)) (a b : Answer) → IsGapsAnswer name file a

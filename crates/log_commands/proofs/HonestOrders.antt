@@ -1,6 +1,6 @@
 -- What `order` answers over what is left of an honest place's logs.
 use Rattle.log_commands.proofs.Imports
-use Imports.{[], absent, Answer, ap, AreAllFilesOf, arith, Completion, Contains, Distinct, election_of, entries_of}
+use Imports.{absent, Answer, ap, AreAllFilesOf, arith, Completion, Contains, Distinct, election_of, entries_of}
 use Imports.{EntryGraph, GivesLogs, GivesRoster, HasLeft, HeldBefore, inl, inr, IsHonestlyRead, IsHonestOrder}
 use Imports.{IsHonestWord, IsHonestWorld, IsOfScript, IsOrderAmong, IsOrderAnswer, IsOrderOf, IsOrderOfPlace}
 use Imports.{IsOrderOver, IsOrderOverLogs, IsOrderUnder, length, List, LogRead, logs_have_makers, node_of_sealed, Ok}

@@ -1,7 +1,6 @@
 -- What the proofs of this crate take from others.
 pub use Rattle.audit_proof.proofs.{Canonicals.canonical_full, Trusted.full_proofs_say_all, Trusted.proofs_say_no_more}
 pub use Rattle.audit_proof.specs.Canonical.{IsCanonicalProof, IsCanonicalText, OneTextIsCanonical}
-pub use Rattle.audit_proof.specs.OneReading.{HaveSameArrows, SameArrowsGiveOneValue, SameArrowsHaveOneText}
 pub use Rattle.audit_proof.specs.OneReading.{TextsAreReadInOneWay}
 pub use Rattle.audit_proof.specs.{Answers.IsCheckAnswer, Answers.verdict_of, KnownBy.three_by, Lines.IsProofOf}
 pub use Rattle.audit_proof.specs.{Lines.Line, Reads.IsReadAnswer, Trust.ProofsSayNoMore}
@@ -10,9 +9,9 @@ pub use Rattle.audit_proof.specs.{declared.fault.ProofFault.TheVariants.At, decl
 pub use Rattle.audit_proof.specs.{declared.fault.Verdict.TheVariants.Unsettled}
 pub use Rattle.auditor.proofs.Chained.{and_refused, and_then, err_by, file_ends, file_joins, of_one, on_one, rules_end}
 pub use Rattle.auditor.proofs.Chained.{rules_then, standard_then}
-pub use Rattle.auditor.proofs.OneStep.{agree_equal, ends_agree, graphs_then_agree, IsOne, logs_then_one, one_rules}
+pub use Rattle.auditor.proofs.OneStep.{agree_equal, first_then_one, graph_then_one, IsOne, logs_then_one, one_rules}
 pub use Rattle.auditor.proofs.OneStep.{Ones, roster_then_one, rules_then_one, RulesAreReadInOneWay, steps_agree}
-pub use Rattle.auditor.proofs.OneVerdict.{one_place, orders_agree, verdicts_agree}
+pub use Rattle.auditor.proofs.OneVerdict.{one_place, verdicts_agree}
 pub use Rattle.auditor.proofs.{Makers.logs_have_makers, Makers.survivors_have_makers, Pieces.pair_more}
 pub use Rattle.auditor.proofs.{Pieces.pairs_all, PlainRules.plain_rules}
 pub use Rattle.auditor.specs.Audits.{AndThen, FileThen, GivesReport, RulesThen, WithGraph, WithLogs}
@@ -25,7 +24,7 @@ pub use Rattle.auditor.specs.{declared.outcome.Outcome.Outcome, inside.Begun.Wit
 pub use Rattle.command_line.proofs.CommandProofs.{carried_out_as, contains_as, HasOneAnswer, HasStatuses, IsCompleted}
 pub use Rattle.command_line.proofs.CommandProofs.{IsOfCommands, of_read, status_is}
 pub use Rattle.command_line.proofs.Faults.{found_answered, or_answered, or_refused, refused_answered, refused_or}
-pub use Rattle.command_line.proofs.{ReportStatuses.not_absent, SameOr.same_or}
+pub use Rattle.command_line.proofs.{ReportStatuses.not_absent, SameOr.one_or, SameOr.same_or}
 pub use Rattle.command_line.specs.Lines.{absent_answer, Answer, findings_answer, line_answer, OrRefused, refusal_answer}
 pub use Rattle.command_line.specs.Lines.{refused_answer, status_of}
 pub use Rattle.command_line.specs.Reports.{IsCarriedOut, IsOfReport, source_named, status_by}
@@ -58,14 +57,14 @@ pub use Rattle.evidence.proofs.OnReads.{all_weaker, none_read, on_weaker, one_re
 pub use Rattle.evidence.proofs.Readings.{no_cause, of_refusal, stands}
 pub use Rattle.evidence.proofs.Repeats.{same_gives, stand_copied, stand_repeated}
 pub use Rattle.evidence.proofs.Steps.{on_refusal, read_ends, read_then}
-pub use Rattle.evidence.proofs.{FilesRead.not_read, FilesRead.was_read, OneLogs.same_entries}
+pub use Rattle.evidence.proofs.{FilesRead.not_read, FilesRead.was_read}
 pub use Rattle.evidence.proofs.{Survivors.survivors_distinct}
 pub use Rattle.evidence.specs.Graphs.{entries_of, entries_of_records, GivesGraph, IsSealedGraph}
 pub use Rattle.evidence.specs.NamedFiles.{OnAllRead, OnOneFile, OnRead}
 pub use Rattle.evidence.specs.OneAnswer.{EntriesGiveOneGraph, LogFilesGiveOneAnswer, NoSurvivorPrecedesItself}
 pub use Rattle.evidence.specs.OneAnswer.{RosterFilesGiveOneAnswer, SurvivorsAreDistinct}
 pub use Rattle.evidence.specs.Refusal.{absent, IsAbsent, IsFaultOf, Refusal, refusal_of, refused, too_long}
-pub use Rattle.evidence.specs.Same.{Agree, SameGraph, SameLogs}
+pub use Rattle.evidence.specs.Same.{Agree}
 pub use Rattle.evidence.specs.{Logs.GivesLogs, Reading.IsReadFrom, Reading.IsReadFromFile, RosterFile.GivesRoster}
 pub use Rattle.evidence.specs.{declared.fault.InputFault.InputFault, declared.fault.InputFault.TheVariants.Refused}
 pub use Rattle.evidence.specs.{declared.roster_file.RosterRead.RosterRead, inside.Copies.StandFor}
@@ -124,7 +123,7 @@ pub use Rattle.log_commands.specs.{declared.entry_word.Read.Read, declared.order
 pub use Rattle.log_commands.specs.{declared.watch.Unwatched.Unwatched, inside.PlaceFiles.GivesPlace}
 pub use Rattle.log_files.proofs.{ValidEntries.log_is_valid}
 pub use Rattle.log_files.specs.{LogFile.IsSealedLogOf, declared.plain_log.LogFault.TheVariants.Header}
-pub use Rattle.log_files.specs.{declared.plain_log.LogFault.TheVariants.TooLong, declared.sealed_log.LogRead.LogRead}
+pub use Rattle.log_files.specs.{declared.plain_log.LogFault.TheVariants.TooLong, Logs.LogRead}
 pub use Rattle.polling_world.specs.{Keys.roster_of, Making.election_of}
 pub use Rattle.precedence.specs.{Graph.Graph}
 pub use Rattle.report_exactness.proofs.{Given.given, Reports.reports_are_exact}
@@ -192,7 +191,7 @@ pub use Rattle.log_files.specs.LogFile.{IsLogOf, IsLogRefused, max_bytes}
 pub use Rattle.log_files.specs.LogText.{HasHeader, Says}
 pub use Rattle.log_files.specs.declared.plain_log.End.{End}
 pub use Rattle.log_files.specs.declared.plain_log.LogFault.{LogFault}
-pub use Rattle.log_files.specs.declared.plain_log.PlainLog.{PlainLog}
+pub use Rattle.log_files.specs.Logs.{PlainLog}
 pub use Rattle.rule_meaning.specs.Meaning.{Holds}
 pub use Rattle.rule_meaning.specs.Sound.{RulesAreSettled, UnknownOnlyByGaps}
 pub use Rattle.std.proofs.Common.{Global}

@@ -6,7 +6,6 @@ pub mod EntryPlaces
 pub mod OrderWords
 pub mod OrderAnswers
 pub mod OneOrderAnswer
-pub mod SameNodes
 pub mod OneProof
 pub mod CheckedRules
 pub mod AuditAnswers

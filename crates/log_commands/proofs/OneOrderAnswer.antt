@@ -1,16 +1,16 @@
 -- Files have at most one answer to `order`.
 use Rattle.log_commands.proofs.Imports
-use Imports.{[], agree_equal, Answer, ap, by_digest, by_number, Contains, Distinct, Done, entries_of}
+use Imports.{[], Answer, ap, by_digest, by_number, Contains, Distinct, Done, entries_of}
 use Imports.{EntriesGiveOneGraph, EntryName, Equal, exact_bytes, Greater, inl, inr, IsBefore, IsNamedBy, IsOrderAmong}
 use Imports.{IsOrderAnswer, IsOrderOver, IsOrderUnder, IsPath, IsWordOf, Less, line_answer, List, LogFilesGiveOneAnswer}
 use Imports.{MeansEntry, nat_cmp, nat_list_cmp_total, node_of_sealed, NoSurvivorPrecedesItself, Option, order_word}
 use Imports.{Ordering, ordering_reverse, OrderWord, Post, Precedes, refl, RosterFilesGiveOneAnswer, RosterRead}
-use Imports.{same_entries, same_or, SameGraph, SameLogs, SealedEntry, slice_cmp, subst, SurvivorsAreDistinct, sym, ℕ}
+use Imports.{one_or, SealedEntry, slice_cmp, subst, SurvivorsAreDistinct, sym, ℕ}
 use Imports.{◌++◌, ◌∙◌, ◌∷◌, ◌≡◌, ◌≢◌}
 use Rattle.log_commands.proofs.EntryTexts.{one_name}
 use Rattle.log_commands.specs.declared.order_word.OrderWord.TheVariants as says
 use Rattle.entry_graph.specs.EntryGraph.{EntryGraph}
-use Rattle.log_files.specs.declared.sealed_log.LogRead.{LogRead}
+use Rattle.log_files.specs.Logs.{LogRead}
 
 -- files give one roster and one list of logs, entries give one graph, and its survivors are sound
 pub record OrderOne : Type 0 where
@@ -121,26 +121,21 @@ module _ (S : List SealedEntry) (no_cycle : (e : SealedEntry) → ¬ Precedes no
 same_over : OrderOne → (machines : List Post) (u v : List ℕ) (given : List SealedEntry) (a b : Answer) →
     IsOrderOver machines u v given a → IsOrderOver machines u v given b → a ≡ b
 same_over one machines u v given a b =
-    same_or SameGraph _ (λ (graph : EntryGraph SealedEntry). IsOrderAmong machines graph.survivors u v) a b
-    (one.graph given)
-    (λ f g gives same x y. same_among f.survivors (λ e. one.no_cycle given f e gives) machines u v a b
-    (one.digests given f gives) x (subst (λ S. IsOrderAmong machines S u v b) (sym same.survivors) y))
+    one_or _ (λ (graph : EntryGraph SealedEntry). IsOrderAmong machines graph.survivors u v) a b (one.graph given)
+    (λ f gives. same_among f.survivors (λ e. one.no_cycle given f e gives) machines u v a b (one.digests given f gives))
 
 -- and so there is over the files of logs, under the roster that was read
 same_under : OrderOne → (read : RosterRead) (u v : List ℕ) (logs : List (List ℕ)) (files : List (Option (List ℕ)))
     (a b : Answer) → IsOrderUnder read u v logs files a → IsOrderUnder read u v logs files b → a ≡ b
 same_under one read u v logs files a b first second =
-    same_or SameLogs _ (λ (found : List LogRead). IsOrderOver read.roster.machines u v (entries_of found)) a b
+    one_or _ (λ (found : List LogRead). IsOrderOver read.roster.machines u v (entries_of found)) a b
     (one.logs read.roster.machines read.election logs files)
-    (λ f g gives same x y. same_over one read.roster.machines u v (entries_of f) a b x
-    (subst (λ es. IsOrderOver read.roster.machines u v es b) (sym (same_entries f g same)) y)) first.right second.right
+    (λ found gives. same_over one read.roster.machines u v (entries_of found) a b) first.right second.right
 
 -- `order` has one answer over given files
 pub same_order : OrderOne → (roster u v : List ℕ) (logs : List (List ℕ)) (file : Option (List ℕ))
     (files : List (Option (List ℕ))) (a b : Answer) → IsOrderAnswer roster u v logs file files a →
     IsOrderAnswer roster u v logs file files b → a ≡ b
 same_order one roster u v logs file files a b first second =
-    same_or (λ (f g : RosterRead). f ≡ g) _ (λ (read : RosterRead). IsOrderUnder read u v logs files) a b
-    (λ p q x y. agree_equal p q (one.roster roster file p q x y))
-    (λ f g gives same x y. same_under one f u v logs files a b x
-    (subst (λ r. IsOrderUnder r u v logs files b) (sym same) y)) first.right second.right
+    one_or _ (λ (read : RosterRead). IsOrderUnder read u v logs files) a b (one.roster roster file)
+    (λ read gives. same_under one read u v logs files a b) first.right second.right

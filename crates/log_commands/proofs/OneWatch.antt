@@ -1,36 +1,28 @@
 -- Files give at most one answer to `watch`.
 use Rattle.log_commands.proofs.Imports
-use Imports.{[], Agree, agree_equal, Answer, ap, AuditReport, ends_agree, entries_of, Evidence, FilesGiveOneReport}
-use Imports.{GivesEvidence, GivesGraph, GivesReport, GivesSummaries, GivesWatch, inl, inr, IsOne, List, LogRead}
-use Imports.{logs_then_one, Ok, Ones, Option, outcome_of, ReadsLogs, ReadsRules, refl, Refusal, Result, roster_then_one}
-use Imports.{RosterRead, rules_then_one, RulesAreReadInOneWay, RuleSource, RuleTree, same_entries, SameGraph, SameLogs}
-use Imports.{SameReport, SealedEntry, status_by, steps_agree, subst, Summary, sym, watch_answer, watch_lines, Watches}
-use Imports.{WithLogs, WithRules, ℕ, ◌∙◌, ◌≡◌}
+use Imports.{[], Agree, agree_equal, Answer, ap, AuditReport, entries_of, Evidence, FilesGiveOneReport, first_then_one}
+use Imports.{GivesEvidence, GivesGraph, GivesReport, GivesWatch, inl, inr, IsOne, List, LogRead, logs_then_one, Ok, Ones}
+use Imports.{Option, outcome_of, ReadsLogs, ReadsRules, Refusal, Result, roster_then_one, RosterRead, rules_then_one}
+use Imports.{RulesAreReadInOneWay, RuleSource, RuleTree, SameReport, status_by, steps_agree, subst, Summary, sym}
+use Imports.{watch_answer, watch_lines, Watches, WithLogs, WithRules, ℕ, ◌∙◌, ◌≡◌}
 use Rattle.log_commands.proofs.FilesBegun.{opened, same_found, whole_by}
 use Rattle.log_commands.proofs.{OneOrderAnswer.OrderOne, OneProof.ones_of, Summaries.summaries_agree}
 
 -- ---- the evidence
-
--- what is read is of the same machines and rules, and the logs say the same
-pub record SameEvidence (a b : Evidence) : Type 0 where
-  pub machines : a.machines ≡ b.machines
-  pub rules : a.rules ≡ b.rules
-  pub logs : SameLogs a.logs b.logs
 
 -- what an audit goes on with these logs
 abbrev these : RosterRead → List RuleTree → List LogRead → Evidence
 these read rules logs = record { machines = read.roster.machines; rules = rules; logs = logs }
 
 -- files give one evidence, or one refusal
-pub evidence_agrees : Ones → (names : List (List ℕ)) (roster : List ℕ) (source : RuleSource)
-    (files : List (Option (List ℕ))) → IsOne SameEvidence (GivesEvidence roster source names files)
-evidence_agrees ones names roster source =
-    roster_then_one ones SameEvidence roster (λ read. ReadsRules read source names)
-    (λ read. rules_then_one SameEvidence ones.readings source (λ rules files. ReadsLogs read rules names files)
-    (λ rules files. logs_then_one ones SameEvidence read names files
-    (λ logs answer. answer ≡ Ok (these read rules logs))
-    (λ logs others same. ends_agree SameEvidence (these read rules logs) (these read rules others)
-    (record { machines = refl; rules = refl; logs = same }))))
+pub one_evidence : Ones → (names : List (List ℕ)) (roster : List ℕ) (source : RuleSource)
+    (files : List (Option (List ℕ))) → IsOne (λ a b. a ≡ b) (GivesEvidence roster source names files)
+one_evidence ones names roster source =
+    let Same : Evidence → Evidence → Type 0 = λ a b. a ≡ b in
+    roster_then_one ones Same roster (λ read. ReadsRules read source names)
+    (λ read. rules_then_one Same ones.readings source (λ rules files. ReadsLogs read rules names files)
+    (λ rules files. logs_then_one ones Same read names files (λ logs answer. answer ≡ Ok (these read rules logs))
+    (λ logs p q x y. agree_equal p q (x ∙ sym y))))
 
 -- ---- the report
 
@@ -68,32 +60,19 @@ same_answer : (ss ts : List Summary) (report other : AuditReport) → watch_line
 same_answer ss ts report other lines outcome =
     λ i. record { status = status_by (outcome i); files = []; ahead = 0; output = lines i }
 
-module _ (order : OrderOne) (readings : RulesAreReadInOneWay) (reports : FilesGiveOneReport) (roster : List ℕ)
-    (source : RuleSource) (names : List (List ℕ)) (files : List (Option (List ℕ))) (a b : Evidence)
-    (is : GivesEvidence roster source names files (Ok a)) (also : GivesEvidence roster source names files (Ok b))
-    (same : SameEvidence a b) where
-  -- what the one's entries give, the other's do
-  entries : entries_of a.logs ≡ entries_of b.logs
-  entries = same_entries a.logs b.logs same.logs
-
-  summaries_of : (q : Result (List Summary) Refusal) →
-      GivesSummaries b.machines source b.rules (entries_of b.logs) q →
-      GivesSummaries a.machines source a.rules (entries_of a.logs) q
-  summaries_of q y = coe 1 0 (i. GivesSummaries (same.machines i) source (same.rules i) (entries i) q) y
-
-  watches_agree : (p q : Result Answer Refusal) → Watches source names a p → Watches source names b q →
-      Agree (λ x y. x ≡ y) p q
-  watches_agree =
-      steps_agree _ _ _ _ SameGraph (λ x y. x ≡ y)
-      (λ g h left right. order.graph (entries_of a.logs) g h left
-      (subst (λ (es : List SealedEntry). GivesGraph es h) (sym entries) right))
-      (λ g h left right alike. steps_agree _ _ _ _ (λ ss ts. watch_lines 1 ss ≡ watch_lines 1 ts) (λ x y. x ≡ y)
-      (λ ss ts of_a of_b. summaries_agree order.graph a.machines source a.rules (entries_of a.logs) ss ts of_a
-      (summaries_of ts of_b))
+module _ (order : OrderOne) (reports : FilesGiveOneReport) (roster : List ℕ) (source : RuleSource)
+    (names : List (List ℕ)) (files : List (Option (List ℕ))) (a : Evidence)
+    (is : GivesEvidence roster source names files (Ok a)) where
+  -- the evidence gives one answer
+  one_watched : IsOne (λ x y. x ≡ y) (Watches source names a)
+  one_watched =
+      first_then_one (λ x y. x ≡ y) (GivesGraph (entries_of a.logs)) _ (order.graph (entries_of a.logs))
+      (λ g left. steps_agree _ _ _ _ (λ ss ts. watch_lines 1 ss ≡ watch_lines 1 ts) (λ x y. x ≡ y)
+      (summaries_agree order.graph a.machines source a.rules (entries_of a.logs))
       (λ ss ts of_a of_b lines. steps_agree _ _ _ _ SameReport (λ x y. x ≡ y)
       (λ r s one other. reports roster source names files r s
       (report_by names roster source files a r is (inl (g, left, one)))
-      (report_by names roster source files b s also (inl (h, right, other))))
+      (report_by names roster source files a s is (inl (g, left, other))))
       (λ report other one two says p q e f.
       agree_equal p q (e ∙ ap Ok (same_answer ss ts report other lines says.outcome) ∙ sym f))))
 
@@ -102,6 +81,7 @@ pub one_watch : OrderOne → RulesAreReadInOneWay → FilesGiveOneReport → (ro
     (names : List (List ℕ)) (files : List (Option (List ℕ))) (p q : Result Answer Refusal) →
     GivesWatch roster source names files p → GivesWatch roster source names files q → Agree (λ x y. x ≡ y) p q
 one_watch order readings reports roster source names files =
-    steps_agree _ _ _ _ SameEvidence (λ x y. x ≡ y)
-    (evidence_agrees (ones_of order readings) names roster source files)
-    (λ a b is also same. watches_agree order readings reports roster source names files a b is also same)
+    steps_agree _ _ _ _ (λ a b. a ≡ b) (λ x y. x ≡ y)
+    (one_evidence (ones_of order readings) names roster source files)
+    (λ a b is also same p q x y. one_watched order reports roster source names files a is p q x
+    (subst (λ ev. Watches source names ev q) (sym same) y))

@@ -4,7 +4,7 @@ use Rattle.log_commands.proofs.Imports.{entries_of, EntryGraph, Err, GiveEntries
 use Rattle.log_commands.proofs.Imports.{HasStatuses, inl, inr, IsCarriedOut, IsCompleted, IsOfCommands, IsOrderAmong}
 use Rattle.log_commands.proofs.Imports.{IsOrderOver, IsOrderOverLogs, IsOrderUnder, line_answer, List, LogRead}
 use Rattle.log_commands.proofs.Imports.{MeansEntry, no_entry, of_read, Ok, Option, order_parts, order_word, OrRefused}
-use Rattle.log_commands.proofs.Imports.{Post, refl, RosterRead, same_entries, SealedEntry, Status, subst, ℕ, ◌∷◌, ◌≡◌}
+use Rattle.log_commands.proofs.Imports.{Post, refl, RosterRead, SealedEntry, Status, subst, ℕ, ◌∷◌, ◌≡◌}
 use Rattle.log_commands.proofs.OneOrderAnswer.{OrderOne, same_order}
 use Rattle.command_line.specs.declared.status.Status.TheVariants as status
 use Rattle.evidence.specs.Graphs.{GivesGraph, entries_of}
@@ -39,18 +39,22 @@ module _ (one : OrderOne) (x y : List ℕ) (answer : Answer) where
     where
       -- over the entries of the logs, which have a graph
       over : IsOrderOver given.read.roster.machines x y (entries_of given.found) answer → IsCarriedOut answer.status
-      over (inl (refusal, gives, e)) = absurd (one.graph _ (Err refusal) (Ok given.graph) gives given.of_entries)
+      over (inl (refusal, gives, e)) =
+          let same = one.graph _ (Err refusal) (Ok given.graph) gives given.of_entries in cc
       over (inr (graph, gives, is)) =
+          let same : Ok graph ≡ Ok given.graph = one.graph _ (Ok graph) (Ok given.graph) gives given.of_entries in
+          let graph_is : graph ≡ given.graph = cc in
           among_complete _ given.graph.survivors given.e given.f given.first given.second
-          (subst (λ S. IsOrderAmong given.read.roster.machines S x y answer)
-          (one.graph _ (Ok graph) (Ok given.graph) gives given.of_entries).survivors is)
+          (subst (λ g. IsOrderAmong given.read.roster.machines g.survivors x y answer) graph_is is)
 
       -- over the logs, of which none is refused
       over_logs : IsOrderOverLogs given.read x y logs files answer → IsCarriedOut answer.status
-      over_logs (inl (refusal, gives, e)) = absurd (one.logs _ _ logs files (Err refusal) _ gives given.of_logs)
+      over_logs (inl (refusal, gives, e)) =
+          let same = one.logs _ _ logs files (Err refusal) (Ok given.found) gives given.of_logs in cc
       over_logs (inr (found, gives, is)) =
-          over (subst (λ es. IsOrderOver given.read.roster.machines x y es answer)
-          (same_entries found given.found (one.logs _ _ logs files (Ok found) _ gives given.of_logs)) is)
+          let same : Ok found ≡ Ok given.found = one.logs _ _ logs files _ _ gives given.of_logs in
+          let found_is : found ≡ given.found = cc in
+          over (subst (λ ls. IsOrderOver given.read.roster.machines x y (entries_of ls) answer) found_is is)
 
 pub order_completed : OrderOne → (roster x y : List ℕ) (logs : List (List ℕ)) →
     IsCompleted (order_parts roster x y logs)

@@ -3,9 +3,9 @@ use Rattle.log_commands.proofs.Imports
 use Imports.{[], After, Agree, AllZip, ap, append-nil, append_assoc, AreJudged, AreSummaries, arith, cases_lt}
 use Imports.{cases_order, codes, element_at, EntriesGiveOneGraph, Err, GivesSummaries, inl, inr, is_broken, is_kept}
 use Imports.{is_too_wide, is_unsettled, IsFirstTooWide, IsNarrowOver, IsTooWideAfter, IsTooWideOver, judged_is_narrow}
-use Imports.{last_at, length, length-append, length-map, length-take-le, List, map, nodes_of, Ok, one_count, one_place}
+use Imports.{last_at, length, length-append, length-take-le, List, map, nodes_of, Ok, one_count, one_place}
 use Imports.{Post, push_before, refl, Refusal, refused, Result, row_of, RuleSource, RuleTree, same_count, same_Some}
-use Imports.{SameGraph, SameVerdict, SealedEntry, slice_get, slice_get_within, Some, source_word, standard, subst, suc}
+use Imports.{EntryGraph, SameVerdict, SealedEntry, slice_get, slice_get_within, Some, source_word, standard, subst, suc}
 use Imports.{Summary, sym, take, take-take, true, verdicts_agree, watch_line, watch_lines, ℕ, ◌++◌, ◌+◌, ◌<◌, ◌∙◌, ◌∷◌}
 use Imports.{◌≡◌, ◌≤◌, ◌⊎◌}
 use Rattle.std.proofs.lemmas.Bool.{false≢true}
@@ -74,36 +74,39 @@ same_line n s t survivors gaps verdicts =
     let unsettled = same_count is_unsettled (λ v w same. (one_count v w same).unsettled) s.verdicts t.verdicts verdicts in
     rw (survivors, gaps, kept, broken, unsettled) refl
 
+-- two graphs that are found are one where the answers are
+pub one_found : {g h : EntryGraph SealedEntry} → ◌≡◌ {A = Result (EntryGraph SealedEntry) Refusal} (Ok g) (Ok h) → g ≡ h
+one_found e = cc
+
 module _ (graphs : EntriesGiveOneGraph) (machines : List Post) (rules : List RuleTree) (entries : List SealedEntry) where
   -- entries are said in one way
   pub one_line : (s t : Summary) → After machines rules entries s → After machines rules entries t → (n : ℕ) →
       watch_line n s ≡ watch_line n t
   one_line s t a b n =
-      let same : SameGraph a.graph b.graph = graphs entries (Ok a.graph) (Ok b.graph) a.graphed b.graphed in
-      same_line n s t (a.survivors ∙ ap length same.survivors ∙ sym b.survivors)
-      (a.gaps ∙ same.gaps ∙ sym b.gaps)
-      (verdicts_agree _ a.graph b.graph a.graphed.2.kept.linked.arrows.descends
-      b.graphed.2.kept.linked.arrows.descends same (length-map a.graph.survivors (row_of machines)) standard rules
-      (Ok s.verdicts) (Ok t.verdicts) a.judged
-      (coe 1 0 (i. AreJudged (map (row_of machines) (same.survivors i)) (nodes_of b.graph) rules t.verdicts) b.judged))
+      let same = one_found (graphs entries (Ok a.graph) (Ok b.graph) a.graphed b.graphed) in
+      same_line n s t (a.survivors ∙ ap (λ g. length g.survivors) same ∙ sym b.survivors)
+      (a.gaps ∙ ap (λ g. g.gaps) same ∙ sym b.gaps)
+      (verdicts_agree (map (row_of machines) a.graph.survivors) (nodes_of a.graph) standard rules (Ok s.verdicts)
+      (Ok t.verdicts) a.judged
+      (subst (λ g. AreJudged (map (row_of machines) g.survivors) (nodes_of g) rules t.verdicts) (sym same) b.judged))
 
   -- and where they are, no rule is too wide
   said_is_narrow : (s : Summary) → After machines rules entries s → (place : ℕ) →
       IsTooWideOver machines rules entries place → ⊥
   said_is_narrow s a place (graph, graphed, first) =
-      let same : SameGraph a.graph graph = graphs entries (Ok a.graph) (Ok graph) a.graphed graphed in
+      let same = one_found (graphs entries (Ok a.graph) (Ok graph) a.graphed graphed) in
       let narrow = judged_is_narrow (map (row_of machines) a.graph.survivors) (nodes_of a.graph) rules s.verdicts place
       first.rule a.judged first.stands in
-      let wide = coe 1 0 (i. is_too_wide (map (row_of machines) (same.survivors i)) first.rule.body 1 ≡ true)
+      let wide = subst (λ g. is_too_wide (map (row_of machines) g.survivors) first.rule.body 1 ≡ true) (sym same)
       first.too_wide in
       false≢true (sym narrow ∙ wide)
 
   -- the first rule that is too wide has one place
   one_wide : (p q : ℕ) → IsTooWideOver machines rules entries p → IsTooWideOver machines rules entries q → p ≡ q
   one_wide p q (graph, graphed, first) (other, also, second) =
-      let same : SameGraph graph other = graphs entries (Ok graph) (Ok other) graphed also in
+      let same = one_found (graphs entries (Ok graph) (Ok other) graphed also) in
       one_place (map (row_of machines) graph.survivors) rules p q first
-      (coe 1 0 (i. IsFirstTooWide (map (row_of machines) (same.survivors i)) rules q) second)
+      (subst (λ g. IsFirstTooWide (map (row_of machines) g.survivors) rules q) (sym same) second)
 
 module _ (graphs : EntriesGiveOneGraph) (machines : List Post) (rules : List RuleTree)
     (entries : List SealedEntry) where

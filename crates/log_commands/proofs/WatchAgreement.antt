@@ -1,9 +1,9 @@
 -- What `watch` has in common with an audit.
 use Rattle.log_commands.proofs.Imports
-use Imports.{[], absent, After, AgreesWithAudit, Answer, ap, arith, entries_of, EntriesGiveOneGraph, Err, Evidence}
+use Imports.{[], After, AgreesWithAudit, Answer, ap, arith, entries_of, EntriesGiveOneGraph, Err, Evidence}
 use Imports.{FilesGiveOneReport, GivesEvidence, GivesReport, inl, inr, IsAuditOver, IsOfReport, IsWatchOver, last_at}
-use Imports.{length, length-append, List, nil_from_length, Ok, Option, PrintsLast, refl, Refusal, refusal_answer}
-use Imports.{refused, report_answer, RuleSource, slice_get, Some, source_named, status_is, subst, summary_of, sym}
+use Imports.{length, length-append, List, nil_from_length, Ok, Option, PrintsLast, refl, refusal_answer}
+use Imports.{report_answer, RuleSource, slice_get, Some, source_named, status_is, subst, summary_of, sym}
 use Imports.{take_all, watch_line, watch_lines, WatchesAgreeWithAudits, ℕ, ◌++◌, ◌+◌, ◌∙◌, ◌∷◌, ◌≡◌, ◌≢◌}
 use Rattle.log_commands.proofs.WatchCommand.{IsToldOf, report_in, told_of}
 use Rattle.log_commands.proofs.{AuditCommand.same_told, OneWatch.report_by, SoundReports.given_is_sound}

@@ -9,12 +9,12 @@ use Imports.{IsPermutation-keeps, IsPermutation-map, IsPermutation-refl, IsPermu
 use Imports.{IsPermutation-trans, IsSealedGraph, IsSealedLogOf, IsValid, length, length-flat_map, length-map, List}
 use Imports.{list_any, list_any-IsPermutation, log_has_finding, LogRead, map, map-set, NamedLog, nil_from_length}
 use Imports.{node_of_sealed, Ok, Option, OrdersOfLogsEndAlike, outcome_by, outcome_of, Post, PrintsLast, ReadsLogs}
-use Imports.{refl, report_on, RosterRead, RulesAreReadInOneWay, RuleSource, RuleTree, same_entries, same_text}
+use Imports.{refl, report_on, RosterRead, RulesAreReadInOneWay, RuleSource, RuleTree, same_text}
 use Imports.{SameReport, SealedEntry, set, source_named, status_by, status_is, subst, sum_by-IsPermutation, summary_of}
 use Imports.{swap, sym, text_of_sealed, watch_line, watch_lines, ℕ, ◌++◌, ◌<◌, ◌||◌, ◌↔◌, ◌∙◌, ◌∷◌, ◌≡◌, ◌≢◌, ◌≤◌}
 use Rattle.log_commands.proofs.FilesBegun.{begun_by, same_found, whole_by}
 use Rattle.log_commands.proofs.WatchAgreement.{IsMadeOf, last_line, made_of, report_made}
-use Rattle.log_commands.proofs.{OneOrderAnswer.OrderOne, OneProof.ones_of, OneWatch.evidence_agrees, OneWatch.report_by}
+use Rattle.log_commands.proofs.{OneOrderAnswer.OrderOne, OneProof.ones_of, OneWatch.one_evidence, OneWatch.report_by}
 use Rattle.log_commands.proofs.{Summaries.same_line, WatchCommand.report_in, WatchReads.IsValidEntry}
 use Rattle.log_commands.proofs.{WatchReads.logs_are_valid}
 use lib.ListN.{get_or-map}
@@ -129,14 +129,14 @@ module _ (logs moved : List LogRead) (same : IsPermutation logs moved) where
   -- the same entries are kept
   kept_there : (e : SealedEntry) → Contains (entries_of logs) e → Contains (entries_of moved) e
   kept_there e has =
-      let of : LogRead → List SealedEntry = λ log. entries_of_records log.kept.items in
+      let of : LogRead → List SealedEntry = λ log. entries_of_records log.kept in
       let (log, there, among) = Contains-flat_map_cases of logs e has in
       Contains-flat_map of moved log e (Contains-permutation logs moved log same there) among
 
   -- and as many
   kept_as_many : length (entries_of logs) ≡ length (entries_of moved)
   kept_as_many =
-      let of : LogRead → List SealedEntry = λ log. entries_of_records log.kept.items in
+      let of : LogRead → List SealedEntry = λ log. entries_of_records log.kept in
       length-flat_map of logs ∙ sym (sum_by-IsPermutation (λ (log : LogRead). length (of log)) logs moved same)
       ∙ sym (length-flat_map of moved)
 
@@ -249,9 +249,9 @@ module _ (order : OrderOne) (readings : RulesAreReadInOneWay) (reports : FilesGi
     -- the logs in the other order say what was read of it
     entries : entries_of moved.logs ≡ entries_of two.found.logs
     entries =
-        same_entries moved.logs two.found.logs
-        (evidence_agrees (ones_of order readings) (names_of others) roster source read_there (Ok evidence)
-        (Ok two.found) moved.gives two.gives).logs
+        ap (λ (found : Evidence). entries_of found.logs)
+        (one_evidence (ones_of order readings) (names_of others) roster source read_there (Ok evidence)
+        (Ok two.found) moved.gives two.gives)
 
     -- the graph is that of both
     graphed : GivesGraph (entries_of moved.logs) (Ok one.of.graph)
@@ -298,7 +298,7 @@ module _ (order : OrderOne) (readings : RulesAreReadInOneWay) (reports : FilesGi
             long ∙ sym as_many,
             line ∙ ap (λ m. watch_lines 1 earlier ++ watch_line m (summary_of (report_in two.of))) (sym as_many)
                 ∙ ap (λ (l : List ℕ). watch_lines 1 earlier ++ l) (sym (same_line n (summary_of second)
-                (summary_of (report_in two.of)) (ap length same.graph.survivors) same.graph.gaps same.verdicts)),
+                (summary_of (report_in two.of)) (ap (λ g. length g.survivors) same.graph) (ap (λ g. g.gaps) same.graph) same.verdicts)),
           ) in
           (n, summary_of (report_in one.of), last_line order.graph (names_of files) one.found told one.of some, there);
     }

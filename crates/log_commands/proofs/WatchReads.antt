@@ -21,8 +21,8 @@ module _ (machines : List Post) (election : List ℕ) where
   logs_are_valid (name ∷ names) (file ∷ files) [] gives = absurd gives
   logs_are_valid (name ∷ names) (None ∷ files) (log ∷ logs) (none, rest) = absurd none
   logs_are_valid (name ∷ names) (Some bytes ∷ files) (log ∷ logs) (says, rest) =
-      All-append IsValidEntry (entries_of_records log.kept.items) (entries_of logs)
-      (All-map IsValidEntry (λ (kept : Kept). kept.entry) log.kept.items (log_is_valid machines election bytes log says.1))
+      All-append IsValidEntry (entries_of_records log.kept) (entries_of logs)
+      (All-map IsValidEntry (λ (kept : Kept). kept.entry) log.kept (log_is_valid machines election bytes log says.1))
       (logs_are_valid names files logs rest)
 
 -- the entries of the evidence were made by machines of its roster

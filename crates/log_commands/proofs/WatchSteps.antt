@@ -9,9 +9,9 @@ use Rattle.log_commands.proofs.Imports.{node_of_sealed, SealedEntry, EntryGraph,
 use Rattle.log_commands.proofs.Imports.{distinct_new, distinct_again, distinct_given, distinct_bears, IsNew}
 use Rattle.log_commands.proofs.Imports.{has_digest, has_digest_of, has_digest_from, Post, LogRead, Rule, rule_tree}
 use Rattle.log_commands.proofs.Imports.{RuleTree, InputFault, entries_of, GivesGraph, EntriesGiveOneGraph}
-use Rattle.log_commands.proofs.Imports.{refused, refusal_of, IsFaultOf, SameGraph, StandFor, text_of_sealed}
+use Rattle.log_commands.proofs.Imports.{refused, refusal_of, IsFaultOf, StandFor, text_of_sealed}
 use Rattle.log_commands.proofs.Imports.{of_refusal, same_gives, stand_copied, stand_repeated}
-use Rattle.log_commands.proofs.Imports.{graph_has_finding, has_some, is_broken, is_unsettled, log_has_finding}
+use Rattle.log_commands.proofs.Imports.{graph_has_finding, is_broken, is_unsettled, log_has_finding}
 use Rattle.log_commands.proofs.Imports.{outcome_by, AuditReport, report_on, is_kept}
 use Rattle.log_commands.proofs.Imports.{Fresh, New, Known, LiveFault, Collision, TooMany, Becomes, Collides}
 use Rattle.log_commands.proofs.Imports.{IsAddAnswer, IsOfSameAudit, IsTooWideOver, LiveState, IsLive, max_added}
@@ -29,7 +29,7 @@ use Rattle.rule_engine.specs.declared.verdict.Verdict.{Verdict}
 use Rattle.live_auditor.specs.declared.fresh.LiveFault.TheVariants.{TooWide as LiveTooWide}
 use Rattle.log_commands.specs.declared.watch.Unwatched.TheVariants.{TooWide, Memory}
 use Rattle.log_commands.proofs.CheckAnswers.{names_itself}
-use Rattle.log_commands.proofs.Summaries.{lines_more, none_said, none_wide, said_more}
+use Rattle.log_commands.proofs.Summaries.{lines_more, none_said, none_wide, one_found, said_more}
 
 -- ---- how many are different
 
@@ -335,12 +335,9 @@ narrow_given graphs machines trees rules added given s a stand none = record {
   graph = a.graph;
   graphed = graphed;
   narrow = λ place (graph, gives, first).
-      let same : SameGraph graph a.graph = graphs given (Ok graph) (Ok a.graph) gives graphed in
-      none place (
-        a.graph,
-        a.graphed,
-        subst (λ (S : List SealedEntry). IsFirstTooWide (map (row_of machines) S) rules place) same.survivors first,
-      );
+      let same = one_found (graphs given (Ok graph) (Ok a.graph) gives graphed) in
+      none place
+      (a.graph, a.graphed, subst (λ g. IsFirstTooWide (map (row_of machines) g.survivors) rules place) same first);
 }
   where
     graphed : IsSealedGraph given (Ok a.graph)
@@ -384,14 +381,6 @@ pub none_told : (machines : List Post) (rules : List RuleTree) (es : List Sealed
 none_told machines rules es = ([], none_said machines rules es, refl)
 
 -- ---- the answer
-
--- of two graphs that agree both have a finding, or neither has
-same_findings : (graph other : EntryGraph SealedEntry) → SameGraph graph other →
-    graph_has_finding graph ≡ graph_has_finding other
-same_findings graph other same =
-    ap (λ (ds : List (List ℕ)). has_some ds || (has_some graph.forks || has_some graph.gaps)) same.strays
-    ∙ ap (λ (fs : List (ℕ × ℕ)). has_some other.strays || (has_some fs || has_some graph.gaps)) same.forks
-    ∙ ap (λ (ds : List (List ℕ)). has_some other.strays || (has_some other.forks || has_some ds)) same.gaps
 
 module _ (machines : List Post) (word : List ℕ) (rules : List Rule) (logs : List LogRead) (names : List (List ℕ))
     (graph : EntryGraph SealedEntry) (graphed : GivesGraph (entries_of logs) (Ok graph)) where
@@ -449,7 +438,7 @@ module _ (machines : List Post) (word : List ℕ) (rules : List Rule) (logs : Li
         (subst (StandFor node_of_sealed text_of_sealed live.added) all stand)
         (subst (λ ms. After ms trees live.added live.summary) one_roster
         (subst (λ rs. After live.machines (map rule_tree rs) live.added live.summary) one_list is.after)) in
-        let same : SameGraph graph a.graph = graphs (entries_of logs) (Ok graph) (Ok a.graph) graphed a.graphed in
+        let same = one_found (graphs (entries_of logs) (Ok graph) (Ok a.graph) graphed a.graphed) in
         let report : AuditReport = report_on machines names logs a.graph trees verdicts in
         let ends : Bool → Status = λ b.
         status_by (outcome_by (list_any is_broken verdicts) (list_any is_unsettled verdicts)
@@ -457,7 +446,7 @@ module _ (machines : List Post) (word : List ℕ) (rules : List Rule) (logs : Li
         let is_told : answer ≡ watch_answer ss report =
         made
         ∙ ap (λ (b : Bool). record { status = ends b; files = []; ahead = 0; output = text })
-        (same_findings graph a.graph same)
+        (ap (λ (g : EntryGraph SealedEntry). graph_has_finding g) same)
         ∙ ap (λ (t : List ℕ). record { status = ends (graph_has_finding a.graph); files = []; ahead = 0; output = t })
         lines in
         inl (a.graph, a.graphed, inl (ss, (few, said), inl (report, inl (verdicts, a.judged, refl), ap Ok is_told)))

@@ -2,7 +2,7 @@
 use Rattle.std.specs.Prelude.{◌≡◌, ℕ, List, [], ◌∷◌, ◌++◌, Option, ◌⊎◌, codes, ⊤}
 use Rattle.entry_order.specs.Survivors.{gaps}
 use Rattle.entry_format.specs.Nodes.{node_of}
-use Rattle.log_files.specs.declared.plain_log.PlainLog.{PlainLog}
+use Rattle.log_files.specs.Logs.{PlainLog}
 use Rattle.log_files.specs.declared.plain_log.LogFault.{LogFault}
 use Rattle.log_files.specs.declared.plain_log.LogFault.TheVariants.{Absent, TooLong, Header, ReadFault, Memory}
 use Rattle.log_files.specs.LogFile.{IsLogOf, IsLogRefused}
@@ -16,7 +16,7 @@ use Rattle.command_line.specs.CommandParts.{CommandParts}
 -- (Auditorium, EVT 2007)
 abbrev pub gaps_log_lines : List ℕ → PlainLog → List ℕ
 gaps_log_lines name log =
-    refused_lines name log.refused.items ++ end_line name log.end ++ gap_lines (gaps node_of log.kept.items)
+    refused_lines name log.refused ++ end_line name log.end ++ gap_lines (gaps node_of log.kept)
 
 -- the answer where the log is refused; a failed read and running out of memory have none
 abbrev pub IsRefusal : List ℕ → LogFault → Answer → Type 0

@@ -7,7 +7,7 @@ use Rattle.entry_order.specs.HeldBefore.{HeldBefore}
 use Rattle.entry_order.specs.Naming.{Distinct}
 use Rattle.entry_order.specs.World.{World, sent_in}
 use Rattle.election_script.specs.declared.script.Script.{Script}
-use Rattle.log_files.specs.declared.sealed_log.LogRead.{LogRead}
+use Rattle.log_files.specs.Logs.{LogRead}
 use Rattle.polling_world.specs.Keys.{roster_of}
 use Rattle.polling_world.specs.Making.{election_of}
 use Rattle.honest_places.specs.HonestReading.{IsHonestlyRead}

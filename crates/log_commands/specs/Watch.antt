@@ -7,7 +7,7 @@ use Rattle.entry_format.specs.Nodes.{node_of_sealed}
 use Rattle.entry_format.specs.SealedEntry.{SealedEntry}
 use Rattle.entry_graph.specs.EntryGraph.{EntryGraph}
 use Rattle.entry_graph.specs.Given.{distinct}
-use Rattle.log_files.specs.declared.sealed_log.LogRead.{LogRead}
+use Rattle.log_files.specs.Logs.{LogRead}
 use Rattle.rule_language.specs.Trees.{RuleTree}
 use Rattle.evidence.specs.Refusal.{Refusal, refused}
 use Rattle.evidence.specs.RosterFile.{GivesRoster}

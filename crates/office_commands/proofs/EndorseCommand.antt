@@ -1,6 +1,6 @@
 -- The command `endorse`.
 use Rattle.std.proofs.Common.{Option, Some}
-use Rattle.office_commands.proofs.Imports.{agree_equal, ◌≡◌, ◌≢◌, ◌∙◌, ℕ, ◌<◌, List, [], ◌∷◌, None, inl, inr, refl}
+use Rattle.office_commands.proofs.Imports.{◌≡◌, ◌≢◌, ◌∙◌, ℕ, ◌<◌, List, [], ◌∷◌, None, inl, inr, refl}
 use Rattle.office_commands.proofs.Imports.{sym, ap, subst, arith, Result, Ok, Err, IsSomeAnd, All-from_recursion}
 use Rattle.office_commands.proofs.Imports.{IsFileRefused, Office, IsOffice, max_signatures, one_office, Refusal}
 use Rattle.office_commands.proofs.Imports.{too_long, Answer, AtLast, FileThen}
@@ -12,7 +12,7 @@ use Rattle.command_line.specs.declared.status.Status.TheVariants as status
 use Rattle.command_line.proofs.CommandProofs.{IsOfCommands, HasStatuses, IsCompleted, HasOneAnswer, contains_as}
 use Rattle.command_line.proofs.CommandProofs.{carried_out_as, of_read, status_is}
 use Rattle.office_commands.proofs.FileSteps.{one_bytes, one_last, one_of_files, read_completed}
-use Rattle.command_line.proofs.SameOr.{same_or}
+use Rattle.command_line.proofs.SameOr.{one_or}
 
 -- an office's file that is too long is refused as too long
 pub long_office : (name : List ℕ) (this : Option (List ℕ)) → IsFileRefused max_small file.TooLong this →
@@ -60,9 +60,8 @@ one_unsigned name file =
 -- over files the command has one answer
 pub endorse_one : (name file : List ℕ) → HasOneAnswer (endorse_parts name file)
 endorse_one name file files a b x y =
-    same_or (λ (r s : Unsigned). r ≡ s) (GivesUnsigned name file files) (IsEndorsement name file) a b
-    (λ p q g h. agree_equal p q (one_unsigned name file files p q g h))
-    (λ r s gives same is also. is.told ∙ ap (endorse_answer name file) same ∙ sym also.told) x y
+    one_or (GivesUnsigned name file files) (IsEndorsement name file) a b (one_unsigned name file files)
+    (λ read gives is also. is.told ∙ sym also.told) x y
 
 -- `endorse` is carried out over files that are accepted
 pub endorse_completed : (name file : List ℕ) → IsCompleted (endorse_parts name file)

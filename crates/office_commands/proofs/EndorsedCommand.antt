@@ -2,7 +2,7 @@
 use Rattle.std.proofs.Common.{Option}
 use Rattle.std.specs.Prelude.{codes}
 use Rattle.std.specs.List.{Contains}
-use Rattle.office_commands.proofs.Imports.{agree_equal, ◌≡◌, ◌∙◌, ℕ, List, inl, inr, refl, sym, subst, arith}
+use Rattle.office_commands.proofs.Imports.{◌≡◌, ◌∙◌, ℕ, List, inl, inr, refl, sym, subst, arith}
 use Rattle.office_commands.proofs.Imports.{Result, All-from_recursion, Refusal}
 use Rattle.office_commands.proofs.Imports.{Answer, line_answer, AtLast, FileThen, GivesBytes}
 use Rattle.office_commands.proofs.Imports.{max_signed, max_small, GivesSigned, IsEndorsedVerdict, Signed}
@@ -11,7 +11,7 @@ use Rattle.command_line.specs.declared.status.Status.TheVariants as status
 use Rattle.command_line.proofs.CommandProofs.{IsOfCommands, HasStatuses, IsCompleted, HasOneAnswer, contains_as}
 use Rattle.command_line.proofs.CommandProofs.{carried_out_as, of_read}
 use Rattle.office_commands.proofs.FileSteps.{one_bytes, one_last, one_of_files, read_completed}
-use Rattle.command_line.proofs.SameOr.{same_or}
+use Rattle.command_line.proofs.SameOr.{one_or}
 
 -- what is printed of a signature
 abbrev pub good : Answer
@@ -45,9 +45,8 @@ one_verdict read a b (inr (none, e)) (inr (also, f)) = e ∙ sym f
 -- over files the command has one answer
 pub endorsed_one : (key file signature : List ℕ) → HasOneAnswer (endorsed_parts key file signature)
 endorsed_one key file signature files a b x y =
-    same_or (λ (r s : Signed). r ≡ s) (GivesSigned key file signature files) IsEndorsedVerdict a b
-    (λ p q g h. agree_equal p q (one_signed key file signature files p q g h))
-    (λ r s gives same is also. one_verdict s a b (subst (λ (t : Signed). IsEndorsedVerdict t a) same is) also) x y
+    one_or (GivesSigned key file signature files) IsEndorsedVerdict a b (one_signed key file signature files)
+    (λ read gives. one_verdict read a b) x y
 
 -- which is that of a command that was carried out
 told_done : (read : Signed) (answer : Answer) → IsEndorsedVerdict read answer → IsCarriedOut answer.status

@@ -1,6 +1,5 @@
 -- What the proofs of this crate take from others.
 pub use Rattle.auditor.proofs.Chained.{file_ends, file_joins, on_one}
-pub use Rattle.auditor.proofs.OneStep.{agree_equal}
 pub use Rattle.auditor.specs.Audits.{FileThen}
 pub use Rattle.command_line.specs.Reports.{IsCarriedOut}
 pub use Rattle.office_commands.specs.Endorse.{GivesUnsigned, IsEndorsement, Unsigned, endorse_answer, endorse_parts}

@@ -1,6 +1,5 @@
 -- What the proofs of this crate take from others.
 pub use Rattle.auditor.proofs.Chained.{on_one}
-pub use Rattle.auditor.proofs.OneStep.{agree_equal}
 pub use Rattle.command_line.specs.Reports.{IsCarriedOut}
 pub use Rattle.honest_places.specs.EachPlace.{LeaveHonestFiles}
 pub use Rattle.command_line.specs.Lines.{Answer, OrRefused, refusal_answer, status_of_undone}

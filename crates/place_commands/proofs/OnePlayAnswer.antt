@@ -1,13 +1,13 @@
 -- A script has at most one answer to `play`.
 use Rattle.std.proofs.Common.{Option, Some}
-use Rattle.place_commands.proofs.Imports.{agree_equal, ◌≡◌, ◌∙◌, ℕ, inl, inr, List, [], ◌∷◌, ◌++◌, None, ap, sym}
+use Rattle.place_commands.proofs.Imports.{◌≡◌, ◌∙◌, ℕ, inl, inr, List, [], ◌∷◌, ◌++◌, None, ap, sym}
 use Rattle.place_commands.proofs.Imports.{subst, arith, Result, Ok, Err, Script, ScriptFault, ScriptWhy, Left}
 use Rattle.place_commands.proofs.Imports.{roster_of, MachineState, ScriptsArePlayedInOneWay, WhatIsLeftIsToldInOneWay}
 use Rattle.place_commands.proofs.Imports.{script_why_word, Refusal, refused, Answer, undone_line, SayUndone}
 use Rattle.place_commands.proofs.Imports.{play_answer, IsPlayOf, IsPlayAnswer, GivesScript}
 use Rattle.election_script.specs.declared.faults.ScriptFault.TheVariants.{At}
 use Rattle.election_script.specs.Reading.{Reads}
-use Rattle.command_line.proofs.SameOr.{same_or}
+use Rattle.command_line.proofs.SameOr.{one_or}
 
 -- a text is read in one way, a script is played in one way, and what is left is reported in one way
 pub record PlayOne : Type 0 where
@@ -69,6 +69,5 @@ one_script one name (Some bytes) p q (inr (inr (short, (script, is, e)))) (inr (
 pub same_play : PlayOne → (name prefix : List ℕ) (file : Option (List ℕ)) (a b : Answer)
     → IsPlayAnswer name prefix file a → IsPlayAnswer name prefix file b → a ≡ b
 same_play one name prefix file a b =
-    same_or (λ (f g : Script). f ≡ g) (GivesScript name file) (IsPlayOf prefix) a b
-    (λ p q x y. agree_equal p q (one_script one name file p q x y))
-    (λ f g gives same x y. same_play_of one prefix g a b (subst (λ s. IsPlayOf prefix s a) same x) y)
+    one_or (GivesScript name file) (IsPlayOf prefix) a b (one_script one name file)
+    (λ script gives. same_play_of one prefix script a b)

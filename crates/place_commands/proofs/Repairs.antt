@@ -1,5 +1,5 @@
 -- A script whose machines play, are mended and finish.
-use Rattle.place_commands.proofs.Imports.{agree_equal, fun_ext, ◌≡◌, ◌∙◌, ℕ, List, [], ◌∷◌, ◌++◌, map, get_or, None}
+use Rattle.place_commands.proofs.Imports.{fun_ext, ◌≡◌, ◌∙◌, ℕ, List, [], ◌∷◌, ◌++◌, map, get_or, None}
 use Rattle.place_commands.proofs.Imports.{refl, sym, ap, subst, option_map, slice_get, length-map, slice_get-get_or}
 use Rattle.place_commands.proofs.Imports.{slice_get-map, node_of_sealed, SealedEntry, Event, Step, World, happens}
 use Rattle.place_commands.proofs.Imports.{start, Cast0, Script, Config, IsOf, config_of, script_configs, post_of}
@@ -14,7 +14,7 @@ use Rattle.std.proofs.Common.{false}
 use Rattle.std.specs.Prelude.{All}
 use Rattle.entry_order.specs.World.{play}
 use Rattle.place_commands.proofs.OnePlayAnswer.{PlayOne, one_script, same_undone}
-use Rattle.command_line.proofs.SameOr.{same_or}
+use Rattle.command_line.proofs.SameOr.{one_or}
 
 -- ---- what the script's machines are made of
 
@@ -127,9 +127,8 @@ same_repair_of one prefix script a b p q =
 pub same_repair : PlayOne → (name prefix : List ℕ) (file : Option (List ℕ)) (a b : Answer) →
     IsRepairAnswer name prefix file a → IsRepairAnswer name prefix file b → a ≡ b
 same_repair one name prefix file a b =
-    same_or (λ (f g : Script). f ≡ g) (GivesScript name file) (IsRepairOf prefix) a b
-    (λ p q x y. agree_equal p q (one_script one name file p q x y))
-    (λ f g gives same x y. same_repair_of one prefix g a b (subst (λ s. IsRepairOf prefix s a) same x) y)
+    one_or (GivesScript name file) (IsRepairOf prefix) a b (one_script one name file)
+    (λ script gives. same_repair_of one prefix script a b)
 
 -- ---- what the machines come to
 

@@ -13,7 +13,7 @@ use Rattle.entry_graph.specs.EntryGraph.{EntryGraph}
 use Rattle.entry_graph.specs.Given.{distinct}
 use Rattle.entry_graph.proofs.DistinctFacts.{distinct_given}
 use Rattle.log_files.specs.declared.sealed_log.Kept.{Kept}
-use Rattle.log_files.specs.declared.sealed_log.LogRead.{LogRead}
+use Rattle.log_files.specs.Logs.{LogRead}
 use Rattle.log_files.specs.LogFile.{IsSealedLogOf}
 use Rattle.log_files.specs.LogText.{Gives, EachGives, kept_of}
 use Rattle.log_files.specs.SealedLog.{IsReadSealed}
@@ -63,7 +63,7 @@ kept_each machines election place (t ∷ trees) (Ok kept ∷ readings) (gives, r
     valid (inr (none, e)) = cc
 
 log_each : (machines : List Post) (election : List ℕ) (log : LogRead) (file : Option (List ℕ)) →
-    IsSealedLogOf machines election log file → Each election (entries_of_records log.kept.items)
+    IsSealedLogOf machines election log file → Each election (entries_of_records log.kept)
 log_each machines election log None is = absurd is
 log_each machines election log (Some bytes) is =
     let says = is.1.says in
@@ -78,7 +78,7 @@ logs_each machines election [] (file ∷ files) logs gives = absurd gives
 logs_each machines election (name ∷ names) [] logs gives = absurd gives
 logs_each machines election (name ∷ names) (file ∷ files) [] gives = absurd gives
 logs_each machines election (name ∷ names) (file ∷ files) (log ∷ logs) gives =
-    each_append election (entries_of_records log.kept.items) (entries_of logs)
+    each_append election (entries_of_records log.kept) (entries_of logs)
     (log_each machines election log file gives.0)
     (logs_each machines election names files logs gives.1)
 

@@ -8,7 +8,7 @@ pub use Rattle.std.proofs.lemmas.List.FromFn.{map-range_with_len_more}
 pub use Rattle.std.proofs.lemmas.Slice.Zip.{get_or-zip, length-zip}
 pub use Rattle.std.specs.List.{flat_map, range_with_len, zip}
 pub use Rattle.auditor.specs.Report.{report_of}
-pub use Rattle.log_files.specs.declared.sealed_log.LogRead.{LogRead}
+pub use Rattle.log_files.specs.Logs.{LogRead}
 pub use Rattle.std.proofs.Common.{string_bytes}
 pub use Rattle.std.proofs.lemmas.List.{get_or-map, get_or_read, length-map, take_all}
 pub use Rattle.std.proofs.lemmas.Option.{slice_get-get_or, slice_get_read}

@@ -5,7 +5,7 @@ use Rattle.std.proofs.Common.{true, false, refl}
 use Rattle.std.specs.Prelude.{◌||◌, Option, Some, None, slice_get, option_map}
 use Rattle.std.specs.List.{list_any}
 use Rattle.std.proofs.lemmas.Option.{same_Some, slice_get-map}
-use Rattle.log_files.specs.declared.sealed_log.LogRead.{LogRead}
+use Rattle.log_files.specs.Logs.{LogRead}
 use Rattle.report_page.specs.Entries.{holder, is_in_log, number_if}
 use Rattle.report_page.specs.inside.Held.{has}
 

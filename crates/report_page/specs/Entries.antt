@@ -11,7 +11,7 @@ use Rattle.entry_format.specs.EntryText.{deed_word}
 use Rattle.entry_format.specs.SealedEntry.{SealedEntry}
 use Rattle.entry_graph.specs.EntryGraph.{EntryGraph, parents_of, ragged_of}
 use Rattle.log_files.specs.declared.sealed_log.Kept.{Kept}
-use Rattle.log_files.specs.declared.sealed_log.LogRead.{LogRead}
+use Rattle.log_files.specs.Logs.{LogRead}
 use Rattle.auditor.specs.Report.{AuditReport}
 use Rattle.auditor.specs.ReportText.{maker_name}
 use Rattle.survivor_rows.specs.Rows.{session_of}
@@ -26,7 +26,7 @@ session_words other = decimal (session_of other)
 
 -- a record of the log has the digest
 abbrev pub is_in_log : List ℕ → LogRead → Bool
-is_in_log digest log = list_any (λ (kept : Kept). bytes_eq kept.entry.digest digest) log.kept.items
+is_in_log digest log = list_any (λ (kept : Kept). bytes_eq kept.entry.digest digest) log.kept
 
 -- the number of the log at a place, from 1, if this is so
 abbrev pub number_if : Bool → ℕ → List ℕ

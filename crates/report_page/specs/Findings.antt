@@ -10,7 +10,7 @@ use Rattle.entry_format.specs.Reading.{fault_word}
 use Rattle.log_files.specs.Lines.{refused_line}
 use Rattle.log_files.specs.declared.plain_log.End.{End}
 use Rattle.log_files.specs.declared.plain_log.End.TheVariants.{Clean, Torn, Malformed}
-use Rattle.log_files.specs.declared.sealed_log.LogRead.{LogRead}
+use Rattle.log_files.specs.Logs.{LogRead}
 use Rattle.rule_language.specs.Trees.{RuleTree}
 use Rattle.rule_engine.specs.declared.verdict.Verdict.{Verdict}
 use Rattle.rule_engine.specs.declared.verdict.Verdict.TheVariants.{Broken, Unsettled}
@@ -53,7 +53,7 @@ break_findings file (Some place) = break_finding file place ∷ []
 -- of a log: its refused records, then a malformed end, then a break
 abbrev pub log_accuses : List ℕ × LogRead → List TableRow
 log_accuses named =
-    map (refused_finding named.0) named.1.refused.items ++ malformed_findings named.0 named.1.end
+    map (refused_finding named.0) named.1.refused ++ malformed_findings named.0 named.1.end
     ++ break_findings named.0 named.1.broke
 
 -- an end inside the record that begins at a byte

@@ -7,7 +7,7 @@ use Rattle.entry_order.specs.Naming.{names_digest}
 use Rattle.entry_format.specs.Nodes.{node_of_sealed}
 use Rattle.entry_format.specs.SealedEntry.{SealedEntry}
 use Rattle.entry_graph.specs.EntryGraph.{EntryGraph, ragged_of}
-use Rattle.log_files.specs.declared.sealed_log.LogRead.{LogRead}
+use Rattle.log_files.specs.Logs.{LogRead}
 use Rattle.auditor.specs.Outcomes.{log_has_finding}
 use Rattle.auditor.specs.Report.{AuditReport}
 use Rattle.auditor.specs.ReportText.{maker_name}

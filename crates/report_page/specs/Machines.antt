@@ -8,7 +8,7 @@ use Rattle.roster.specs.declared.post.Post.{Post}
 use Rattle.roster.specs.RosterText.{role_word}
 use Rattle.log_files.specs.declared.plain_log.End.{End}
 use Rattle.log_files.specs.declared.plain_log.End.TheVariants.{Clean, Torn, Malformed}
-use Rattle.log_files.specs.declared.sealed_log.LogRead.{LogRead}
+use Rattle.log_files.specs.Logs.{LogRead}
 use Rattle.auditor.specs.Report.{AuditReport}
 use Rattle.report_page.specs.declared.words.TheConstants.{UNLISTED, NO_LOG, WHOLE, UNBROKEN}
 use Rattle.report_page.specs.Cells.{TableRow, text_cell, number_cell}
@@ -40,7 +40,7 @@ owner_cells (Some post) = text_cell post.name ∷ text_cell (role_word post.role
 -- a log: its file, how many of its records are kept and refused, its end, and its break
 abbrev pub log_cells : List ℕ × LogRead → TableRow
 log_cells named =
-    text_cell named.0 ∷ number_cell (length named.1.kept.items) ∷ number_cell (length named.1.refused.items)
+    text_cell named.0 ∷ number_cell (length named.1.kept) ∷ number_cell (length named.1.refused)
     ∷ text_cell (end_words named.1.end) ∷ text_cell (order_words named.1.broke) ∷ []
 
 -- the row of a log that has this seat

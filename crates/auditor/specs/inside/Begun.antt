@@ -4,7 +4,7 @@ use Rattle.std.specs.Prelude.{ℕ, List, ◌++◌, map, Option, Result, Ok, Err}
 use Rattle.std.specs.declared.vec.Vec.{Vec}
 use Rattle.std.specs.declared.alloc.Global.{Global}
 use Rattle.hall_outside.specs.declared.stores.Store.{Ghosts as StoreGhosts}
-use Rattle.log_files.specs.declared.sealed_log.LogRead.{LogRead}
+use Rattle.log_files.specs.Logs.{LogRead}
 use Rattle.rule_language.specs.Forms.{rule_tree}
 use Rattle.rule_language.specs.Trees.{RuleTree}
 use Rattle.evidence.specs.declared.fault.InputFault.{InputFault}

@@ -6,7 +6,7 @@ use Rattle.roster.specs.declared.post.Post.{Post}
 use Rattle.entry_format.specs.Nodes.{node_of_sealed}
 use Rattle.entry_format.specs.SealedEntry.{SealedEntry}
 use Rattle.entry_order.specs.Naming.{IsNew}
-use Rattle.log_files.specs.declared.sealed_log.LogRead.{LogRead}
+use Rattle.log_files.specs.Logs.{LogRead}
 use Rattle.rule_language.specs.declared.formula.Rule.{Rule}
 use Rattle.rule_language.specs.Forms.{rule_tree}
 use Rattle.rule_language.specs.Trees.{RuleTree}

@@ -6,6 +6,5 @@ returns c = λ roster source names. one_report (record {
   rosters = c.roster_files_give_one_answer.ensures;
   readings = c.one_reading_is_right.ensures;
   logs = c.log_files_give_one_answer.ensures;
-  entries = c.same_logs_keep_the_same_entries.ensures;
   graphs = c.entries_give_one_graph.ensures;
 }) source names roster

@@ -8,7 +8,7 @@ returns g c =
     let logs = c.bytes_say_one_log.ensures in
     let shows = c.scripts_are_shown_in_one_way.ensures in
     let laws : CitedLaws = record {
-      logs = record { entries = logs.entries; refused = logs.refused; end = logs.end; header = logs.header };
+      logs = record { one = logs.one; header = logs.header };
       plays = record {
         reading = c.one_reading_is_right.ensures;
         played = c.scripts_are_played_in_one_way.ensures;
@@ -23,9 +23,7 @@ returns g c =
       };
       proofs = record {
         canonical = c.one_text_is_canonical.ensures;
-        text = c.proofs_are_read_in_one_way.ensures.text;
-        read = c.proofs_are_read_in_one_way.ensures.read;
-        value = c.proofs_are_read_in_one_way.ensures.value;
+        read = c.proofs_are_read_in_one_way.ensures;
         rules = c.one_reading_is_right-2.ensures;
       };
       reports = c.files_give_one_report.ensures;

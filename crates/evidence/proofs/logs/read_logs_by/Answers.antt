@@ -10,7 +10,7 @@ loop-name-init g c =
     record {
       so_far = none_so_far g.S.Store machines election (map string_bytes c.args.names.now) c.args.store.now
           c.new-logs.result.items c.new-logs.ensures.items;
-      valid = rw c.new-logs.ensures.items (All-nil (λ (log : LogRead). AreValid machines election log.kept.items));
+      valid = rw c.new-logs.ensures.items (All-nil (λ (log : LogRead). AreValid machines election log.kept));
     }
 
 pub loop-name-preserved : goal.loop-name-preserved

@@ -11,8 +11,6 @@ returns c =
       no_cycle = c.survivors_are_sound.ensures.no_cycle;
     }) (record {
       canonical = c.one_text_is_canonical.ensures;
-      text = c.proofs_are_read_in_one_way.ensures.text;
-      read = c.proofs_are_read_in_one_way.ensures.read;
-      value = c.proofs_are_read_in_one_way.ensures.value;
+      read = c.proofs_are_read_in_one_way.ensures;
       rules = c.one_reading_is_right.ensures;
     })

@@ -11,8 +11,8 @@ pub loop-kept-preserved : goal.loop-kept-preserved
 loop-kept-preserved c = λ d.
     let kept : Kept = c.kept-item.result in
     let i = c.loop-kept.kept-index in
-    let is : kept ≡ get_or c.args.log.now.kept.items i kept = search rules in
-    any_more (λ (kept : Kept). bytes_eq kept.entry.digest d) c.args.log.now.kept.items i kept
+    let is : kept ≡ get_or c.args.log.now.kept i kept = search rules in
+    any_more (λ (kept : Kept). bytes_eq kept.entry.digest d) c.args.log.now.kept i kept
     (has c.loop-kept.held d) (has c.add.new.self d) (search rules) is (c.loop-kept.invariant d)
     (c.in_ok-add.ensures d
     ∙ ap (λ (digest : List ℕ). bytes_eq digest d || has c.loop-kept.held d) c.digest.ensures.value)

@@ -9,4 +9,4 @@ use Rattle.report_page.proofs.held.held_in.Given as goal
 abbrev pub invariant-loop-kept : goal.invariant-loop-kept
 invariant-loop-kept l =
     (d : List ℕ) →
-    has l.held d ≡ list_any (λ (kept : Kept). bytes_eq kept.entry.digest d) (take l.kept-index l.log.kept.items)
+    has l.held d ≡ list_any (λ (kept : Kept). bytes_eq kept.entry.digest d) (take l.kept-index l.log.kept)
