@@ -9,7 +9,7 @@ use Rattle.live_auditor.proofs.Imports.{get_or_from_slice_get, Descends, distinc
 use Rattle.live_auditor.proofs.Imports.{node_of_sealed, EntryGraph, Links, IsGraphOfGiven, IsSealedGraph, parents_of}
 use Rattle.live_auditor.proofs.Imports.{grown, Post, Row, RuleTree, row_of, AreJudged, nodes_of, nodes_by, Summary}
 use Rattle.live_auditor.proofs.Imports.{SurvivorsKept, IsGraphed, IsSummed, kept_of, link_to, AreGiven, IsGrowth}
-use Rattle.live_auditor.proofs.Imports.{Summed, ◌&&◌, list_all}
+use Rattle.live_auditor.proofs.Imports.{Summed, ◌&&◌, list_all, one_link_each}
 use Rattle.live_auditor.specs.inside.Stamps.{from_stamp, lower}
 use Rattle.live_auditor.specs.inside.Following.{CanFollow, IsFollowed, IsPushed, FollowOf}
 use Rattle.live_auditor.specs.declared.late.Tail.{Tail}
@@ -202,6 +202,11 @@ module _ (machines : List Post) (trees : List RuleTree) (entries : List SealedEn
     is : IsFollowed machines B base.after.graph (kept_of first.survivors) later tail
     is = follow B base.after.graph first_graphed can_follow
 
+    -- there is a link for each of its survivors
+    linked_each : length is.graph.links ≡ length is.graph.survivors
+    linked_each =
+        one_link_each node_of_sealed is.graph.survivors is.graph.links is.graphed.graphed.kept.linked
+
     -- how many survivors were first
     abbrev count : ℕ
     count = length first.survivors.links.items
@@ -209,10 +214,12 @@ module _ (machines : List Post) (trees : List RuleTree) (entries : List SealedEn
     -- their rows are the first
     first_rows : take count tail.survivors.rows.items ≡ first.survivors.rows.items
     first_rows =
+        let first_each = one_link_each node_of_sealed base.after.graph.survivors base.after.graph.links
+        base.after.graphed.2.kept.linked in
         let counted : length first.survivors.rows.items ≡ count =
         (let rows = ap length base.survivors.rows ∙ length-map base.after.graph.survivors (row_of machines) in
         let links = ap length base.survivors.links in
-        omega (arith, rows, links, base.after.graphed.2.kept.linked.one_each)) in
+        omega (arith, rows, links, first_each)) in
         ap (take count) is.rows_are
         ∙ take-append-le count first.survivors.rows.items is.rows (omega (arith, counted))
         ∙ take_all count first.survivors.rows.items (omega (arith, counted))
@@ -233,8 +240,8 @@ module _ (machines : List Post) (trees : List RuleTree) (entries : List SealedEn
           falls =
               subst (λ (ls : List Links). Descends (parents_of ls)) (sym is.graphed.survivors.links)
               is.graphed.graphed.kept.linked.arrows.descends;
-          one_each = omega (arith, rows, links, is.graphed.graphed.kept.linked.one_each);
-          few = omega (arith, links, is.graphed.graphed.kept.linked.one_each, is.graphed.graphed.kept.few);
+          one_each = omega (arith, rows, links, linked_each);
+          few = omega (arith, links, linked_each, is.graphed.graphed.kept.few);
           first = omega (arith, all, length-append first.survivors.links.items is.links);
           judged =
               subst (λ (rs : List Row). AreJudged rs (nodes_by (take count tail.survivors.links.items)) trees
@@ -260,7 +267,7 @@ module _ (machines : List Post) (trees : List RuleTree) (entries : List SealedEn
             sealed_apart machines entries is.graph given
             (graph_moved (B ++ later) entries same is.graph is.graphed.graphed);
         survivors = ap (λ (s : Summary). s.survivors) says ∙ ap length is.graphed.survivors.links
-            ∙ is.graphed.graphed.kept.linked.one_each;
+            ∙ linked_each;
         gaps = ap (λ (s : Summary). s.gaps) says ∙ is.graphed.are_gaps;
         strays = ap (λ (s : Summary). s.strays) says ∙ base.after.strays ∙ sym is.strays;
         forks = ap (λ (s : Summary). s.forks) says ∙ base.after.forks ∙ sym is.forks;

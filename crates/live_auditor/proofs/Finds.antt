@@ -1,81 +1,41 @@
 -- What is found of the names of an entry, and of an appended one.
 use Rattle.std.proofs.Common.{◌≡◌}
-use Rattle.live_auditor.proofs.Imports.{◌∙◌, ap, sym, subst, ℕ, ◌+◌, ◌-◌, ◌<◌, ◌≤◌, List, [], ◌∷◌, ◌++◌, length, get_or}
-use Rattle.live_auditor.proofs.Imports.{take, inl, inr, arith, false, Some, slice_get, ◌⊎◌, Contains, bytes_eq}
-use Rattle.live_auditor.proofs.Imports.{cases_lt, true≢false, take_more, Contains-append_left, Contains-push}
-use Rattle.live_auditor.proofs.Imports.{Contains-push_cases, slice_get-get_or, bytes_eq-Decides, FindsNames}
+use Rattle.live_auditor.proofs.Imports.{◌∙◌, ap, refl, sym, subst, ℕ, ◌+◌, ◌-◌, ◌<◌, ◌≤◌, List, [], ◌∷◌, ◌++◌, length}
+use Rattle.live_auditor.proofs.Imports.{get_or, take, inl, inr, arith, false, cond, Some, None, Option, slice_get}
+use Rattle.live_auditor.proofs.Imports.{Contains, bytes_eq, cases_lt, true≢false, take_more, slice_get-get_or}
+use Rattle.live_auditor.proofs.Imports.{bytes_eq-Decides, FindsNames, HasOnePlaceEach, place_among, is_none}
+use Rattle.live_auditor.proofs.Imports.{cons_option, filter_map, filter_map-append, filter_more, found_first}
+use Rattle.live_auditor.proofs.Imports.{found_none}
+use Rattle.live_auditor.proofs.Ends.{at_contains}
 
-module _ (digests names : List (List ℕ)) (i : ℕ) (d : List ℕ) (within : i < length names) where
-  -- the next name
-  abbrev name : List ℕ
-  name = get_or names i d
+-- where a digest stands is its place, if each has one
+pub place_stands : (digests : List (List ℕ)) (p : ℕ) (d : List ℕ) → HasOnePlaceEach digests →
+    slice_get digests p ≡ Some d → place_among digests d ≡ Some p
+place_stands digests p d once at =
+    found_first (λ x. bytes_eq x d) digests 0 p d at ((bytes_eq-Decides d d).1 refl)
+    (λ j y there t. once j p d (there ∙ ap (λ (x : List ℕ). Some x) ((bytes_eq-Decides y d).0 t)) at)
+    ∙ ap (λ (n : ℕ). Some n) (omega arith)
 
-  -- the names so far, and it
-  names_next : take (i + 1) names ≡ take i names ++ name ∷ []
-  names_next = take_more names i d within
+-- a digest that isn't contained has none
+pub place_nowhere : (digests : List (List ℕ)) (d : List ℕ) → (Contains digests d → ⊥) → place_among digests d ≡ None
+place_nowhere digests d none =
+    found_none (λ x. bytes_eq x d) digests 0 (λ j y at t.
+    none (subst (λ c. Contains digests c) ((bytes_eq-Decides y d).0 t) (at_contains digests j y at)))
 
-  -- one of those so far is one of these
-  still : (x : List ℕ) → Contains (take i names) x → Contains (take (i + 1) names) x
-  still x has =
-      subst (λ ds. Contains ds x) (sym names_next) (Contains-append_left (take i names) (name ∷ []) x has)
-
-  -- the next name is one of these
-  here : Contains (take (i + 1) names) name
-  here = subst (λ ds. Contains ds name) (sym names_next) (Contains-push (take i names) name)
-
-  -- one of these is one of those so far, or the next
-  either : (x : List ℕ) → Contains (take (i + 1) names) x → Contains (take i names) x ⊎ (name ≡ x)
-  either x has = Contains-push_cases (take i names) name x (subst (λ ds. Contains ds x) names_next has)
-
-  -- a name that is at a place gives one more parent
-  pub finds_place : (place : ℕ) (parents new : List ℕ) (missing also : List (List ℕ)) →
-      slice_get digests place ≡ Some name → new ≡ parents ++ place ∷ [] → also ≡ missing →
-      FindsNames digests (take i names) parents missing → FindsNames digests (take (i + 1) names) new also
-  finds_place place parents new missing also at added same finds =
-      subst (FindsNames digests (take (i + 1) names) new) (sym same) (record {
-        stands = λ p has. elim (Contains-push_cases parents place p (subst (λ ps. Contains ps p) added has)) [
-          | inl old ↦ (let (x, stands, there) = finds.stands p old in (x, stands, still x there))
-          | inr last ↦ (name, ap (slice_get digests) (sym last) ∙ at, here)
-        ];
-        each = λ x has. elim (either x has) [
-          | inl old ↦ elim (finds.each x old) [
-            | inl (p, there, stands) ↦
-                (let has = subst (λ ps. Contains ps p) (sym added)
-                (Contains-append_left parents (place ∷ []) p there) in
-                inl (p, has, stands))
-            | inr lacked ↦ inr lacked
-          ]
-          | inr last ↦ inl (
-            place,
-            subst (λ ps. Contains ps place) (sym added) (Contains-push parents place),
-            at ∙ ap (λ (y : List ℕ). Some y) last,
-          )
-        ];
-        lacks = λ x has. (still x (finds.lacks x has).0, (finds.lacks x has).1);
-      })
-
-  -- a name that is at no place is missing
-  pub finds_missing : (parents also : List ℕ) (missing new : List (List ℕ)) → (Contains digests name → ⊥) →
-      also ≡ parents → new ≡ missing ++ name ∷ [] → FindsNames digests (take i names) parents missing →
-      FindsNames digests (take (i + 1) names) also new
-  finds_missing parents also missing new none same added finds =
-      subst (λ ps. FindsNames digests (take (i + 1) names) ps new) (sym same) (record {
-        stands = λ p has. let (x, stands, there) = finds.stands p has in (x, stands, still x there);
-        each = λ x has. elim (either x has) [
-          | inl old ↦ elim (finds.each x old) [
-            | inl found ↦ inl found
-            | inr lacked ↦
-                inr (subst (λ ds. Contains ds x) (sym added) (Contains-append_left missing (name ∷ []) x lacked))
-          ]
-          | inr last ↦
-              inr (subst (λ y. Contains new y) last
-              (subst (λ ds. Contains ds name) (sym added) (Contains-push missing name)))
-        ];
-        lacks = λ x has. elim (Contains-push_cases missing name x (subst (λ ds. Contains ds x) added has)) [
-          | inl old ↦ (still x (finds.lacks x old).0, (finds.lacks x old).1)
-          | inr last ↦ subst (λ y. Contains (take (i + 1) names) y × (Contains digests y → ⊥)) last (here, none)
-        ];
-      })
+-- what is found of the names so far, and of one more
+pub finds_more : (digests names : List (List ℕ)) (i : ℕ) (d : List ℕ) (place : Option ℕ) (parents new : List ℕ)
+    (missing also : List (List ℕ)) → i < length names → place_among digests (get_or names i d) ≡ place →
+    new ≡ parents ++ cons_option place [] → also ≡ missing ++ cond (is_none place) (get_or names i d ∷ []) [] →
+    FindsNames digests (take i names) parents missing → FindsNames digests (take (i + 1) names) new also
+finds_more digests names i d place parents new missing also within is added lacked finds =
+    let at : List ℕ → Option ℕ = place_among digests in
+    let name = get_or names i d in
+    record {
+      places = added ∙ (λ k. finds.places k ++ cons_option (sym is k) [])
+          ∙ sym (ap (filter_map at) (take_more names i d within) ∙ filter_map-append at (take i names) (name ∷ []));
+      others = lacked ∙ (λ k. finds.others k ++ cond (is_none (sym is k)) (name ∷ []) [])
+          ∙ sym (filter_more (λ c. is_none (at c)) names i d within);
+    }
 
 -- a digest that is at no place isn't contained
 pub stands_nowhere : (digests : List (List ℕ)) (d : List ℕ) →

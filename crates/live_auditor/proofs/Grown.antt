@@ -1,32 +1,24 @@
 -- The graph with an appended entry more.
 use Rattle.std.proofs.Common.{◌≡◌}
-use Rattle.live_auditor.proofs.Imports.{◌∙◌, ap, refl, sym, subst, ℕ, suc, ◌<◌, true, false, Some, List, [], ◌∷◌, ◌++◌}
+use Rattle.live_auditor.proofs.Imports.{◌∙◌, ap, sym, subst, ℕ, ◌<◌, Bool, true, false, Some, List, [], ◌∷◌, ◌++◌, map}
 use Rattle.live_auditor.proofs.Imports.{length, get_or, arith, inl, inr, length-append, slice_get, not, ◌==◌, ◌↔◌, ◌⊎◌}
-use Rattle.live_auditor.proofs.Imports.{Contains, cases_Bool, cases_order, true≢false, Contains-append_left}
-use Rattle.live_auditor.proofs.Imports.{Contains-append_right, Contains-append_cases, Contains-push}
-use Rattle.live_auditor.proofs.Imports.{Contains-push_cases, Contains-get_or, all_pairs_push, slice_get_within}
-use Rattle.live_auditor.proofs.Imports.{slice_get_past, ascending, Descends, Node, Names, IsNew, IsBorneIn, IsNamedIn}
-use Rattle.live_auditor.proofs.Imports.{IsGraphOf, NamesNoGap, IsStray, is_stray, gaps, IsGaps, Contains-ascending}
-use Rattle.live_auditor.proofs.Imports.{Contains-ascending_cases, ascending_ascending, gaps_are_unique, Contains-head}
-use Rattle.live_auditor.proofs.Imports.{Contains-none, is_stray_of, is_stray_from, EntryGraph, Links, parents_in}
-use Rattle.live_auditor.proofs.Imports.{ragged_in, parents_of, ragged_of, IsLower, AreStrays, IsFork, AreForks}
+use Rattle.live_auditor.proofs.Imports.{is_none, Contains, cases_Bool, Contains-append_left, false_from_ne_true}
+use Rattle.live_auditor.proofs.Imports.{Contains-append_right, Contains-append_cases, Contains-push, bytes_eq}
+use Rattle.live_auditor.proofs.Imports.{Contains-push_cases, Contains-get_or, all_pairs_push, map-append, AllPairs}
+use Rattle.live_auditor.proofs.Imports.{ascending, Node, Names, IsNew, IsBorneIn, IsNamedIn, bytes_eq-Decides}
+use Rattle.live_auditor.proofs.Imports.{IsStray, is_stray, gaps, IsGaps, Contains-ascending, stamp_rises}
+use Rattle.live_auditor.proofs.Imports.{Contains-ascending_cases, ascending_ascending, gaps_are_unique, links_by}
+use Rattle.live_auditor.proofs.Imports.{is_stray_of, is_stray_from, EntryGraph, Links, place_in, links_are_right}
+use Rattle.live_auditor.proofs.Imports.{IsLower, AreStrays, IsFork, AreForks, HasNoDigestTwice, NamesLower, single_push}
 use Rattle.live_auditor.proofs.Imports.{IsGraphOfGiven, link_to, IsAppended, AreParents, AreMissing, grown}
-use Rattle.live_auditor.proofs.Ends.{slice_get_old, slice_get_last, at_cases, at_contains}
-
--- a list without members is empty, as its length shows
-empty_has_none : (ds : List (List ℕ)) → not (length ds == 0) ≡ false → (d : List ℕ) → Contains ds d → ⊥
-empty_has_none [] is d has = Contains-none d has
-empty_has_none (c ∷ ds) is d has =
-    let some : (suc (length ds) == 0) ≡ false = grind arith in
-    absurd (true≢false (sym (ap not some) ∙ is))
-
-none_is_empty : (ds : List (List ℕ)) → ((d : List ℕ) → Contains ds d → ⊥) → not (length ds == 0) ≡ false
-none_is_empty [] none = refl
-none_is_empty (d ∷ ds) none = absurd (none d (Contains-head d ds))
+use Rattle.live_auditor.proofs.Imports.{Contains-filter, Contains-filter_cases}
+use Rattle.live_auditor.proofs.Ends.{at_cases, at_contains}
+use Rattle.live_auditor.proofs.Places.{any_left, are_places, map_same, none_bears, place_before, place_lacks}
+use Rattle.live_auditor.proofs.Places.{same_by_names, same_number, table_from}
 
 module _ {T : Type 0} (node : T → Node) (given : List T) (graph : EntryGraph T)
-    (is : IsGraphOfGiven node given graph) (e : T) (new : IsNew node given e)
-    (appended : IsAppended node given graph e) where
+    (is : IsGraphOfGiven node given graph) (single : HasNoDigestTwice node graph.survivors) (e : T)
+    (new : IsNew node given e) (appended : IsAppended node given graph e) where
   -- the survivors
   abbrev S : List T
   S = graph.survivors
@@ -152,8 +144,40 @@ module _ {T : Type 0} (node : T → Node) (given : List T) (graph : EntryGraph T
     );
   }
 
+  -- none of the grown survivors names it
+  unnamed : (x : T) → Contains next x → Names node x e → ⊥
+  unnamed x has names = elim (Contains-push_cases S e x has) [
+    | inl old ↦ not_named x old names
+    | inr same ↦ appended.not_itself (subst (λ y. Names node y e) (sym same) names)
+  ]
+
+  -- so what they name has the place that it had
+  place_kept : (x : T) (d : List ℕ) → Contains next x → Contains (node x).names d →
+      place_in node next d ≡ place_in node S d
+  place_kept x d has names =
+      place_before (λ f. bytes_eq (node f).digest d) S 0 e (false_from_ne_true (bytes_eq (node e).digest d) (λ t.
+      unnamed x has (subst (λ c. Contains (node x).names c) (sym ((bytes_eq-Decides (node e).digest d).0 t)) names)))
+
+  -- each of them has a higher stamp than those that it names
+  falling : NamesLower node next
+  falling x y has also names =
+      stamp_rises node more x y ((members_grown x).0 has).1 ((members_grown y).0 also).0 names
+
   module _ (parents : List ℕ) (are : AreParents node S e parents) (missing : List (List ℕ))
-      (lack : AreMissing node S e missing) where
+      (are_missing : AreMissing node S e missing) where
+    -- what is missing is named, and no survivor has it
+    lack : (d : List ℕ) → Contains missing d ↔ (Contains (node e).names d × (IsBorneIn node S d → ⊥))
+    lack d =
+        let placeless : List ℕ → Bool = λ c. is_none (place_in node S c) in (
+          λ has.
+              let (named, none) = Contains-filter_cases placeless (node e).names d
+              (subst (λ ds. Contains ds d) are_missing has) in
+              (named, none_bears node S d none),
+          λ (named, none).
+              subst (λ ds. Contains ds d) (sym are_missing)
+              (Contains-filter placeless (node e).names d named (place_lacks node S d none)),
+        )
+
     -- a gap stays one
     gap_stays : (d : List ℕ) → Contains graph.gaps d → IsNamedIn node next d × (¬ (IsBorneIn node next d))
     gap_stays d has =
@@ -207,163 +231,26 @@ module _ {T : Type 0} (node : T → Node) (given : List T) (graph : EntryGraph T
       );
     })
 
-    -- a survivor that names a gap named it before
-    old_gap : (x : T) → Contains S x → (d : List ℕ) → Contains (node x).names d → Contains (gaps node next) d →
-        Contains (gaps node S) d
-    old_gap x has d names gap =
-        let all : IsGaps node next (gaps node next) = (gaps_are_unique node next (gaps node next)).0 refl in
-        subst (λ ds. Contains ds d) is.kept.gaps
-        ((gaps_are.members d).1 ((x, has, names), unborne d ((all.members d).0 gap).1))
-
     -- what is linked, with the last one
     abbrev links : List Links
     links = graph.links ++ link_to parents missing ∷ []
 
-    -- there are as many links as survivors
-    count : length graph.links ≡ length S
-    count = is.kept.linked.one_each
+    -- the last links are those of its names
+    last_links : link_to parents missing ≡ links_by (place_in node S) (node e).names
+    last_links =
+        let ragged = ap (λ (ds : List (List ℕ)). not (length ds == 0)) are_missing
+        ∙ any_left (λ d. is_none (place_in node S d)) (node e).names in
+        λ k. record { parents = are k; ragged = ragged k }
 
-    -- the arrows before
-    arrows : IsGraphOf node S (parents_of graph.links) (ragged_of graph.links)
-    arrows = is.kept.linked.arrows
-
-    -- the parents of the others are as before
-    parents_old : (i : ℕ) → i < length S → parents_of links i ≡ parents_of graph.links i
-    parents_old i low =
-        ap parents_in (slice_get_old graph.links (link_to parents missing) i
-        (subst (λ n. i < n) (sym count) low))
-
-    ragged_old : (i : ℕ) → i < length S → ragged_of links i ≡ ragged_of graph.links i
-    ragged_old i low =
-        ap ragged_in (slice_get_old graph.links (link_to parents missing) i
-        (subst (λ n. i < n) (sym count) low))
-
-    -- those of the last are these
-    parents_last : parents_of links (length S) ≡ parents
-    parents_last =
-        ap (parents_of links) (sym count)
-        ∙ ap parents_in (slice_get_last graph.links (link_to parents missing))
-
-    ragged_last : ragged_of links (length S) ≡ not (length missing == 0)
-    ragged_last =
-        ap (ragged_of links) (sym count)
-        ∙ ap ragged_in (slice_get_last graph.links (link_to parents missing))
-
-    -- and after it there is none
-    parents_past : (i : ℕ) → length S < i → parents_of links i ≡ []
-    parents_past i past =
-        ap parents_in (slice_get_past links i
-        (omega (arith, count, past, length-append graph.links (link_to parents missing ∷ []))))
-
-    -- a parent of one before is one of its parents before; one of the last is a survivor that it
-    -- names
-    parent_cases : (i p : ℕ) → Contains (parents_of links i) p →
-        ((i < length S) × Contains (parents_of graph.links i) p) ⊎ ((i ≡ length S) × Contains parents p)
-    parent_cases i p has = by (cases_order i (length S))
-      where
-        -- by cases: the place is the last one, before it or after it
-        by : (i ≡ length S) ⊎ ((i < length S) ⊎ (length S < i)) →
-            ((i < length S) × Contains (parents_of graph.links i) p) ⊎ ((i ≡ length S) × Contains parents p)
-        by (inl end) =
-            inr (end, subst (λ ps. Contains ps p) (ap (parents_of links) end ∙ parents_last) has)
-        by (inr (inl low)) = inl (low, subst (λ ps. Contains ps p) (parents_old i low) has)
-        by (inr (inr past)) =
-            absurd (Contains-none p
-            (subst (λ ps. Contains ps p) (parents_past i past) has))
-
-    descends_grown : Descends (parents_of links)
-    descends_grown i p has = elim (parent_cases i p has) [
-      | inl (low, old) ↦ arrows.descends i p old
-      | inr (end, last) ↦
-          (let (f, at, names) = (are p).0 last in
-          let low = slice_get_within S p f at in
-          omega (arith, end, low))
-    ]
-
-    inside_grown : (i p : ℕ) → Contains (parents_of links i) p → (f : T) × (slice_get next p ≡ Some f)
-    inside_grown i p has = elim (parent_cases i p has) [
-      | inl (low, old) ↦
-          (let (f, at) = arrows.inside i p old in
-          (f, slice_get_old S e p (slice_get_within S p f at) ∙ at))
-      | inr (end, last) ↦
-          (let (f, at, names) = (are p).0 last in
-          (f, slice_get_old S e p (slice_get_within S p f at) ∙ at))
-    ]
-
-    arrows_grown : (i p : ℕ) (x f : T) → slice_get next i ≡ Some x → slice_get next p ≡ Some f →
-        Contains (parents_of links i) p ↔ Names node x f
-    arrows_grown i p x f at_x at_f = by (at_cases S e i x at_x) (at_cases S e p f at_f)
-      where
-        -- by whether each of the two is the last
-        by : ((i < length S) × (slice_get S i ≡ Some x)) ⊎ ((i ≡ length S) × (x ≡ e)) →
-            ((p < length S) × (slice_get S p ≡ Some f)) ⊎ ((p ≡ length S) × (f ≡ e)) →
-            Contains (parents_of links i) p ↔ Names node x f
-        by (inl (low, old)) (inl (under, also)) = (
-          λ has. (arrows.arrows i p x f old also).0 (subst (λ ps. Contains ps p) (parents_old i low) has),
-          λ names.
-              subst (λ ps. Contains ps p) (sym (parents_old i low)) ((arrows.arrows i p x f old also).1 names),
-        )
-        by (inl (low, old)) (inr (end, last)) = (
-          λ has.
-              (let (g, at) = arrows.inside i p (subst (λ ps. Contains ps p) (parents_old i low) has) in
-              let within = slice_get_within S p g at in
-              absurd (omega (arith, within, end))),
-          λ names.
-              absurd (not_named x (at_contains S i x old)
-              (subst (λ y. Contains (node x).names (node y).digest) last names)),
-        )
-        by (inr (end, last)) (inl (under, also)) = (
-          λ has.
-              (let (g, at, names) =
-              (are p).0 (subst (λ ps. Contains ps p) (ap (parents_of links) end ∙ parents_last) has) in
-              let one : Some g ≡ Some f = sym at ∙ also in
-              let same : g ≡ f = cc in
-              subst (λ y. Contains (node y).names (node f).digest) (sym last)
-              (subst (λ y. Contains (node e).names (node y).digest) same names)),
-          λ names.
-              subst (λ ps. Contains ps p) (sym (ap (parents_of links) end ∙ parents_last))
-              ((are p).1 f also (subst (λ y. Contains (node y).names (node f).digest) last names)),
-        )
-        by (inr (end, last)) (inr (there, also)) = (
-          λ has.
-              (let (g, at, names) =
-              (are p).0 (subst (λ ps. Contains ps p) (ap (parents_of links) end ∙ parents_last) has) in
-              let within = slice_get_within S p g at in
-              absurd (omega (arith, within, there))),
-          λ names.
-              absurd (appended.not_itself (subst (λ y. Contains (node e).names (node y).digest) also
-              (subst (λ y. Contains (node y).names (node f).digest) last names))),
-        )
-
-    -- one before names a gap as before, and the last one if it names what no survivor has
-    shown_grown : (i : ℕ) (x : T) → slice_get next i ≡ Some x → (ragged_of links i ≡ false) ↔ NamesNoGap node next x
-    shown_grown i x at_x = by (at_cases S e i x at_x)
-      where
-        -- by whether it is the last
-        by : ((i < length S) × (slice_get S i ≡ Some x)) ⊎ ((i ≡ length S) × (x ≡ e)) →
-            (ragged_of links i ≡ false) ↔ NamesNoGap node next x
-        by (inl (low, old)) = (
-          λ sound d names has.
-              (arrows.gaps_shown i x old).0 (sym (ragged_old i low) ∙ sound) d names
-              (old_gap x (at_contains S i x old) d names has),
-          λ none. ragged_old i low ∙ (arrows.gaps_shown i x old).1 (λ d names has.
-              none d names (subst (λ ds. Contains ds d) gaps_grown
-              (Contains-ascending (graph.gaps ++ missing) d
-              (Contains-append_left graph.gaps missing d (subst (λ ds. Contains ds d) (sym is.kept.gaps) has))))),
-        )
-        by (inr (end, last)) = (
-          λ sound d names has.
-              (let all : IsGaps node next (gaps node next) = (gaps_are_unique node next (gaps node next)).0 refl in
-              empty_has_none missing (sym (ap (ragged_of links) end ∙ ragged_last) ∙ sound) d
-              ((lack d).1 (
-                subst (λ y. Contains (node y).names d) last names,
-                unborne d ((all.members d).0 has).1,
-              ))),
-          λ none. ap (ragged_of links) end ∙ ragged_last ∙ none_is_empty missing (λ d has.
-              none d (subst (λ y. Contains (node y).names d) (sym last) ((lack d).0 has).0)
-              (subst (λ ds. Contains ds d) gaps_grown
-              (Contains-ascending (graph.gaps ++ missing) d (Contains-append_right graph.gaps missing d has)))),
-        )
+    -- so all are those of the names
+    in_order : links ≡ map (λ x. links_by (place_in node next) (node x).names) next
+    in_order =
+        let old : T → Links = λ x. links_by (place_in node S) (node x).names in
+        ap (λ ls. ls ++ link_to parents missing ∷ []) is.kept.linked.in_order
+        ∙ ap (λ l. map old S ++ l ∷ []) last_links
+        ∙ sym (map-append old S (e ∷ []))
+        ∙ map_same old (λ x. links_by (place_in node next) (node x).names) next (λ x has.
+        same_by_names (place_in node S) (place_in node next) (node x).names (λ d names. sym (place_kept x d has names)))
 
     single_grown : (i j : ℕ) (x : T) → slice_get next i ≡ Some x → slice_get next j ≡ Some x → i ≡ j
     single_grown i j x at_i at_j = by (at_cases S e i x at_i) (at_cases S e j x at_j)
@@ -380,28 +267,25 @@ module _ {T : Type 0} (node : T → Node) (given : List T) (graph : EntryGraph T
         by (inr (end, last)) (inl (low, old)) = absurd (other j old last)
         by (inr (end, last)) (inr (there, also)) = end ∙ sym there
 
+    -- the survivors go by stamp and digest
+    numbered : AllPairs (IsLower node) next
+    numbered = all_pairs_push (IsLower node) S e is.kept.numbered
+        (λ k d low. inl (appended.latest (get_or S k d) (is_given (get_or S k d) (Contains-get_or S k d low))))
+
+    -- each digest with its place
+    abbrev table : List (List ℕ × ℕ)
+    table = table_from node 0 next
+
     -- the grown graph is that of the entries and this one
     pub is_grown : length S < 16384 → IsGraphOfGiven node more (grown graph e parents missing)
     is_grown room = record {
       kept = record {
         few = omega (arith, length-append S (e ∷ []), room);
-        numbered = all_pairs_push (IsLower node) S e is.kept.numbered
-            (λ k d low. inl (appended.latest (get_or S k d) (is_given (get_or S k d) (Contains-get_or S k d low))));
+        numbered = numbered;
         single = single_grown;
-        linked = record {
-          one_each = omega (
-            arith,
-            count,
-            length-append S (e ∷ []),
-            length-append graph.links (link_to parents missing ∷ []),
-          );
-          arrows = record {
-            descends = descends_grown;
-            inside = inside_grown;
-            arrows = arrows_grown;
-            gaps_shown = shown_grown;
-          };
-        };
+        linked = links_are_right node next table links (single_push node S e single not_borne) numbered falling
+            (are_places node next) (in_order
+            ∙ ap (λ at. map (λ x. links_by at (node x).names) next) (λ k d. sym (same_number node next d) k));
         gaps = gaps_grown;
         forks = forks_grown;
       };

@@ -3,6 +3,7 @@ pub mod OneEntry
 pub mod Additions
 pub mod OneSummary
 pub mod Ends
+pub mod Places
 pub mod Grown
 pub mod Agreements
 pub mod Judged

@@ -1,9 +1,9 @@
 -- Entries have one summary, in whatever order they came.
 use Rattle.std.proofs.Common.{◌≡◌}
 use Rattle.live_auditor.proofs.Imports.{◌∙◌, ◌≤◌, List, length, map, ap, sym, subst, arith, ◌↔◌, Ok, AllZip, Contains}
-use Rattle.live_auditor.proofs.Imports.{length-map, Descends, IsStray, SealedEntry, node_of_sealed, distinct}
-use Rattle.live_auditor.proofs.Imports.{EntryGraph, IsGraphOfGiven, parents_of, Post, Rule, rule_tree, Verdict}
-use Rattle.live_auditor.proofs.Imports.{IsSealedGraph, EntriesGiveOneGraph, SameGraph, AreJudged, nodes_of, row_of}
+use Rattle.live_auditor.proofs.Imports.{IsStray, SealedEntry, node_of_sealed, distinct}
+use Rattle.live_auditor.proofs.Imports.{EntryGraph, IsGraphOfGiven, Post, Rule, rule_tree, Verdict}
+use Rattle.live_auditor.proofs.Imports.{IsSealedGraph, EntriesGiveOneGraph, AreJudged, nodes_of, row_of}
 use Rattle.live_auditor.proofs.Imports.{standard, SameVerdict, verdicts_agree, AreOneVerdict, OrdersGiveOneSummary}
 
 -- verdicts that agree are one
@@ -65,34 +65,28 @@ answer_moved given other same once also few graph (none, _, is) = (
 
 -- by rows of the same survivors, each rule has one verdict
 one_verdict_each : (machines others : List Post) (rules more : List Rule) (g h : EntryGraph SealedEntry)
-    (vs ws : List Verdict) → machines ≡ others → rules ≡ more → SameGraph g h →
-    Descends (parents_of g.links) → Descends (parents_of h.links) →
+    (vs ws : List Verdict) → machines ≡ others → rules ≡ more → g ≡ h →
     AreJudged (map (row_of machines) g.survivors) (nodes_of g) (map rule_tree rules) vs →
     AreJudged (map (row_of others) h.survivors) (nodes_of h) (map rule_tree more) ws → AllZip AreOneVerdict vs ws
-one_verdict_each machines others rules more g h vs ws one_roster one_list same down down' a b =
-    let by_rules = subst (λ (rs : List Rule).
-    AreJudged (map (row_of others) h.survivors) (nodes_of h) (map rule_tree rs) ws) (sym one_list) b in
-    let by_roster = subst (λ (ms : List Post).
-    AreJudged (map (row_of ms) h.survivors) (nodes_of h) (map rule_tree rules) ws) (sym one_roster) by_rules in
-    let by_rows = subst (λ (s : List SealedEntry).
-    AreJudged (map (row_of machines) s) (nodes_of h) (map rule_tree rules) ws) (sym same.survivors) by_roster in
-    one_each vs ws (verdicts_agree (map (row_of machines) g.survivors) g h down down' same
-    (length-map g.survivors (row_of machines)) standard (map rule_tree rules) (Ok vs) (Ok ws) a by_rows)
+one_verdict_each machines others rules more g h vs ws one_roster one_list same a b =
+    let moved = coe 1 0 (i. AreJudged (map (row_of (one_roster i)) (same i).survivors) (nodes_of (same i))
+    (map rule_tree (one_list i)) ws) b in
+    one_each vs ws (verdicts_agree (map (row_of machines) g.survivors) (nodes_of g) standard (map rule_tree rules)
+    (Ok vs) (Ok ws) a moved)
 
 -- audits by the same rules of the same entries say the same
 pub one_summary : EntriesGiveOneGraph → OrdersGiveOneSummary
 one_summary graphs live other a b machines rules entries =
     let moved = answer_moved other.added live.added (turned live.added other.added entries) b.once a.once a.few
     b.after.graph b.after.graphed in
-    let same : SameGraph a.after.graph b.after.graph =
+    let found : Ok a.after.graph ≡ Ok b.after.graph =
     graphs live.added (Ok a.after.graph) (Ok b.after.graph) a.after.graphed moved in
+    let same : a.after.graph ≡ b.after.graph = cc in
     record {
-      survivors = a.after.survivors ∙ ap length same.survivors ∙ sym b.after.survivors;
-      gaps = a.after.gaps ∙ same.gaps ∙ sym b.after.gaps;
-      strays = a.after.strays ∙ same.strays ∙ sym b.after.strays;
-      forks = a.after.forks ∙ same.forks ∙ sym b.after.forks;
+      survivors = a.after.survivors ∙ ap (λ g. length g.survivors) same ∙ sym b.after.survivors;
+      gaps = a.after.gaps ∙ ap (λ g. g.gaps) same ∙ sym b.after.gaps;
+      strays = a.after.strays ∙ ap (λ g. g.strays) same ∙ sym b.after.strays;
+      forks = a.after.forks ∙ ap (λ g. g.forks) same ∙ sym b.after.forks;
       verdicts = one_verdict_each live.machines other.machines live.rules other.rules a.after.graph b.after.graph
-          live.summary.verdicts other.summary.verdicts machines rules same
-          a.after.graphed.2.kept.linked.arrows.descends b.after.graphed.2.kept.linked.arrows.descends
-          a.after.judged b.after.judged;
+          live.summary.verdicts other.summary.verdicts machines rules same a.after.judged b.after.judged;
     }

@@ -1,25 +1,17 @@
 -- An appended entry more: what is kept, and what is said then.
-use Rattle.std.proofs.Common.{◌≡◌, Option}
-use Rattle.live_auditor.proofs.Imports.{◌∙◌, ap, refl, sym, subst, ℕ, ◌<◌, true, false, Some, None, List, [], ◌∷◌, ◌++◌}
-use Rattle.live_auditor.proofs.Imports.{map, length, arith, inl, inr, eq-eqb, slice_get, ◌&&◌, ◌==◌, Contains, list_any}
-use Rattle.live_auditor.proofs.Imports.{bytes_eq, option_map, true≢false, and_from, length-map, map-append}
-use Rattle.live_auditor.proofs.Imports.{slice_get-map, bytes_eq-Decides, ascending, Contains-map, list_any_of}
+use Rattle.std.proofs.Common.{◌≡◌}
+use Rattle.live_auditor.proofs.Imports.{◌∙◌, ap, refl, sym, subst, ℕ, ◌<◌, true, false, Some, List, [], ◌∷◌, ◌++◌}
+use Rattle.live_auditor.proofs.Imports.{map, length, arith, eq-eqb, slice_get, ◌&&◌, ◌==◌, Contains, list_any}
+use Rattle.live_auditor.proofs.Imports.{bytes_eq, true≢false, and_from, length-map, map-append, is_none}
+use Rattle.live_auditor.proofs.Imports.{bytes_eq-Decides, ascending, Contains-map, list_any_of, filter, filter_map}
 use Rattle.live_auditor.proofs.Imports.{SealedEntry, node_of_sealed, EntryGraph, Links, IsGraphOfGiven, Row, row_of}
 use Rattle.live_auditor.proofs.Imports.{IsApartBy, kept_with, SurvivorsKept, IsGraphed, Post, IsNew, link_to}
-use Rattle.live_auditor.proofs.Imports.{IsAppended, AreParents, AreMissing, grown}
+use Rattle.live_auditor.proofs.Imports.{IsAppended, AreParents, AreMissing, grown, place_in, IsDistinct}
+use Rattle.live_auditor.proofs.Imports.{HasOnePlaceEach, place_among, Option}
 use Rattle.live_auditor.proofs.Additions.{apart_more}
 use Rattle.live_auditor.proofs.Ends.{at_contains}
 use Rattle.live_auditor.proofs.Grown.{is_grown}
-
--- what a place of mapped elements has comes from an element at the place
-pub mapped_at : {X Y : Type 0} (f : X → Y) (xs : List X) (p : ℕ) (y : Y) → slice_get (map f xs) p ≡ Some y →
-    (x : X) × (slice_get xs p ≡ Some x) × (f x ≡ y)
-mapped_at {X} f xs p y at = by (slice_get xs p) refl (sym (slice_get-map f xs p) ∙ at)
-  where
-    -- by whether there is an element
-    by : (o : Option X) → slice_get xs p ≡ o → option_map f o ≡ Some y → (x : X) × (slice_get xs p ≡ Some x) × (f x ≡ y)
-    by None is none = absurd (let no : None ≡ Some y = none in cc)
-    by (Some x) is some = let same : f x ≡ y = cc in (x, is, same)
+use Rattle.live_auditor.proofs.Places.{distinct_from, mapped_at, place_mapped}
 
 module _ (machines : List Post) (given : List SealedEntry) (graph : EntryGraph SealedEntry) (gaps : List (List ℕ))
     (kept : SurvivorsKept) (is : IsGraphed machines given graph gaps kept) (e : SealedEntry)
@@ -42,11 +34,20 @@ module _ (machines : List Post) (given : List SealedEntry) (graph : EntryGraph S
       mapped_at (λ (f : SealedEntry). f.digest) graph.survivors p d
       (ap (λ (ds : List (List ℕ)). slice_get ds p) (sym is.survivors.digests) ∙ at)
 
-  -- the digest of a survivor is kept
-  digest_kept : (f : SealedEntry) → Contains graph.survivors f → Contains kept.digests f.digest
-  digest_kept f has =
-      subst (λ (ds : List (List ℕ)). Contains ds f.digest) (sym is.survivors.digests)
-      (Contains-map (λ (g : SealedEntry). g.digest) graph.survivors f has)
+  -- so each digest has one place
+  once : HasOnePlaceEach kept.digests
+  once i j d at also =
+      let (f, at_f, is_f) = at_digest i d at in
+      let (g, at_g, is_g) = at_digest j d also in
+      let one : f ≡ g =
+      one_digest f g (at_contains graph.survivors i f at_f) (at_contains graph.survivors j g at_g) (is_f ∙ sym is_g) in
+      is.graphed.kept.single i j g (subst (λ h. slice_get graph.survivors i ≡ Some h) one at_f) at_g
+
+  -- it is that of the survivor that has it
+  same_place : (d : List ℕ) → place_among kept.digests d ≡ place_in node_of_sealed graph.survivors d
+  same_place d =
+      ap (λ (ds : List (List ℕ)). place_among ds d) is.survivors.digests
+      ∙ place_mapped (λ (f : SealedEntry). f.digest) (λ c. bytes_eq c d) 0 graph.survivors
 
   -- a digest that is none of these isn't found among them
   none_found : (ds : List (List ℕ)) → list_any (λ d. bytes_eq d e.digest) ds ≡ false → Contains ds e.digest → ⊥
@@ -75,37 +76,13 @@ module _ (machines : List Post) (given : List SealedEntry) (graph : EntryGraph S
 
   -- these are its parents
   are_parents : AreParents node_of_sealed graph.survivors e parents
-  are_parents p = (
-    λ has.
-        (let (d, at, names) = apart.finds.stands p has in
-        let (f, stands, same) = at_digest p d at in
-        (f, stands, subst (λ c. Contains e.entry.names c) (sym same) names)),
-    λ f stands names. elim (apart.finds.each f.digest names) [
-      | inl (q, has, at) ↦
-          (let (g, there, same) = at_digest q f.digest at in
-          let one : g ≡ f =
-          one_digest g f (at_contains graph.survivors q g there) (at_contains graph.survivors p f stands) same in
-          let place : q ≡ p =
-          is.graphed.kept.single q p f (subst (λ h. slice_get graph.survivors q ≡ Some h) one there) stands in
-          subst (λ n. Contains parents n) place has)
-      | inr lacked ↦
-          absurd ((apart.finds.lacks f.digest lacked).1 (digest_kept f (at_contains graph.survivors p f stands)))
-    ],
-  )
+  are_parents = (apart.finds once).places ∙ ap (λ at. filter_map at e.entry.names) (λ k d. same_place d k)
 
   -- and these the digests that it names and no survivor has
   are_missing : AreMissing node_of_sealed graph.survivors e missing
-  are_missing d = (
-    λ has.
-        (let (names, none) = apart.finds.lacks d has in
-        (names, λ (f, there, same). none (subst (λ c. Contains kept.digests c) same (digest_kept f there)))),
-    λ (names, none). elim (apart.finds.each d names) [
-      | inl (p, has, at) ↦
-          (let (f, stands, same) = at_digest p d at in
-          absurd (none (f, at_contains graph.survivors p f stands, same)))
-      | inr lacked ↦ lacked
-    ],
-  )
+  are_missing =
+      (apart.finds once).others
+      ∙ ap (λ (at : List ℕ → Option ℕ). filter (λ d. is_none (at d)) e.entry.names) (λ k d. same_place d k)
 
   -- there is room for a survivor more
   few : length graph.survivors < 16384
@@ -115,7 +92,9 @@ module _ (machines : List Post) (given : List SealedEntry) (graph : EntryGraph S
 
   -- the graph with it is that of all
   pub is_next : IsGraphOfGiven node_of_sealed (given ++ e ∷ []) (grown graph e parents missing)
-  is_next = is_grown node_of_sealed given graph is.graphed e new is_appended parents are_parents missing are_missing few
+  is_next = is_grown node_of_sealed given graph is.graphed
+      (subst (λ ds. IsDistinct bytes_eq ds) is.survivors.digests (distinct_from kept.digests once)) e new is_appended
+      parents are_parents missing are_missing few
 
   -- the rows and one more
   pub rows_next : (row : Row) → row ≡ row_of machines e →

@@ -2,8 +2,8 @@
 use Rattle.std.proofs.Common.{◌≡◌, Option}
 use Rattle.live_auditor.proofs.Imports.{◌∙◌, ℕ, zero, suc, ◌+◌, ◌<◌, ◌≤◌, List, [], ◌∷◌, length, get_or, map, ap, sym}
 use Rattle.live_auditor.proofs.Imports.{subst, arith, inl, inr, ◌⊎◌, true, false, true≢false, cases_lt, Some, Ok}
-use Rattle.live_auditor.proofs.Imports.{slice_get, length-map, slice_get_within, SealedEntry, Rule, Row, rule_tree}
-use Rattle.live_auditor.proofs.Imports.{RuleTree, EntriesGiveOneGraph, SameGraph, IsFirstTooWide, row_of, IsTooWideOver}
+use Rattle.live_auditor.proofs.Imports.{slice_get, length-map, slice_get_within, Rule, Row, rule_tree}
+use Rattle.live_auditor.proofs.Imports.{RuleTree, EntriesGiveOneGraph, IsFirstTooWide, row_of, IsTooWideOver}
 use Rattle.live_auditor.proofs.Imports.{LiveState, SurvivorsKept, IsKept, None}
 use Rattle.rule_meaning.specs.Widths.{is_too_wide}
 use Rattle.std.specs.Prelude.{IfNone}
@@ -66,10 +66,11 @@ module _ (state : LiveState) (kept : SurvivorsKept) (is : IsKept state kept) (tr
   pub narrow_kept : EntriesGiveOneGraph → ((place : ℕ) → IsFirstTooWide kept.rows trees place → ⊥) → (place : ℕ) →
       IsTooWideOver state.machines trees state.added place → ⊥
   narrow_kept graphs none place (graph, graphed, first) =
-      let same : SameGraph graph is.live.after.graph =
+      let found : Ok graph ≡ Ok is.live.after.graph =
       graphs state.added (Ok graph) (Ok is.live.after.graph) graphed is.live.after.graphed in
+      let same : graph ≡ is.live.after.graph = cc in
       none place (subst (λ rows. IsFirstTooWide rows trees place)
-      (ap (λ (S : List SealedEntry). map (row_of state.machines) S) same.survivors ∙ sym is.survivors.rows) first)
+      (ap (λ g. map (row_of state.machines) g.survivors) same ∙ sym is.survivors.rows) first)
 
 -- what holds where no value is there follows from what does
 pub if_none_weaker : {X : Type 0} {P Q : Type 0} (found : Option X) → (P → Q) → IfNone found P → IfNone found Q

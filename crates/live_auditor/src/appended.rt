@@ -3,7 +3,7 @@ ghost use Rattle.std.specs.Prelude.{◌≡◌, ◌≤◌, ◌&&◌, ◌==◌, le
 ghost use Rattle.std.specs.Prelude.{IfNone, IfOk, IfSome, Some};
 ghost use Rattle.std.specs.List.{Contains, list_any};
 ghost use Rattle.std.specs.Str.{bytes_eq};
-ghost use Rattle.live_auditor.specs.inside.Found.{FindsNames, IsApartBy};
+ghost use Rattle.live_auditor.specs.inside.Found.{FindsNames, HasOnePlaceEach, IsApartBy};
 
 use crate::digests::same_digest;
 use crate::survivors::Survivors;
@@ -53,8 +53,8 @@ pub(crate) struct Named {
 /// Where these names are among the digests, and those that aren't there.
 fn named_in(alloc: Global, digests: &[[u8; 32]], names: &[[u8; 32]]) -> Result<Named, AllocError>
     requires { length digests.now ≤ 16384 }
-    ensures { IfOk result (λ named.
-        FindsNames digests.now names.now named.parents.items named.missing.items) }
+    ensures { IfOk result (λ named. HasOnePlaceEach digests.now
+        → FindsNames digests.now names.now named.parents.items named.missing.items) }
 {
     let mut parents = Vec::with_capacity(alloc, names.len())?;
     let mut missing = Vec::new(alloc);

@@ -1,11 +1,10 @@
 -- The appended entry: one that comes after all that were given, and after which nothing needs to be
 -- said anew of the others.
-use Rattle.std.specs.Prelude.{◌≡◌, ◌↔◌, ◌<◌, ◌++◌, ◌∷◌, [], ℕ, List, Some, slice_get}
-use Rattle.std.specs.List.{Contains}
+use Rattle.std.specs.Prelude.{◌≡◌, ◌<◌, ◌++◌, ◌∷◌, [], ℕ, List, is_none}
+use Rattle.std.specs.List.{Contains, filter, filter_map}
 use Rattle.entry_order.specs.Ascending.{ascending}
-use Rattle.entry_order.specs.Naming.{IsBorneIn}
 use Rattle.entry_order.specs.Node.{Node}
-use Rattle.entry_graph.specs.EntryGraph.{EntryGraph}
+use Rattle.entry_graph.specs.EntryGraph.{EntryGraph, place_in}
 use Rattle.live_auditor.specs.inside.Kept.{link_to}
 
 module _ {T : Type 0} (node : T → Node) where
@@ -18,18 +17,13 @@ module _ {T : Type 0} (node : T → Node) where
     pub no_fork : (f : T) → Contains graph.survivors f → (node f).maker ≡ (node e).maker →
         (node f).number ≡ (node e).number → ⊥
 
-  -- the numbers are those of the survivors that e names
+  -- the numbers are the places of those that e names, in the order of its names
   abbrev pub AreParents : List T → T → List ℕ → Type 0
-  AreParents S e parents =
-      (p : ℕ) → (Contains parents p → (f : T) × (slice_get S p ≡ Some f)
-      × Contains (node e).names (node f).digest)
-      × ((f : T) → slice_get S p ≡ Some f →
-      Contains (node e).names (node f).digest → Contains parents p)
+  AreParents S e parents = parents ≡ filter_map (place_in node S) (node e).names
 
-  -- the digests are those that e names and no survivor has
+  -- the digests are those that e names and no survivor has, in that order
   abbrev pub AreMissing : List T → T → List (List ℕ) → Type 0
-  AreMissing S e missing =
-      (d : List ℕ) → Contains missing d ↔ (Contains (node e).names d × (IsBorneIn node S d → ⊥))
+  AreMissing S e missing = missing ≡ filter (λ d. is_none (place_in node S d)) (node e).names
 
 -- the graph with one survivor more, which has the last number and these parents, and names these
 -- digests, too, which no survivor has
