@@ -1,15 +1,14 @@
 -- A booth casts over a log with a gap: it never heard of the override that precedes its ballot.
-use Rattle.counterexamples.proofs.Imports.{◌≡◌, ℕ, zero, suc, List, [], ◌∷◌, map, inl, inr, refl, arith, Deed}
-use Rattle.counterexamples.proofs.Imports.{IsDeedOf, node_of_sealed, SealedEntry, Event, Step, Act, Hear, Precedes}
-use Rattle.counterexamples.proofs.Imports.{World, history, sent_in, Post, Supervisor, Booth, LogNotWhole, BoothNot}
-use Rattle.counterexamples.proofs.Imports.{NamesOnlyHeld, v2_body, Holds, row_of, role_at, MayInSpiteOf, IsHonestBut}
+use Rattle.counterexamples.proofs.Imports.{opened_decides, closed_decides, ends_decides, activates_decides}
+use Rattle.counterexamples.proofs.Imports.{overrides_decides, commits_decides, overrides_by_decides, ◌≡◌, ℕ, zero, suc}
+use Rattle.counterexamples.proofs.Imports.{List, [], ◌∷◌, map, inl, inr, refl, arith, Deed, node_of_sealed, SealedEntry}
+use Rattle.counterexamples.proofs.Imports.{Step, Act, Hear, Precedes, World, history, sent_in, Post, Supervisor, Booth}
+use Rattle.counterexamples.proofs.Imports.{LogNotWhole, BoothNot, NamesOnlyHeld, v2_body, Holds, row_of, IsHonestBut}
 use Rattle.counterexamples.proofs.Imports.{FailsAtSome}
+use Rattle.counterexamples.proofs.NotHeld.{may_authorise, no_any, no_own, none_borne}
+use Rattle.counterexamples.proofs.SmallPlaces.{EachSent, May, fails_but, machine, made, place}
 use Rattle.entry_format.specs.declared.deed.Deed.TheVariants as deed
 use Rattle.entry_format.specs.declared.deed.How.TheVariants as how
-use Rattle.counterexamples.proofs.NotHeld.{none_borne, not_opened, not_closed_own, not_closed, not_used, not_busy}
-use Rattle.counterexamples.proofs.NotHeld.{not_ended, not_ended_own, not_overridden, not_overridden_to}
-use Rattle.counterexamples.proofs.NotHeld.{not_overridden_own, not_activated, not_committed}
-use Rattle.counterexamples.proofs.SmallPlaces.{EachSent, each_sent, machine, made, place, place_orderly, place_distinct}
 
 -- a supervisor and two booths
 abbrev posts : List Post
@@ -58,62 +57,29 @@ committed = made deeds 1 1 4 (activated.digest ∷ [])
 abbrev cast : SealedEntry
 cast = made deeds 1 2 5 (also_authorised.digest ∷ committed.digest ∷ [])
 
--- these seven are all that was sent
-all_sent : sent_in w
-    ≡ opened ∷ authorised ∷ overridden ∷ also_authorised ∷ activated ∷ committed ∷ cast ∷ []
-all_sent = refl
-
--- each deed is allowed, except that there is a cause against the ballot
-abbrev May : ℕ → List (Event SealedEntry) → SealedEntry → Type 0
-May m past e =
-    IsDeedOf (role_at posts m) e.entry.deed
-    × MayInSpiteOf (BoothNot LogNotWhole) (role_at posts m) m past e.entry.deed
-
 -- the supervisor's
-supervisor_allowed : EachSent (May 0) [] (history w 0)
+supervisor_allowed : EachSent (May (BoothNot LogNotWhole) posts 0) [] (history w 0)
 supervisor_allowed =
-    let one = opened.entry ∷ [] in
     let two = opened.entry ∷ authorised.entry ∷ [] in
     let three = opened.entry ∷ authorised.entry ∷ overridden.entry ∷ [] in (
-      (refl, inl (inr (not_opened 0 [] refl, refl))),
+      (refl, inl (inr (no_own opened_decides 0 [] refl, refl))),
       (
-        (
-          refl,
-          inl (inr (
-            λ unopened. unopened (0, opened.entry, omega arith, refl, (refl, refl)),
-            inr (
-              not_closed_own 0 one refl,
-              inr (not_used 7 0 one refl, inr (not_busy 1 0 one refl, refl)),
-            ),
-          )),
-        ),
+        (refl, inl (may_authorise 1 7 0 (opened.entry ∷ []) refl refl refl refl)),
         (
           (
             refl,
             inl (inr (
               λ unused. unused (1, authorised.entry, omega arith, refl, (refl, (1, refl))),
               inr (
-                not_ended 7 two refl,
+                no_any (ends_decides 7) two refl,
                 inr (
-                  not_overridden_own 7 how.Cast 0 two refl,
+                  no_own (overrides_by_decides 7 how.Cast) 0 two refl,
                   inr (λ other. let says : how.Cancel ≡ how.Cast = other.0 in cc, refl),
                 ),
               ),
             )),
           ),
-          (
-            (
-              refl,
-              inl (inr (
-                λ unopened. unopened (0, opened.entry, omega arith, refl, (refl, refl)),
-                inr (
-                  not_closed_own 0 three refl,
-                  inr (not_used 8 0 three refl, inr (not_busy 2 0 three refl, refl)),
-                ),
-              )),
-            ),
-            tt,
-          ),
+          ((refl, inl (may_authorise 2 8 0 three refl refl refl refl)), tt),
         ),
       ),
     )
@@ -129,7 +95,7 @@ has_gap whole =
     (whole also_authorised overridden.digest (4, omega arith, refl) (0, omega arith, refl))
 
 -- the booth's
-booth_allowed : EachSent (May 1) [] (history w 1)
+booth_allowed : EachSent (May (BoothNot LogNotWhole) posts 1) [] (history w 1)
 booth_allowed =
     let two = opened.entry ∷ authorised.entry ∷ [] in
     let three = opened.entry ∷ authorised.entry ∷ activated.entry ∷ [] in
@@ -139,10 +105,10 @@ booth_allowed =
         inl (inr (
           λ unnamed. unnamed (1, authorised.entry, omega arith, refl, refl),
           inr (
-            not_ended_own 7 1 two refl,
+            no_own (ends_decides 7) 1 two refl,
             inr (
-              not_activated 7 1 two refl,
-              inr (not_overridden 7 two refl, inr (not_closed two refl, refl)),
+              no_own (activates_decides 7) 1 two refl,
+              inr (no_any (overrides_decides 7) two refl, inr (no_any closed_decides two refl, refl)),
             ),
           ),
         )),
@@ -153,10 +119,10 @@ booth_allowed =
           inl (inr (
             λ inactive. inactive (2, activated.entry, omega arith, refl, (refl, refl)),
             inr (
-              not_ended_own 7 1 three refl,
+              no_own (ends_decides 7) 1 three refl,
               inr (
-                not_committed 7 1 three refl,
-                inr (not_overridden 7 three refl, inr (not_closed three refl, refl)),
+                no_own (commits_decides 7) 1 three refl,
+                inr (no_any (overrides_decides 7) three refl, inr (no_any closed_decides three refl, refl)),
               ),
             ),
           )),
@@ -167,10 +133,10 @@ booth_allowed =
             inr (inr (
               λ unbound. unbound (3, committed.entry, omega arith, refl, (refl, refl)),
               inr (
-                not_ended_own 7 1 five refl,
+                no_own (ends_decides 7) 1 five refl,
                 inr (
-                  not_overridden_to 7 how.Cancel five refl,
-                  inr (not_closed five refl, inl (has_gap, refl)),
+                  no_any (overrides_by_decides 7 how.Cancel) five refl,
+                  inr (no_any closed_decides five refl, inl (has_gap, refl)),
                 ),
               ),
             )),
@@ -181,7 +147,7 @@ booth_allowed =
     )
 
 -- so each machine sends what it may, but for that ballot
-allowed : (m : ℕ) → EachSent (May m) [] (history w m)
+allowed : (m : ℕ) → EachSent (May (BoothNot LogNotWhole) posts m) [] (history w m)
 allowed zero = supervisor_allowed
 allowed (suc zero) = booth_allowed
 allowed (suc (suc zero)) = tt
@@ -202,14 +168,4 @@ fails holds = holds cast (6, omega arith, refl) refl (overridden, refl, before, 
 
 -- a booth that casts over a log that isn't whole can break the rule on overrides
 pub casting_over_gaps_fails : FailsAtSome (IsHonestBut (BoothNot LogNotWhole)) v2_body
-casting_over_gaps_fails = (
-  posts,
-  w,
-  record {
-    supervisor = refl;
-    orderly = place_orderly deeds steps;
-    allowed = λ m. each_sent (May m) (history w m) (allowed m);
-  },
-  place_distinct deeds steps,
-  fails,
-)
+casting_over_gaps_fails = fails_but (BoothNot LogNotWhole) v2_body posts deeds steps refl allowed fails

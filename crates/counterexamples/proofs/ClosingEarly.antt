@@ -1,13 +1,13 @@
 -- The supervisor closes though a session is left.
-use Rattle.counterexamples.proofs.Imports.{◌≡◌, ℕ, zero, suc, List, [], ◌∷◌, inl, inr, refl, arith, Deed, IsDeedOf}
-use Rattle.counterexamples.proofs.Imports.{node_of_sealed, SealedEntry, Event, Step, Act, Precedes, World, history}
-use Rattle.counterexamples.proofs.Imports.{sent_in, Post, Supervisor, Booth, SessionsLeft, SupervisorNot, p3_body}
-use Rattle.counterexamples.proofs.Imports.{Holds, is_kind, row_of, kind_of, role_at, MayInSpiteOf, IsHonestBut}
+use Rattle.counterexamples.proofs.Imports.{opened_decides, closed_decides, ends_decides, ℕ, zero, suc, List, [], ◌∷◌}
+use Rattle.counterexamples.proofs.Imports.{inl, inr, refl, arith, Deed, node_of_sealed, SealedEntry, Step, Act}
+use Rattle.counterexamples.proofs.Imports.{Precedes, World, history, sent_in, Post, Supervisor, Booth, SessionsLeft}
+use Rattle.counterexamples.proofs.Imports.{SupervisorNot, p3_body, Holds, is_kind, row_of, kind_of, IsHonestBut}
 use Rattle.counterexamples.proofs.Imports.{FailsAtSome}
+use Rattle.counterexamples.proofs.NotHeld.{may_authorise, no_any, no_own, none_such}
+use Rattle.counterexamples.proofs.SmallPlaces.{EachSent, May, fails_but, machine, made, place}
 use Rattle.entry_format.specs.declared.deed.Deed.TheVariants as deed
 use Rattle.rule_language.specs.declared.kind.Kind.TheVariants as kind
-use Rattle.counterexamples.proofs.NotHeld.{none_such, not_opened, not_closed_own, not_used, not_busy, not_ended}
-use Rattle.counterexamples.proofs.SmallPlaces.{EachSent, each_sent, machine, made, place, place_orderly, place_distinct}
 
 -- a supervisor and a booth
 abbrev posts : List Post
@@ -37,42 +37,22 @@ authorised = made deeds 0 1 2 (opened.digest ∷ [])
 abbrev closed : SealedEntry
 closed = made deeds 0 2 3 (authorised.digest ∷ [])
 
--- these three are all that was sent
-all_sent : sent_in w ≡ opened ∷ authorised ∷ closed ∷ []
-all_sent = refl
-
--- each deed is allowed, except that there is a cause against the closing
-abbrev May : ℕ → List (Event SealedEntry) → SealedEntry → Type 0
-May m past e =
-    IsDeedOf (role_at posts m) e.entry.deed
-    × MayInSpiteOf (SupervisorNot SessionsLeft) (role_at posts m) m past e.entry.deed
-
 -- so each machine sends what it may, but for the closing
-allowed : (m : ℕ) → EachSent (May m) [] (history w m)
+allowed : (m : ℕ) → EachSent (May (SupervisorNot SessionsLeft) posts m) [] (history w m)
 allowed zero =
-    let one = opened.entry ∷ [] in
     let two = opened.entry ∷ authorised.entry ∷ [] in (
-      (refl, inl (inr (not_opened 0 [] refl, refl))),
+      (refl, inl (inr (no_own opened_decides 0 [] refl, refl))),
       (
-        (
-          refl,
-          inl (inr (
-            λ unopened. unopened (0, opened.entry, omega arith, refl, (refl, refl)),
-            inr (
-              not_closed_own 0 one refl,
-              inr (not_used 7 0 one refl, inr (not_busy 1 0 one refl, refl)),
-            ),
-          )),
-        ),
+        (refl, inl (may_authorise 1 7 0 (opened.entry ∷ []) refl refl refl refl)),
         (
           (
             refl,
             inr (inr (
               λ unopened. unopened (0, opened.entry, omega arith, refl, (refl, refl)),
               inr (
-                not_closed_own 0 two refl,
+                no_own closed_decides 0 two refl,
                 inl (
-                  (1, (7, ((1, authorised.entry, omega arith, refl, (refl, refl)), not_ended 7 two refl))),
+                  (1, (7, ((1, authorised.entry, omega arith, refl, (refl, refl)), no_any (ends_decides 7) two refl))),
                   refl,
                 ),
               ),
@@ -104,14 +84,5 @@ fails holds =
 
 -- a supervisor that closes while a session is left breaks the rule on closing
 pub closing_over_sessions_fails : FailsAtSome (IsHonestBut (SupervisorNot SessionsLeft)) p3_body
-closing_over_sessions_fails = (
-  posts,
-  w,
-  record {
-    supervisor = refl;
-    orderly = place_orderly deeds steps;
-    allowed = λ m. each_sent (May m) (history w m) (allowed m);
-  },
-  place_distinct deeds steps,
-  fails,
-)
+closing_over_sessions_fails =
+    fails_but (SupervisorNot SessionsLeft) p3_body posts deeds steps refl allowed fails

@@ -1,11 +1,11 @@
 -- The example's facts: its lists compute, and a path would begin where an entry is named.
-use Rattle.counterexamples.proofs.Imports.{◌≡◌, ◌<◌, ◌≤◌, true, false, List, [], ◌∷◌, refl, sym, subst, ◌∙◌, inl, inr}
-use Rattle.counterexamples.proofs.Imports.{arith, Contains, true≢false, Sent, Got, Act, Hear, Node, is_named}
-use Rattle.counterexamples.proofs.Imports.{Distinct, sent_in, IsLegalNext, HeldBefore, HeldBefore.itself}
-use Rattle.counterexamples.proofs.Imports.{HeldBefore.descendant, Precedes, NamesNoGap, IsWhole, DigestTellsNumber}
-use Rattle.counterexamples.proofs.Imports.{digest_of, shown, example_entry, next_example, a0, a1, b0, b1, c0, c1}
-use Rattle.counterexamples.proofs.Imports.{without_b0, IsExample, Contains-none, Contains-cons_cases, is_named_of}
-use Rattle.counterexamples.proofs.Imports.{rises_along, made_is_lawful, numbered_is_distinct}
+use Rattle.counterexamples.proofs.Imports.{◌≡◌, ◌<◌, ◌≤◌, true, false, List, [], ◌∷◌, refl, sym, ◌∙◌, inl, inr, arith}
+use Rattle.counterexamples.proofs.Imports.{Contains, true≢false, Sent, Got, Act, Hear, Node, is_named, Distinct}
+use Rattle.counterexamples.proofs.Imports.{sent_in, IsLegalNext, HeldBefore, HeldBefore.itself, HeldBefore.descendant}
+use Rattle.counterexamples.proofs.Imports.{Precedes, NamesNoGap, IsWhole, DigestTellsNumber, digest_of, shown}
+use Rattle.counterexamples.proofs.Imports.{example_entry, next_example, a0, a1, b0, b1, c0, c1, without_b0, IsExample}
+use Rattle.counterexamples.proofs.Imports.{Contains-none, Contains-cons_cases, is_named_of, rises_along, made_is_lawful}
+use Rattle.counterexamples.proofs.Imports.{numbered_is_distinct, Contains-one, All, All-from_recursion, ◌≢◌, ◌⊎◌}
 use Rattle.counterexamples.specs.Example.{Entry, world}
 
 -- the machines of the example follow the rules
@@ -25,7 +25,23 @@ pub no_path : {T : Type 0} (node : T → Node) (E : List T) (f : T) → is_named
 no_path node E f free e (cf, ce, [], n) = true≢false (sym (is_named_of node E (node f).digest (e, ce, n)) ∙ free)
 no_path node E f free e (cf, ce, g ∷ gs, p) = true≢false (sym (is_named_of node E (node f).digest (g, p.0, p.1)) ∙ free)
 
--- its entries have different digests
+-- two entries with two digests are distinct
+pub distinct_two : {T : Type 0} (node : T → Node) (x y : T) → (node x).digest ≢ (node y).digest →
+    Distinct node (x ∷ y ∷ [])
+distinct_two {T} node x y differ e f ce cf is = by (one e ce) (one f cf)
+  where
+    -- a member is one of the two
+    one : (z : T) → Contains (x ∷ y ∷ []) z → (x ≡ z) ⊎ (y ≡ z)
+    one z c =
+        elim (Contains-cons_cases x (y ∷ []) z c) [ inl here ↦ inl here | inr later ↦ inr (Contains-one y z later) ]
+
+    by : (x ≡ e) ⊎ (y ≡ e) → (x ≡ f) ⊎ (y ≡ f) → e ≡ f
+    by (inl a) (inl b) = cc
+    by (inl a) (inr b) = absurd (differ (rw (a, b) is))
+    by (inr a) (inl b) = absurd (differ (rw (a, b) (sym is)))
+    by (inr a) (inr b) = cc
+
+-- the example's entries have different digests
 distinct : Distinct shown (sent_in world)
 distinct =
     numbered_is_distinct shown next_example 64 3
@@ -50,38 +66,24 @@ precedes = (
 -- what a1 names is no gap
 names_no_gap : NamesNoGap shown without_b0 a1
 names_no_gap d named gap =
-    elim (Contains-cons_cases (digest_of 0 0) [] d named) [
-      | inl is ↦ elim
-          (Contains-cons_cases (digest_of 1 0) [] d gap) [ inl lost ↦ cc | inr none ↦ absurd (Contains-none d none) ]
-      | inr none ↦ absurd (Contains-none d none)
-    ]
+    let is : digest_of 0 0 ≡ d = Contains-one (digest_of 0 0) d named in
+    let lost : digest_of 1 0 ≡ d = Contains-one (digest_of 1 0) d gap in
+    cc
+
+-- the others but a0 have stamps from 2 on
+later_stamps : All (λ (e : Entry). 2 ≤ e.stamp) (a1 ∷ b1 ∷ c0 ∷ c1 ∷ [])
+later_stamps =
+    All-from_recursion (λ (e : Entry). 2 ≤ e.stamp) (a1 ∷ b1 ∷ c0 ∷ c1 ∷ [])
+    (omega arith, (omega arith, (omega arith, (omega arith, tt))))
 
 -- an entry that is left with a stamp below 2 is a0, which names nothing
 names_none : (y : Entry) → Contains without_b0 y → y.stamp < 2 → NamesNoGap shown without_b0 y
 names_none y c low d named gap =
     elim (Contains-cons_cases a0 (a1 ∷ b1 ∷ c0 ∷ c1 ∷ []) y c) [
-      | inl is ↦ absurd (Contains-none d (subst (λ (u : Entry). Contains u.names d) (sym is) named))
-      | inr later ↦ absurd (let high = later_stamps y later in omega arith)
+      | inl is ↦ absurd (Contains-none d (rw (sym is) at named))
+      | inr (k, within, there) ↦
+          absurd (let high : 2 ≤ y.stamp = rw there at (later_stamps k y within) in omega arith)
     ]
-  where
-    later_stamps : (y : Entry) → Contains (a1 ∷ b1 ∷ c0 ∷ c1 ∷ []) y → 2 ≤ y.stamp
-    later_stamps y c =
-        elim (Contains-cons_cases a1 (b1 ∷ c0 ∷ c1 ∷ []) y c) [
-          | inl is ↦ stamp_of a1 is (omega arith)
-          | inr c ↦ elim (Contains-cons_cases b1 (c0 ∷ c1 ∷ []) y c) [
-            | inl is ↦ stamp_of b1 is (omega arith)
-            | inr c ↦ elim (Contains-cons_cases c0 (c1 ∷ []) y c) [
-              | inl is ↦ stamp_of c0 is (omega arith)
-              | inr c ↦ elim (Contains-cons_cases c1 [] y c) [
-                | inl is ↦ stamp_of c1 is (omega arith)
-                | inr none ↦ absurd (Contains-none y none)
-              ]
-            ]
-          ]
-        ]
-      where
-        stamp_of : (e : Entry) → e ≡ y → 2 ≤ e.stamp → 2 ≤ y.stamp
-        stamp_of e is l = subst (λ (u : Entry). 2 ≤ u.stamp) is l
 
 -- the entry names nothing that is lost
 whole : IsWhole shown without_b0 a1

@@ -1,13 +1,13 @@
 -- The supervisor names none of its own entries.
-use Rattle.counterexamples.proofs.Imports.{◌≡◌, ℕ, zero, suc, false, List, [], ◌∷◌, ◌++◌, inl, inr, refl, sym, ◌∙◌}
-use Rattle.counterexamples.proofs.Imports.{arith, Deed, node_of_sealed, SealedEntry, Event, Sent, Got, held, IsNew}
-use Rattle.counterexamples.proofs.Imports.{Distinct, World, history, sent_in, Contains-none, Contains-cons_cases}
-use Rattle.counterexamples.proofs.Imports.{IsNew-from_test, Post, Supervisor, Booth, k2_body, Holds, row_of, MayAs}
-use Rattle.counterexamples.proofs.Imports.{role_at, FailsAtSome, IsNextUnchained, IsHonestUnchained}
-use Rattle.entry_format.specs.declared.deed.Deed.TheVariants as deed
-use Rattle.counterexamples.proofs.ExampleFacts.{no_path}
-use Rattle.counterexamples.proofs.NotHeld.{not_opened, not_closed_own, not_used, not_busy}
+use Rattle.counterexamples.proofs.Imports.{opened_decides, ◌≡◌, ℕ, zero, suc, false, List, [], ◌∷◌, ◌++◌, inl, inr}
+use Rattle.counterexamples.proofs.Imports.{refl, arith, Deed, node_of_sealed, SealedEntry, Event, Sent, Got, held}
+use Rattle.counterexamples.proofs.Imports.{IsNew, Distinct, World, history, sent_in, IsNew-from_test, Post, Supervisor}
+use Rattle.counterexamples.proofs.Imports.{Booth, k2_body, Holds, row_of, MayAs, role_at, FailsAtSome, IsNextUnchained}
+use Rattle.counterexamples.proofs.Imports.{IsHonestUnchained}
+use Rattle.counterexamples.proofs.ExampleFacts.{distinct_two, no_path}
+use Rattle.counterexamples.proofs.NotHeld.{may_authorise, no_own}
 use Rattle.counterexamples.proofs.SmallPlaces.{EachSent, each_sent, machine, made}
+use Rattle.entry_format.specs.declared.deed.Deed.TheVariants as deed
 
 -- a supervisor, and a booth that sends nothing
 abbrev posts : List Post
@@ -38,31 +38,24 @@ AsAsked m past e =
 
 -- each is what is asked, but that it names nothing
 as_asked : (m : ℕ) → EachSent (AsAsked m) [] (history w m)
-as_asked zero =
-    let one = opened.entry ∷ [] in (
-      (
-        IsNew-from_test node_of_sealed [] opened refl,
-        record { maker = refl; number = refl; stamp = refl; names = refl },
-        record { of_role = refl; no_cause = inr (not_opened 0 [] refl, refl) },
-      ),
-      (
-        (
-          IsNew-from_test node_of_sealed (opened ∷ []) authorised refl,
-          record { maker = refl; number = refl; stamp = refl; names = refl },
-          record {
-            of_role = refl;
-            no_cause = inr (
-              λ unopened. unopened (0, opened.entry, omega arith, refl, (refl, refl)),
-              inr (
-                not_closed_own 0 one refl,
-                inr (not_used 7 0 one refl, inr (not_busy 1 0 one refl, refl)),
-              ),
-            );
-          },
-        ),
-        tt,
-      ),
-    )
+as_asked zero = (
+  (
+    IsNew-from_test node_of_sealed [] opened refl,
+    record { maker = refl; number = refl; stamp = refl; names = refl },
+    record { of_role = refl; no_cause = inr (no_own opened_decides 0 [] refl, refl) },
+  ),
+  (
+    (
+      IsNew-from_test node_of_sealed (opened ∷ []) authorised refl,
+      record { maker = refl; number = refl; stamp = refl; names = refl },
+      record {
+        of_role = refl;
+        no_cause = may_authorise 1 7 0 (opened.entry ∷ []) refl refl refl refl;
+      },
+    ),
+    tt,
+  ),
+)
 as_asked (suc zero) = tt
 as_asked (suc (suc m)) = tt
 
@@ -80,26 +73,7 @@ no_receipt (suc (suc m)) (x ∷ past) e later is = cc
 
 -- their digests differ
 distinct : Distinct node_of_sealed (sent_in w)
-distinct e f ce cf is =
-    elim (Contains-cons_cases opened (authorised ∷ []) e ce) [
-      | inl first ↦ elim (Contains-cons_cases opened (authorised ∷ []) f cf) [
-        | inl other ↦ sym first ∙ other
-        | inr c ↦ elim (Contains-cons_cases authorised [] f c) [
-          | inl other ↦ cc
-          | inr none ↦ absurd (Contains-none f none)
-        ]
-      ]
-      | inr c ↦ elim (Contains-cons_cases authorised [] e c) [
-        | inl second ↦ elim (Contains-cons_cases opened (authorised ∷ []) f cf) [
-          | inl other ↦ cc
-          | inr d ↦ elim (Contains-cons_cases authorised [] f d) [
-            | inl other ↦ sym second ∙ other
-            | inr none ↦ absurd (Contains-none f none)
-          ]
-        ]
-        | inr none ↦ absurd (Contains-none e none)
-      ]
-    ]
+distinct = distinct_two node_of_sealed opened authorised (λ e. cc)
 
 -- no path leads to the second entry, whose number is 1
 fails : ¬ (Holds node_of_sealed (row_of posts) (sent_in w) (sent_in w) k2_body)

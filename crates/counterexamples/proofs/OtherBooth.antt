@@ -1,13 +1,13 @@
 -- A booth acts in a session that another booth is authorised for.
-use Rattle.counterexamples.proofs.Imports.{◌≡◌, ℕ, zero, suc, Bool, List, [], ◌∷◌, inl, inr, refl, arith, ◌&&◌, ◌==◌}
-use Rattle.counterexamples.proofs.Imports.{and_from, Deed, IsDeedOf, node_of_sealed, SealedEntry, Event, Step, Act}
-use Rattle.counterexamples.proofs.Imports.{Hear, World, history, sent_in, Post, Supervisor, Booth, NotAuthorised}
-use Rattle.counterexamples.proofs.Imports.{BoothNot, a1_body, Holds, is_kind, row_of, kind_of, booth_of, role_at}
-use Rattle.counterexamples.proofs.Imports.{MayInSpiteOf, IsHonestBut, FailsAtSome}
+use Rattle.counterexamples.proofs.Imports.{opened_decides, authorises_booth_decides, ℕ, zero, suc, Bool, List, [], ◌∷◌}
+use Rattle.counterexamples.proofs.Imports.{inl, inr, refl, arith, ◌&&◌, ◌==◌, and_from, Deed, node_of_sealed}
+use Rattle.counterexamples.proofs.Imports.{SealedEntry, Step, Act, Hear, World, history, sent_in, Post, Supervisor}
+use Rattle.counterexamples.proofs.Imports.{Booth, NotAuthorised, BoothNot, a1_body, Holds, is_kind, row_of, kind_of}
+use Rattle.counterexamples.proofs.Imports.{booth_of, IsHonestBut, FailsAtSome}
+use Rattle.counterexamples.proofs.NotHeld.{may_authorise, no_any, no_own, none_such}
+use Rattle.counterexamples.proofs.SmallPlaces.{EachSent, May, fails_but, machine, made, place}
 use Rattle.entry_format.specs.declared.deed.Deed.TheVariants as deed
 use Rattle.rule_language.specs.declared.kind.Kind.TheVariants as kind
-use Rattle.counterexamples.proofs.NotHeld.{none_such, not_opened, not_closed_own, not_used, not_busy, not_named}
-use Rattle.counterexamples.proofs.SmallPlaces.{EachSent, each_sent, machine, made, place, place_orderly, place_distinct}
 
 -- a supervisor and two booths
 abbrev posts : List Post
@@ -37,38 +37,16 @@ authorised = made deeds 0 1 2 (opened.digest ∷ [])
 abbrev activated : SealedEntry
 activated = made deeds 2 0 3 (authorised.digest ∷ [])
 
--- these three are all that was sent
-all_sent : sent_in w ≡ opened ∷ authorised ∷ activated ∷ []
-all_sent = refl
-
--- each deed is allowed, except that there is a cause against the activation
-abbrev May : ℕ → List (Event SealedEntry) → SealedEntry → Type 0
-May m past e =
-    IsDeedOf (role_at posts m) e.entry.deed
-    × MayInSpiteOf (BoothNot NotAuthorised) (role_at posts m) m past e.entry.deed
-
 -- so each machine sends what it may, but for the activation
-allowed : (m : ℕ) → EachSent (May m) [] (history w m)
-allowed zero =
-    let one = opened.entry ∷ [] in (
-      (refl, inl (inr (not_opened 0 [] refl, refl))),
-      (
-        (
-          refl,
-          inl (inr (
-            λ unopened. unopened (0, opened.entry, omega arith, refl, (refl, refl)),
-            inr (
-              not_closed_own 0 one refl,
-              inr (not_used 7 0 one refl, inr (not_busy 1 0 one refl, refl)),
-            ),
-          )),
-        ),
-        tt,
-      ),
-    )
+allowed : (m : ℕ) → EachSent (May (BoothNot NotAuthorised) posts m) [] (history w m)
+allowed zero = (
+  (refl, inl (inr (no_own opened_decides 0 [] refl, refl))),
+  ((refl, inl (may_authorise 1 7 0 (opened.entry ∷ []) refl refl refl refl)), tt),
+)
 allowed (suc zero) = tt
 allowed (suc (suc zero)) =
-    ((refl, inr (inl (not_named 2 7 (opened.entry ∷ authorised.entry ∷ []) refl, refl))), tt)
+    let two = opened.entry ∷ authorised.entry ∷ [] in
+    ((refl, inr (inl (no_any (authorises_booth_decides 2 7) two refl, refl))), tt)
 allowed (suc (suc (suc m))) = tt
 
 -- no authorising names the booth that activates
@@ -82,14 +60,5 @@ fails holds =
 
 -- a booth that takes another's session breaks the rule on activations
 pub taking_another_booths_session_fails : FailsAtSome (IsHonestBut (BoothNot NotAuthorised)) a1_body
-taking_another_booths_session_fails = (
-  posts,
-  w,
-  record {
-    supervisor = refl;
-    orderly = place_orderly deeds steps;
-    allowed = λ m. each_sent (May m) (history w m) (allowed m);
-  },
-  place_distinct deeds steps,
-  fails,
-)
+taking_another_booths_session_fails =
+    fails_but (BoothNot NotAuthorised) a1_body posts deeds steps refl allowed fails

@@ -1,12 +1,12 @@
 -- A rule that compares the booth of the wrong entry.
-use Rattle.counterexamples.proofs.Imports.{◌≡◌, ℕ, zero, suc, List, [], ◌∷◌, inr, refl, arith, Deed, node_of_sealed}
-use Rattle.counterexamples.proofs.Imports.{SealedEntry, Event, Step, Act, Hear, World, history, sent_in, Post}
-use Rattle.counterexamples.proofs.Imports.{Supervisor, Booth, Holds, row_of, IsHonest, MayAs, role_at, FailsAtSome}
-use Rattle.counterexamples.proofs.Imports.{own_booth}
-use Rattle.entry_format.specs.declared.deed.Deed.TheVariants as deed
-use Rattle.counterexamples.proofs.NotHeld.{not_opened, not_closed_own, not_used, not_busy}
-use Rattle.counterexamples.proofs.NotHeld.{not_ended_own, not_activated, not_overridden, not_closed}
+use Rattle.counterexamples.proofs.Imports.{opened_decides, closed_decides, ends_decides, activates_decides}
+use Rattle.counterexamples.proofs.Imports.{overrides_decides, ℕ, zero, suc, List, [], ◌∷◌, inr, refl, arith, Deed}
+use Rattle.counterexamples.proofs.Imports.{node_of_sealed, SealedEntry, Event, Step, Act, Hear, World, history, sent_in}
+use Rattle.counterexamples.proofs.Imports.{Post, Supervisor, Booth, Holds, row_of, IsHonest, MayAs, role_at}
+use Rattle.counterexamples.proofs.Imports.{FailsAtSome, own_booth}
+use Rattle.counterexamples.proofs.NotHeld.{may_authorise, no_any, no_own}
 use Rattle.counterexamples.proofs.SmallPlaces.{EachSent, each_sent, machine, made, place, place_orderly, place_distinct}
+use Rattle.entry_format.specs.declared.deed.Deed.TheVariants as deed
 
 -- a supervisor and a booth
 abbrev posts : List Post
@@ -36,33 +36,16 @@ authorised = made deeds 0 1 2 (opened.digest ∷ [])
 abbrev activated : SealedEntry
 activated = made deeds 1 0 3 (authorised.digest ∷ [])
 
--- these three are all that was sent
-all_sent : sent_in w ≡ opened ∷ authorised ∷ activated ∷ []
-all_sent = refl
-
 -- each is allowed
 abbrev May : ℕ → List (Event SealedEntry) → SealedEntry → Type 0
 May m past e = MayAs (role_at posts m) m past e
 
 -- so each machine sends what it may
 allowed : (m : ℕ) → EachSent (May m) [] (history w m)
-allowed zero =
-    let one = opened.entry ∷ [] in (
-      record { of_role = refl; no_cause = inr (not_opened 0 [] refl, refl) },
-      (
-        record {
-          of_role = refl;
-          no_cause = inr (
-            λ unopened. unopened (0, opened.entry, omega arith, refl, (refl, refl)),
-            inr (
-              not_closed_own 0 one refl,
-              inr (not_used 7 0 one refl, inr (not_busy 1 0 one refl, refl)),
-            ),
-          );
-        },
-        tt,
-      ),
-    )
+allowed zero = (
+  record { of_role = refl; no_cause = inr (no_own opened_decides 0 [] refl, refl) },
+  (record { of_role = refl; no_cause = may_authorise 1 7 0 (opened.entry ∷ []) refl refl refl refl }, tt),
+)
 allowed (suc zero) =
     let two = opened.entry ∷ authorised.entry ∷ [] in (
       record {
@@ -70,10 +53,10 @@ allowed (suc zero) =
         no_cause = inr (
           λ unnamed. unnamed (1, authorised.entry, omega arith, refl, refl),
           inr (
-            not_ended_own 7 1 two refl,
+            no_own (ends_decides 7) 1 two refl,
             inr (
-              not_activated 7 1 two refl,
-              inr (not_overridden 7 two refl, inr (not_closed two refl, refl)),
+              no_own (activates_decides 7) 1 two refl,
+              inr (no_any (overrides_decides 7) two refl, inr (no_any closed_decides two refl, refl)),
             ),
           ),
         );

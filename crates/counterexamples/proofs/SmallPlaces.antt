@@ -1,11 +1,13 @@
 -- Small polling places: each machine is given its deeds in a list, and sends the next one whenever
 -- it acts.
-use Rattle.counterexamples.proofs.Imports.{◌≡◌, ℕ, Bool, true, false, cond, List, [], ◌∷◌, ◌++◌, length, get_or}
-use Rattle.counterexamples.proofs.Imports.{Option, Some, None, refl, sym, ◌∙◌, ap, subst, append_assoc, append-nil}
-use Rattle.counterexamples.proofs.Imports.{not, Contains, Deed, Opened, node_of_sealed, SealedEntry, Event, Sent, Got}
-use Rattle.counterexamples.proofs.Imports.{Step, held, made_after, next_made, has_digest, Distinct, IsOrderly, World}
-use Rattle.counterexamples.proofs.Imports.{start, sent_in, play, IsLegalNext, no_fork, made_is_lawful, plays_are_made}
-use Rattle.counterexamples.proofs.Imports.{was_sent, IsOrderly-play, IsOrderly-start, Post, Role}
+use Rattle.counterexamples.proofs.Imports.{◌≡◌, ℕ, Bool, true, false, cond, List, [], ◌∷◌, ◌++◌, length, get_or, Option}
+use Rattle.counterexamples.proofs.Imports.{Some, None, refl, sym, ◌∙◌, append_assoc, append-nil, not, Contains, Deed}
+use Rattle.counterexamples.proofs.Imports.{Opened, node_of_sealed, SealedEntry, Event, Sent, Got, Step, held}
+use Rattle.counterexamples.proofs.Imports.{made_after, next_made, has_digest, Distinct, IsOrderly, World, start}
+use Rattle.counterexamples.proofs.Imports.{sent_in, play, IsLegalNext, no_fork, made_is_lawful, plays_are_made}
+use Rattle.counterexamples.proofs.Imports.{was_sent, IsOrderly-play, IsOrderly-start, Post, Role, LeftWhy, IsDeedOf}
+use Rattle.counterexamples.proofs.Imports.{role_at, MayInSpiteOf, Trees, HaveOneSupervisor, Holds, row_of, FailsAtSome}
+use Rattle.counterexamples.proofs.Imports.{IsHonestBut, history}
 
 -- a machine of the role
 abbrev pub machine : Role → Post
@@ -25,28 +27,24 @@ sent_from : (P : List (Event SealedEntry) → SealedEntry → Type 0) (before h 
 sent_from P before [] each [] e later is = cc
 sent_from P before [] each (y ∷ past) e later is = cc
 sent_from P before (Sent f ∷ h) each [] e later is =
-    let same : f ≡ e = cc in
-    let none : before ≡ before ++ [] = sym (append-nil before) in
-    subst (λ (p : List (Event SealedEntry)). P p e) none (subst (λ (u : SealedEntry). P before u) same each.0)
+    let same : f ≡ e = cc in rw (append-nil, ← same) each.0
 sent_from P before (Got f ∷ h) each [] e later is = cc
 sent_from P before (Sent f ∷ h) each (y ∷ past) e later is =
     let same : Sent f ≡ y = cc in
     let rest : h ≡ past ++ Sent e ∷ later = cc in
-    subst (λ (p : List (Event SealedEntry)). P p e)
-    (append_assoc before (Sent f ∷ []) past ∙ ap (λ (x : Event SealedEntry). before ++ x ∷ past) same)
+    rw (← same, ← append_assoc before (Sent f ∷ []) past)
     (sent_from P (before ++ Sent f ∷ []) h each.1 past e later rest)
 sent_from P before (Got f ∷ h) each (y ∷ past) e later is =
     let same : Got f ≡ y = cc in
     let rest : h ≡ past ++ Sent e ∷ later = cc in
-    subst (λ (p : List (Event SealedEntry)). P p e)
-    (append_assoc before (Got f ∷ []) past ∙ ap (λ (x : Event SealedEntry). before ++ x ∷ past) same)
+    rw (← same, ← append_assoc before (Got f ∷ []) past)
     (sent_from P (before ++ Got f ∷ []) h each past e later rest)
 
 -- what holds of each sent entry of a history holds of any one, with the events before it
 pub each_sent : (P : List (Event SealedEntry) → SealedEntry → Type 0) (h : List (Event SealedEntry)) →
     EachSent P [] h → (past : List (Event SealedEntry)) (e : SealedEntry) (later : List (Event SealedEntry)) →
     h ≡ past ++ Sent e ∷ later → P past e
-each_sent P h each past e later is = sent_from P [] h each past e later is
+each_sent P = sent_from P []
 
 -- the n-th entry of machine m, whose digest is its maker and its number
 abbrev pub made : List (List Deed) → ℕ → ℕ → ℕ → List (List ℕ) → SealedEntry
@@ -94,8 +92,7 @@ module _ (deeds : List (List Deed)) where
           e.digest ≡ e.entry.maker ∷ e.entry.number ∷ []
       by false is = cc
       by true is =
-          let same : made_after node_of_sealed (made deeds) m h ≡ e = cc in
-          subst (λ (u : SealedEntry). u.digest ≡ u.entry.maker ∷ u.entry.number ∷ []) same refl
+          let same : made_after node_of_sealed (made deeds) m h ≡ e = cc in rw (← same)
 
   -- what the machines come to by some steps
   abbrev pub place : List Step → World SealedEntry
@@ -123,3 +120,25 @@ module _ (deeds : List (List Deed)) where
       shown g c =
           let (past, (m, later, is)) = was_sent (place steps) g c in
           digest_is m past g (plays_are_made node_of_sealed next 64 (length deeds) steps m past g later is)
+
+-- each deed is allowed, or there is this cause against it
+abbrev pub May : LeftWhy → List Post → ℕ → List (Event SealedEntry) → SealedEntry → Type 0
+May why posts m past e =
+    IsDeedOf (role_at posts m) e.entry.deed × MayInSpiteOf why (role_at posts m) m past e.entry.deed
+
+-- a small place at which each machine sends what it may, but for this cause, is one at which a rule fails
+pub fails_but : (why : LeftWhy) (rule : Trees) (posts : List Post) (deeds : List (List Deed)) (steps : List Step) →
+    HaveOneSupervisor posts → ((m : ℕ) → EachSent (May why posts m) [] (history (place deeds steps) m)) →
+    ¬ (Holds node_of_sealed (row_of posts) (sent_in (place deeds steps)) (sent_in (place deeds steps)) rule) →
+    FailsAtSome (IsHonestBut why) rule
+fails_but why rule posts deeds steps supervisor allowed fails = (
+  posts,
+  place deeds steps,
+  record {
+    supervisor = supervisor;
+    orderly = place_orderly deeds steps;
+    allowed = λ m. each_sent (May why posts m) (history (place deeds steps) m) (allowed m);
+  },
+  place_distinct deeds steps,
+  fails,
+)

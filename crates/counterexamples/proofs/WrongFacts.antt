@@ -1,11 +1,11 @@
 -- The wrong definitions fail at their examples.
-use Rattle.counterexamples.proofs.Imports.{[], ◌∷◌, refl, sym, ◌∙◌, inl, inr, arith, Contains, Got, IsNamedIn}
-use Rattle.counterexamples.proofs.Imports.{Distinct, sent_in, HeldBefore.itself, OrderIsReceiptIn, IsFrontier}
-use Rattle.counterexamples.proofs.Imports.{digest_of, shown, example_entry, b1, OwnLastFails, frontier_by_arrival}
-use Rattle.counterexamples.proofs.Imports.{heard, ArrivalFails, ByOthersFails, Contains-none, Contains-cons_cases}
+use Rattle.counterexamples.proofs.Imports.{[], ◌∷◌, refl, arith, Contains, Got, IsNamedIn, Distinct, sent_in}
+use Rattle.counterexamples.proofs.Imports.{HeldBefore.itself, OrderIsReceiptIn, IsFrontier, digest_of, shown}
+use Rattle.counterexamples.proofs.Imports.{example_entry, b1, OwnLastFails, frontier_by_arrival, heard, ArrivalFails}
+use Rattle.counterexamples.proofs.Imports.{ByOthersFails}
 use Rattle.counterexamples.specs.Example.{Entry}
 use Rattle.counterexamples.specs.WrongNames.{world}
-use Rattle.counterexamples.proofs.ExampleFacts.{no_path}
+use Rattle.counterexamples.proofs.ExampleFacts.{distinct_two, no_path}
 
 -- what A sends
 abbrev sent_by_a : Entry
@@ -17,21 +17,7 @@ sent_by_b = example_entry 1 0 2 []
 
 -- their digests differ
 distinct : Distinct shown (sent_in world)
-distinct e f ce cf is =
-    elim (Contains-cons_cases sent_by_a (sent_by_b ∷ []) e ce) [
-      | inl ea ↦ elim (Contains-cons_cases sent_by_a (sent_by_b ∷ []) f cf) [
-        | inl fa ↦ sym ea ∙ fa
-        | inr c ↦ elim (Contains-cons_cases sent_by_b [] f c) [ inl fb ↦ cc | inr none ↦ absurd (Contains-none f none) ]
-      ]
-      | inr c ↦ elim (Contains-cons_cases sent_by_b [] e c) [
-        | inl eb ↦ elim (Contains-cons_cases sent_by_a (sent_by_b ∷ []) f cf) [
-          | inl fa ↦ cc
-          | inr c ↦ elim
-              (Contains-cons_cases sent_by_b [] f c) [ inl fb ↦ sym eb ∙ fb | inr none ↦ absurd (Contains-none f none) ]
-        ]
-        | inr none ↦ absurd (Contains-none e none)
-      ]
-    ]
+distinct = distinct_two shown sent_by_a sent_by_b (λ e. cc)
 
 -- B held what A sent, and no path leads there
 own_last_fails : ¬ (OrderIsReceiptIn shown world)
