@@ -1,10 +1,6 @@
 -- The laws of the crates below that the laws of all commands rest on.
-use Rattle.auditorium_core.proofs.Imports.{FilesGiveOneReport}
-use Rattle.log_commands.proofs.GapsCommand.{SayOne}
-use Rattle.place_commands.proofs.OnePlayAnswer.{PlayOne}
-use Rattle.log_commands.proofs.OneOrderAnswer.{OrderOne}
+use Rattle.auditorium_core.proofs.Imports.{FilesGiveOneReport, OrderOne, PlayOne, ProofOne, SayOne}
 use Rattle.auditorium_core.proofs.OneDemonstrationAnswer.{ShowOne}
-use Rattle.log_commands.proofs.OneProof.{ProofOne}
 
 -- each by what it speaks of
 pub record CitedLaws : Type 0 where

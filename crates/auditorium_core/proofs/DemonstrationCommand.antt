@@ -1,41 +1,26 @@
 -- The command `demo`.
-use Rattle.std.proofs.Common.{Option}
-use Rattle.std.specs.List.{Contains}
-use Rattle.auditorium_core.proofs.Imports.{◌≡◌, ℕ, List, [], ◌∷◌, inl, inr, subst, generated, Demonstration}
-use Rattle.auditorium_core.proofs.Imports.{IsRefusedSo, Answer, OrRefused, report_statuses, GivesDemonstration}
-use Rattle.auditorium_core.proofs.Imports.{demonstration_answer, IsDemonstrationAnswer, ShowsReport}
-use Rattle.auditorium_core.proofs.Imports.{demonstration_parts, IsCarriedOut}
-use Rattle.command_line.proofs.CommandProofs.{HasStatuses, IsCompleted, HasOneAnswer, contains_as, carried_out_as}
-use Rattle.command_line.proofs.CommandProofs.{of_read}
-use Rattle.auditorium_core.proofs.OneDemonstrationAnswer.{ShowOne, same_half, same_demonstration}
-use Rattle.log_commands.proofs.ReportCommands.{outcome_done, outcome_status, refused_status, absent_status}
-use Rattle.log_commands.proofs.ReportCommands.{report_statuses_some}
+use Rattle.auditorium_core.proofs.Imports
+use Imports.{[], absent_status, Answer, Contains, Demonstration, demonstration_answer, demonstration_parts, generated}
+use Imports.{GivesDemonstration, HasOneAnswer, HasStatuses, inl, inr, IsCompleted, List, Option, outcome_done}
+use Imports.{outcome_status, refused_status, report_statuses, report_statuses_some, ℕ, ◌∷◌, ◌≡◌}
+use Rattle.auditorium_core.proofs.OneDemonstrationAnswer.{same_demonstration, same_half, ShowOne}
+use Rattle.command_line.proofs.CommandProofs.{carried_out_as, contains_as, of_read}
 
 -- a number of sessions has one answer
 pub demonstration_one : ShowOne → (sessions : ℕ) → HasOneAnswer (demonstration_parts sessions)
 demonstration_one one sessions [] a b x y = same_demonstration one sessions a b x y
 demonstration_one one sessions (file ∷ files) a b x y = absurd x
 
--- `demo` is carried out where what is kept gives a report
-shown_done : ShowOne → (sessions : ℕ) (answer : Answer) → ShowsReport sessions →
-    IsDemonstrationAnswer sessions answer → IsCarriedOut answer.status
-shown_done one sessions answer (half, is_half, machines, report, audited) given = by given.right
-  where
-    -- sessions have one half, so the log that is shown is the one that gives a report
-    same : given.half ≡ half
-    same = same_half sessions given.half half given.is_half is_half
-
-    -- a refusal would contradict the report, and what is shown has the status of a report
-    by : OrRefused (GivesDemonstration (generated sessions) given.half)
-        (λ shown told. told ≡ demonstration_answer sessions shown) answer → IsCarriedOut answer.status
-    by (inl (refusal, refused, e)) =
-        absurd (one.either (generated sessions) half machines report refusal audited
-        (subst (λ h. IsRefusedSo (generated sessions) h refusal) same refused))
-    by (inr (shown, shows, e)) =
-        carried_out_as answer (demonstration_answer sessions shown) e (outcome_done shown.outcome)
-
+-- `demo` is carried out where what is kept gives a report: a refusal would contradict the report,
+-- since sessions have one half, and what is shown has the status of a report
 pub demonstration_completed : ShowOne → (sessions : ℕ) → IsCompleted (demonstration_parts sessions)
-demonstration_completed one sessions [] answer right given = shown_done one sessions answer given right
+demonstration_completed one sessions [] answer given (half, is_half, machines, report, audited) =
+    elim given.right [
+      | inl (refusal, refused, e) ↦ absurd (one.either (generated sessions) half machines report refusal audited
+          (rw (same_half sessions given.half half given.is_half is_half) at refused))
+      | inr (shown, shows, e) ↦
+          carried_out_as answer (demonstration_answer sessions shown) e (outcome_done shown.outcome)
+    ]
 demonstration_completed one sessions (file ∷ files) answer right given = absurd right
 
 -- and has its statuses

@@ -1,32 +1,18 @@
 -- What `demo` answers of the machines of a script that have played.
-use Rattle.auditorium_core.proofs.Imports.{◌≡◌, ◌≢◌, ◌∙◌, ℕ, ◌+◌, ◌/◌, ◌%◌, min, List, [], ◌∷◌, None, cond, inl, inr}
-use Rattle.auditorium_core.proofs.Imports.{refl, sym, ap, subst, arith, IfOk, IfSome, IsSomeAnd, Result, Ok, Err}
-use Rattle.auditorium_core.proofs.Imports.{count_by, cases_lt, length-map, nil_from_length, All-cons, All-nil}
-use Rattle.auditorium_core.proofs.Imports.{sum_by-cons, text_of, roster_tree, node_of_sealed, Distinct, history}
-use Rattle.auditorium_core.proofs.Imports.{sent_in, Contains-head, Contains-later, Script, generated, IsLawful}
-use Rattle.auditorium_core.proofs.Imports.{standard_rules, roster_of, MachineState, IsPlayed, machine_of, world_of}
-use Rattle.auditorium_core.proofs.Imports.{InputFault, Refusal, refusal_of, IsLeftIn, GivesReport, is_broken}
-use Rattle.auditorium_core.proofs.Imports.{is_unsettled, AuditReport, standard, SaysNoneBroken, Demonstration, IsKeptOf}
-use Rattle.auditorium_core.proofs.Imports.{IsAudited, IsDemonstrationOf, IsRefusedSo, is_kept, log_name, kept_is_left}
-use Rattle.auditorium_core.proofs.Imports.{some_machine, Fault, Answer, IsAnswerOfShown, IsDemonstrationAnswer}
-use Rattle.auditorium_core.proofs.Imports.{IsHalfOf, GivesDemonstration, TellsNoneBroken, demonstration_answer}
-use Rattle.auditorium_core.proofs.Imports.{one_order, entries_of, scripts_are_honest, IsReport, report_on, row_of}
-use Rattle.auditorium_core.proofs.Imports.{logs_have_makers, survivors_have_makers}
-use Rattle.std.proofs.Common.{Bool, false, length}
-use Rattle.std.proofs.Common.{Contains, Option, Some}
-use Rattle.std.specs.Prelude.{codes}
-use Rattle.rule_engine.specs.declared.verdict.Verdict.{Verdict}
+use Rattle.auditorium_core.proofs.Imports
+use Imports.{[], All-cons, All-nil, Answer, ap, arith, AuditReport, audits_are_refused_only_so, Bool, codes, cond}
+use Imports.{Contains, Contains-head, Contains-later, count_by, Demonstration, demonstration_answer, Distinct, Err}
+use Imports.{false, Fault, generated, given_is_sound, GivesDemonstration, HasLeft, history, IfOk, IfSome, inl}
+use Imports.{InputFault, inr, is_broken, is_unsettled, IsAnswerOfFault, IsAnswerOfShown, IsDemonstrationAnswer}
+use Imports.{IsHalfOf, IsLawful, IsLeftIn, IsPlayed, IsSomeAnd, KeepOrder, kept_is_left, length, length-map, List}
+use Imports.{machine_of, MachineState, nil_from_length, node_of_sealed, None, not_absent, Ok, one_order, one_play}
+use Imports.{only_broken, Option, refl, Refusal, refusal_of, refused_or, reports_say_none_broken, Result, roster_of}
+use Imports.{roster_tree, SaysNoneBroken, Script, scripts_are_honest, sent_in, Some, some_machine, standard}
+use Imports.{standard_rules, sum_by-cons, sym, TellsNoneBroken, text_of, Verdict, world_of, ℕ, ◌+◌, ◌∙◌, ◌∷◌, ◌≡◌, ◌≢◌}
+use Rattle.demonstration.specs.Kept.{IsKeptOf}
+use Rattle.demonstration.specs.Shown.{is_kept, IsAudited, IsDemonstrationOf, IsRefusedSo, log_name}
 use Rattle.rule_engine.specs.declared.verdict.Verdict.TheVariants as verdict
 use Rattle.command_line.specs.declared.status.Status.TheVariants as status
-use Rattle.polling_world.proofs.OnePlay.{one_play}
-use Rattle.honest_places.specs.Places.{HasLeft}
-use Rattle.honest_places.proofs.AuditLaws.{audits_are_refused_only_so, reports_say_none_broken}
-use Rattle.log_commands.specs.Audit.{IsSound}
-use Rattle.place_commands.specs.Play.{KeepOrder}
-use Rattle.log_commands.proofs.AuditAnswers.{not_absent}
-use Rattle.log_commands.proofs.SoundReports.{given_is_sound}
-use Rattle.command_line.proofs.Faults.{IsAnswerOfFault, refused_or}
-use Rattle.log_commands.proofs.HonestAudits.{only_broken}
 
 -- what no verdict is, none is counted as
 none_counted : (is : Verdict → Bool) (verdicts : List Verdict) →
@@ -48,14 +34,8 @@ all_counted : (verdicts : List Verdict) →
     count_by is_kept verdicts + count_by is_broken verdicts + count_by is_unsettled verdicts ≡ length verdicts
 all_counted [] = refl
 all_counted (v ∷ verdicts) =
-    omega (
-      arith,
-      one_counted v,
-      all_counted verdicts,
-      sum_by-cons (λ (u : Verdict). cond (is_kept u) 1 0) v verdicts,
-      sum_by-cons (λ (u : Verdict). cond (is_broken u) 1 0) v verdicts,
-      sum_by-cons (λ (u : Verdict). cond (is_unsettled u) 1 0) v verdicts,
-    )
+    let more = λ (is : Verdict → Bool). sum_by-cons (λ (u : Verdict). cond (is u) 1 0) v verdicts in
+    omega (arith, one_counted v, all_counted verdicts, more is_kept, more is_broken, more is_unsettled)
 
 -- any other verdict isn't counted as unsettled
 not_unsettled : (v : Verdict) → v ≢ verdict.Unsettled → is_unsettled v ≡ false
@@ -77,8 +57,7 @@ module _ (report : AuditReport) (says : SaysNoneBroken report) where
   unsettled_by_gap : length report.graph.gaps ≡ 0 → count_by is_unsettled report.verdicts ≡ 0
   unsettled_by_gap none =
       none_counted is_unsettled report.verdicts (λ v inside. not_unsettled v (λ is.
-      says.unsettled (subst (λ (u : Verdict). Contains report.verdicts u) is inside)
-      (nil_from_length report.graph.gaps none)))
+      says.unsettled (rw is at inside) (nil_from_length report.graph.gaps none)))
 
 module _ (script : Script) (lawful : IsLawful script) (session : ℕ) (machines : List MachineState)
     (played : IsPlayed script machines) where
@@ -128,9 +107,7 @@ module _ (sessions : ℕ) (lawful : IsLawful (generated sessions)) (half : ℕ) 
   -- the machines of an audit are those that have played
   of_these : (others : List MachineState) (result : Result AuditReport Refusal) →
       IsAudited (generated sessions) half others result → IsAudited (generated sessions) half machines result
-  of_these others result audited =
-      subst (λ (ms : List MachineState). IsAudited (generated sessions) half ms result)
-      (one_play (generated sessions) others machines audited.played played) audited
+  of_these others result audited = rw (one_play (generated sessions) others machines audited.played played) at audited
 
   -- what is counted of a report says that no rule is broken
   is_unbroken : (shown : Demonstration) → IsDemonstrationOf (generated sessions) half shown →
@@ -162,7 +139,7 @@ module _ (sessions half : ℕ) (script : Script) (same : script ≡ generated se
     (is_half : IsHalfOf sessions half) where
   -- the script of the day is lawful
   day_lawful : IsLawful (generated sessions)
-  day_lawful = subst IsLawful same lawful
+  day_lawful = rw same at lawful
 
   -- each answer of what the generated script shows is one of `demo`
   of_shown : (answer : Answer) → IsAnswerOfShown sessions half answer → IsDemonstrationAnswer sessions answer
@@ -180,8 +157,7 @@ module _ (sessions half : ℕ) (script : Script) (same : script ≡ generated se
   -- what is shown is answered
   pub shown_told : (shown : Demonstration) (answer : Answer) → IsDemonstrationOf script half shown →
       answer ≡ demonstration_answer sessions shown → IsDemonstrationAnswer sessions answer
-  shown_told shown answer is told =
-      of_shown answer (inr (shown, subst (λ (s : Script). IsDemonstrationOf s half shown) same is, told))
+  shown_told shown answer is told = of_shown answer (inr (shown, rw same at is, told))
 
   -- a refusal of the kept log is answered
   pub refusal_told : (fault : InputFault) (result : Result Answer Fault) →
@@ -189,13 +165,8 @@ module _ (sessions half : ℕ) (script : Script) (same : script ≡ generated se
       IfOk result (IsDemonstrationAnswer sessions)
   refusal_told fault (Ok answer) so told =
       of_shown answer (refused_or {E = Fault} (GivesDemonstration (generated sessions) half)
-      (λ shown told. told ≡ demonstration_answer sessions shown) fault (Ok answer) told
-      (subst (λ (s : Script). IfSome (refusal_of fault) (IsRefusedSo s half)) same so))
+      (λ shown told. told ≡ demonstration_answer sessions shown) fault (Ok answer) told (rw same at so))
   refusal_told fault (Err why) so told = tt
-
--- half of a number, rounded up
-pub half_up : (n half : ℕ) → half ≡ n / 2 + min 1 (n % 2) → IsHalfOf n half
-half_up n half is = elim (cases_lt 0 (n % 2)) [ inl odd ↦ inr (omega arith) | inr even ↦ inl (omega arith) ]
 
 -- what is shown isn't answered as an absent file is
 pub shown_not_absent : (sessions : ℕ) (shown : Demonstration) (answer : Answer) →

@@ -1,7 +1,6 @@
 -- What was done, by the status with which the program ends.
-use Rattle.std.proofs.Common.{Option, Bool, true, false}
-use Rattle.auditorium_core.proofs.Imports.{◌≡◌, ℕ, List, Status, Command, Answer, AnswersWords, IsOfAnswers, Outside}
-use Rattle.auditorium_core.proofs.Imports.{IsAnswerOf, IsWritten, HasDone}
+use Rattle.auditorium_core.proofs.Imports.{Answer, AnswersWords, Bool, Command, false, HasDone, IsAnswerOf, IsOfAnswers}
+use Rattle.auditorium_core.proofs.Imports.{IsWritten, List, Option, Outside, Status, true, ℕ, ◌≡◌}
 use Rattle.command_line.specs.declared.status.Status.TheVariants as status
 
 -- how it is said of an answer that all the calls that give it, or all but the last, did as they
@@ -43,12 +42,8 @@ pub done_as : (IsDone IsDone' : Command → Type 0) (words : List (List ℕ)) (I
     AnswersWords IsDone' words (IsGiven' answer ok) answer) →
     (how : Status) → HasDone IsDone words IsGiven old how new → HasDone IsDone' words IsGiven' old how new
 done_as IsDone IsDone' words IsGiven IsGiven' old new step =
-    done_cases IsDone words IsGiven old new (λ how. HasDone IsDone' words IsGiven' old how new)
-    (λ done. done) (λ (answer, gives, cut). (answer, given answer false gives, cut)) (λ done. done)
-    (λ how some (answer, gives, told, written).
-    is_done IsDone' words IsGiven' old new how some (answer, given answer true gives, told, written))
-  where
-    -- the answer is right, and the calls are the same
-    given : (answer : Answer) (ok : Bool) → IsAnswerOf IsDone words (IsGiven answer ok) old new answer →
-        IsAnswerOf IsDone' words (IsGiven' answer ok) old new answer
-    given answer ok gives = record { answers = step answer ok gives.answers; absent = gives.absent }
+    done_cases IsDone words IsGiven old new (λ how. HasDone IsDone' words IsGiven' old how new) (λ done. done)
+    (λ (answer, gives, cut). (answer, record { answers = step answer false gives.answers; absent = gives.absent }, cut))
+    (λ done. done)
+    (λ how some (answer, gives, told, written). is_done IsDone' words IsGiven' old new how some
+    (answer, record { answers = step answer true gives.answers; absent = gives.absent }, told, written))

@@ -1,9 +1,8 @@
 -- Answers over the exposed files.
-use Rattle.std.proofs.Common.{Option, Some, None}
-use Rattle.auditorium_core.proofs.Imports.{ℕ, List, [], inl, inr, map, ⊤, Files, StoreGhosts, OnRead, OnExposed}
-use Rattle.auditorium_core.proofs.Imports.{on_exposed, SinkGhosts, Status, Command, command_parts, Answer}
-use Rattle.auditorium_core.proofs.Imports.{AnswersWords, Outside, outside, HasDone, IsGivenBy, IsGivenSomehow}
-use Rattle.auditorium_core.proofs.DoneCases.{Giving, done_as}
+use Rattle.auditorium_core.proofs.Imports.{[], Answer, AnswersWords, Command, command_parts, Files, HasDone, inl, inr}
+use Rattle.auditorium_core.proofs.Imports.{IsGivenBy, IsGivenSomehow, List, map, None, on_exposed, OnExposed, Option}
+use Rattle.auditorium_core.proofs.Imports.{Outside, outside, SinkGhosts, Some, Status, StoreGhosts, ℕ, ⊤}
+use Rattle.auditorium_core.proofs.DoneCases.{done_as, Giving}
 
 -- what follows of all files follows of the exposed ones
 pub exposed_weaker : (told : Option Files) (names : List (List ℕ)) (P Q : List (Option (List ℕ)) → Type 0) →
@@ -19,16 +18,7 @@ pub answers_weaker : (IsDone : Command → Type 0) (words : List (List ℕ)) (an
 answers_weaker IsDone words answer OnFiles Others step (inl (command, done, means, is)) =
     let parts = command_parts command in
     inl (command, done, means, step parts.files (λ files. parts.IsAnswer files answer) is)
-answers_weaker IsDone words answer OnFiles Others step (inr (bad, e, on)) =
-    inr (bad, e, step [] (λ files. ⊤) on)
-
--- an answer to words that is right for the files as they were read is so over the exposed files
-pub over_exposed : {S : Type 0} (of : StoreGhosts S) (IsDone : Command → Type 0) (words : List (List ℕ))
-    (answer : Answer) (old new : S) → AnswersWords IsDone words (λ names P. OnRead of names P old new) answer →
-    AnswersWords IsDone words (OnExposed (of.files old)) answer
-over_exposed of IsDone words answer old new =
-    answers_weaker IsDone words answer (λ names P. OnRead of names P old new) (OnExposed (of.files old))
-    (λ names P. on_exposed of names P old new)
+answers_weaker IsDone words answer OnFiles Others step (inr (bad, e, on)) = inr (bad, e, step [] (λ files. ⊤) on)
 
 -- what the program has done for files as they were read it has done over the exposed files
 pub done_over_exposed : {S K : Type 0} (of_store : StoreGhosts S) (of_sink : SinkGhosts K) (IsDone : Command → Type 0)

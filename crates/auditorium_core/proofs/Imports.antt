@@ -1,117 +1,92 @@
 -- What the proofs of this crate take from others.
-pub use Rattle.auditor.proofs.Makers.{logs_have_makers, survivors_have_makers}
-pub use Rattle.auditor.specs.Audits.{GivesReport}
-pub use Rattle.auditor.specs.OneReport.{FilesGiveOneReport}
 pub use Rattle.auditor.specs.Outcomes.{is_broken, is_unsettled}
-pub use Rattle.auditor.specs.Report.{AuditReport, IsReport, report_on}
-pub use Rattle.survivor_rows.specs.Rows.{row_of}
-pub use Rattle.auditor.specs.Sources.{standard}
+pub use Rattle.auditor.specs.{OneReport.FilesGiveOneReport, Report.AuditReport, Sources.standard}
 pub use Rattle.auditorium_core.specs.Answer.{AnswersWords, HasItsWords, IsAnswerOf, IsAnswerTo, IsOfAnswers}
-pub use Rattle.auditorium_core.specs.Answer.{TellsAbsence}
-pub use Rattle.auditorium_core.specs.Complete.{HasNoFailure, IsAnsweredOver, IsComplete}
-pub use Rattle.command_line.specs.Reports.{IsCarriedOut}
-pub use Rattle.auditorium_core.specs.Demonstrated.{GivesDemonstration, IsAnswerOfShown, IsDemonstrationAnswer}
-pub use Rattle.auditorium_core.specs.Demonstrated.{IsHalfOf, ShowsReport, TellsNoneBroken, demonstration_answer}
-pub use Rattle.auditorium_core.specs.Demonstrated.{demonstration_parts}
-pub use Rattle.office_commands.specs.Endorse.{GivesUnsigned, IsEndorsement, Unsigned, endorse_answer, signature_file}
-pub use Rattle.office_commands.specs.Endorsed.{GivesSigned, IsEndorsedAnswer, IsEndorsedVerdict, Signed}
-pub use Rattle.log_commands.specs.Honest.{IsHonestOrder}
-pub use Rattle.honest_places.specs.EachPlace.{LeaveHonestFiles}
-pub use Rattle.command_line.specs.Lines.{Answer, OrRefused, refusal_answer, refused_answer, usage_answer}
-pub use Rattle.office_commands.specs.NamedBytes.{max_signed}
-pub use Rattle.office_commands.specs.Office.{IsOfficeAnswer, IsOfficeSeed, key_file, made_office}
+pub use Rattle.auditorium_core.specs.Demonstrated.{demonstration_answer, demonstration_parts, GivesDemonstration}
+pub use Rattle.auditorium_core.specs.Demonstrated.{IsAnswerOfShown, IsDemonstrationAnswer, IsHalfOf, TellsNoneBroken}
 pub use Rattle.auditorium_core.specs.OfficeCalls.{AreCallsOn, Call, IsCall, IsCallOrOther, IsCutOff, IsLeftSo}
-pub use Rattle.auditorium_core.specs.OfficeCalls.{IsOfficeIn, IsSignedByNumber, IsUsedUp, NumbersRise, ReadsUnsigned}
-pub use Rattle.auditorium_core.specs.OfficeCalls.{IsSignedInTurn, SignsInTurn, UsesNumber, with_next}
-pub use Rattle.office_commands.specs.OfficeFile.{office_file}
-pub use Rattle.auditorium_core.specs.Outcome.{HasDone, IsGivenBy, IsGivenSomehow}
-pub use Rattle.command_line.specs.Written.{IsWritten, IsUnwritten, IsWrittenBy, PlacesAll, PlacesInTurn, SetsSome}
-pub use Rattle.command_line.specs.Written.{with_files}
-pub use Rattle.command_line.specs.Outside.{Outside, outside}
-pub use Rattle.place_commands.specs.Play.{SayUndone, log_file, play_files}
-pub use Rattle.place_commands.specs.Repair.{with_steps}
-pub use Rattle.log_commands.specs.ReportAnswers.{report_statuses}
-pub use Rattle.place_commands.specs.Run.{AreRunMachines, IsRunOf, run_answer}
-pub use Rattle.command_line.specs.WordForms.{AreSessions}
-pub use Rattle.auditorium_core.specs.Words.{AreGood, Command, IsAny, IsStill, Means, audit, check, command_parts}
-pub use Rattle.auditorium_core.specs.Words.{demonstrate, endorse, endorsed, generate, office, order, prove, repair}
-pub use Rattle.auditorium_core.specs.Words.{run, watch}
-pub use Rattle.command_line.specs.declared.answer.Fault.{Fault}
-pub use Rattle.command_line.specs.declared.status.Status.{Status}
-pub use Rattle.command_line.specs.Ending.{EndsWith, IsToldAs}
-pub use Rattle.auditorium_core.specs.inside.Meaning.{asked}
-pub use Rattle.auditorium_core.specs.inside.Promise.{AreAnswered}
-pub use Rattle.command_line.specs.Promise.{IsAnswerAsRead, IsAnsweredBy}
+pub use Rattle.auditorium_core.specs.OfficeCalls.{IsOfficeIn, IsSignedByNumber, IsSignedInTurn, IsUsedUp, NumbersRise}
+pub use Rattle.auditorium_core.specs.OfficeCalls.{ReadsUnsigned, SignsInTurn, UsesNumber, with_next}
+pub use Rattle.auditorium_core.specs.ReadBack.{AreReadBack, log_names, PlaysAreReadBack, RepairsAreReadBack}
+pub use Rattle.auditorium_core.specs.ReadBack.{RunsAreReadBack}
+pub use Rattle.auditorium_core.specs.Words.{AreGood, audit, check, Command, command_parts, demonstrate, endorse}
+pub use Rattle.auditorium_core.specs.Words.{endorsed, gaps, generate, IsAny, IsStill, Means, office, order, play, prove}
+pub use Rattle.auditorium_core.specs.Words.{repair, run, watch}
+pub use Rattle.auditorium_core.specs.{inside.Meaning.asked, inside.Promise.AreAnswered, OneRun.DifferInCauses}
+pub use Rattle.auditorium_core.specs.{OneRun.DiffersInCause, Outcome.HasDone, Outcome.IsGivenBy, Outcome.IsGivenSomehow}
+pub use Rattle.canonical_sexp.proofs.Unique.{one_tree}
 pub use Rattle.canonical_sexp.specs.Text.{text_of}
+pub use Rattle.command_line.proofs.CommandProofs.{HasOneAnswer, HasStatuses, IsCompleted, IsOfCommands}
+pub use Rattle.command_line.proofs.{Faults.IsAnswerOfFault, Faults.refused_or, SameOr.same_or}
+pub use Rattle.command_line.specs.Lines.{Answer, OrRefused, refusal_answer, refused_answer, usage_answer}
+pub use Rattle.command_line.specs.Written.{IsUnwritten, IsWritten, IsWrittenBy, PlacesInTurn, SetsSome, with_files}
+pub use Rattle.command_line.specs.{declared.answer.Fault.Fault, declared.status.Status.Status, Outside.Outside}
+pub use Rattle.command_line.specs.{Outside.outside, Reports.IsCarriedOut, WordForms.AreSessions}
 pub use Rattle.demonstration.proofs.Plays.{kept_is_left, some_machine}
-pub use Rattle.demonstration.specs.Kept.{IsKeptOf}
-pub use Rattle.demonstration.specs.OneShown.{ScriptsAreRefusedInOneWay, ScriptsAreShownInOneWay}
-pub use Rattle.demonstration.specs.OneShown.{ScriptsAreShownOrRefused}
-pub use Rattle.demonstration.specs.Shown.{IsAudited, IsDemonstrationOf, IsRefusedSo, is_kept, log_name}
 pub use Rattle.demonstration.specs.declared.shown.Demonstration.{Demonstration}
-pub use Rattle.election_script.specs.Generated.{generated}
-pub use Rattle.election_script.specs.Lawful.{IsLawful}
-pub use Rattle.election_script.specs.declared.script.Cast0.{Cast0}
-pub use Rattle.election_script.specs.declared.script.Script.{Script}
-pub use Rattle.entry_format.specs.Nodes.{node_of_sealed}
-pub use Rattle.entry_format.specs.SealedEntry.{SealedEntry}
-pub use Rattle.entry_order.proofs.Lists.{Contains-head, Contains-later, Contains-map, Contains-none}
-pub use Rattle.entry_order.proofs.Orders.{one_order}
-pub use Rattle.entry_order.proofs.Places.{all_from_places, element_at, member_at, one_at}
-pub use Rattle.entry_order.specs.Naming.{Distinct}
-pub use Rattle.entry_order.specs.World.{World, history, sent_in}
-pub use Rattle.entry_order.specs.declared.event.Event.{Event}
-pub use Rattle.evidence.proofs.Readings.{no_cause, stands}
-pub use Rattle.evidence.specs.Graphs.{entries_of}
-pub use Rattle.evidence.specs.NamedFiles.{OnExposed, OnRead}
-pub use Rattle.evidence.proofs.OnReads.{none_read, on_exposed, on_weaker}
-pub use Rattle.evidence.specs.Refusal.{Refusal, absent, refusal_of, refused}
-pub use Rattle.evidence.specs.Same.{Agree}
-pub use Rattle.evidence.specs.declared.fault.InputFault.{InputFault}
-pub use Rattle.finished_floor.specs.declared.loss.Loss.{Loss}
-pub use Rattle.hall_outside.proofs.FileLists.{eq_self}
-pub use Rattle.hall_outside.specs.Counts.{ComesExactly, HasRisen}
-pub use Rattle.hall_outside.specs.Files.{Files, file_set, with_file}
+pub use Rattle.election_script.specs.{declared.script.Cast0.Cast0, declared.script.Script.Script}
+pub use Rattle.election_script.specs.{declared.script.StopAt.StopAt, Generated.generated, Lawful.IsLawful}
+pub use Rattle.entry_format.proofs.Unsealings.{one_unsealing}
+pub use Rattle.entry_format.specs.{Nodes.node_of_sealed, SealedEntry.SealedEntry, Unsealing.Unseals}
+pub use Rattle.entry_order.proofs.Lists.{Contains-cons_cases, Contains-head, Contains-later, Contains-map}
+pub use Rattle.entry_order.proofs.Lists.{Contains-none, list_any_of, list_any_some}
+pub use Rattle.entry_order.proofs.Places.{element_at, member_at, one_at, place_of}
+pub use Rattle.entry_order.proofs.{Histories.nth_split, Orders.one_order}
+pub use Rattle.entry_order.specs.{declared.event.Event.Event, declared.event.Event.TheVariants.Got}
+pub use Rattle.entry_order.specs.{declared.event.Event.TheVariants.Sent, History.entry_of, History.sent}
+pub use Rattle.entry_order.specs.{Naming.Distinct, Receipt.IsOrderly, World.history, World.sent_in, World.World}
+pub use Rattle.evidence.proofs.Readings.{stands}
+pub use Rattle.evidence.proofs.{OnReads.none_read, OnReads.on_exposed, OnReads.on_weaker, Readings.no_cause}
+pub use Rattle.evidence.specs.{declared.fault.InputFault.InputFault, NamedFiles.OnExposed, NamedFiles.OnRead}
+pub use Rattle.evidence.specs.{Refusal.absent, Refusal.Refusal, Refusal.refusal_of, Refusal.refused, Same.Agree}
+pub use Rattle.finished_floor.proofs.Arriving.{is_of_parts, itself}
+pub use Rattle.finished_floor.specs.Places.{IsStopOf}
+pub use Rattle.hall_outside.proofs.FileLists.{eq_self, same_name}
 pub use Rattle.hall_outside.specs.declared.stores.Store.{Ghosts as StoreGhosts}
-pub use Rattle.hall_outside.specs.declared.sinks.Sink.{Ghosts as SinkGhosts}
-pub use Rattle.hall_outside.specs.Reading.{Answered}
-pub use Rattle.hall_outside.specs.declared.stores.Failed.{Failed}
+pub use Rattle.hall_outside.specs.Files.{file_set, Files, with_file}
+pub use Rattle.hall_outside.specs.{Counts.HasRisen, declared.sinks.Sink.Ghosts as SinkGhosts}
 pub use Rattle.hex.proofs.HexLemmas.{decode_of-encode_lower}
 pub use Rattle.hex.specs.Hex.{decode_of, encode_lower}
-pub use Rattle.honest_places.proofs.LogScripts.{scripts_are_honest}
-pub use Rattle.honest_places.specs.LeftFiles.{written_logs}
-pub use Rattle.honest_places.specs.WhatIsLeft.{IsLeftIn}
-pub use Rattle.honest_places.specs.ReportsKept.{SaysNoneBroken}
-pub use Rattle.honest_places.specs.Places.{IsWholeIn}
+pub use Rattle.honest_places.proofs.{AuditLaws.audits_are_refused_only_so, AuditLaws.reports_say_none_broken}
+pub use Rattle.honest_places.proofs.{Given.event_was_sent, LogScripts.scripts_are_honest, ReadLogs.whole_is_left}
+pub use Rattle.honest_places.specs.{EachPlace.LeaveHonestFiles, LeftFiles.written_logs, Places.HasLeft}
+pub use Rattle.honest_places.specs.{Places.IsWholeIn, ReportsKept.SaysNoneBroken, WhatIsLeft.IsLeftIn}
 pub use Rattle.hss_sign.specs.Signs.{HssSigns}
-pub use Rattle.log_files.specs.Written.{log_text}
-pub use Rattle.office_key.proofs.GoodSignatures.{short_signature}
+pub use Rattle.log_commands.proofs.ReportCommands.{absent_status, outcome_done, outcome_status, refused_status}
+pub use Rattle.log_commands.proofs.ReportCommands.{report_statuses_some}
+pub use Rattle.log_commands.proofs.{AuditAnswers.not_absent, GapsCommand.SayOne, HonestAudits.only_broken}
+pub use Rattle.log_commands.proofs.{OneOrderAnswer.OrderOne, OneProof.ProofOne, SoundReports.given_is_sound}
+pub use Rattle.log_commands.specs.HonestAudit.{IsAuditOfPlace, TellsHonestReport}
+pub use Rattle.log_commands.specs.{Honest.IsHonestOrder, ReportAnswers.report_statuses}
+pub use Rattle.log_files.specs.{LogText.header_tree, Written.log_text, Written.record_text}
+pub use Rattle.office_commands.proofs.EndorseCommand.{office_read, unsigned_parts}
+pub use Rattle.office_commands.proofs.EndorsedCommand.{bad, endorsed_one, good}
+pub use Rattle.office_commands.specs.Endorse.{endorse_answer, GivesUnsigned, IsEndorsement, signature_file, Unsigned}
+pub use Rattle.office_commands.specs.Office.{IsOfficeAnswer, IsOfficeSeed, key_file}
+pub use Rattle.office_commands.specs.{Endorsed.IsEndorsedAnswer, NamedBytes.max_signed, OfficeFile.office_file}
+pub use Rattle.office_key.proofs.GoodSignatures.{endorsed as signs_well, short_signature}
 pub use Rattle.office_key.proofs.OfficeTexts.{cut_text, one_office}
-pub use Rattle.office_key.specs.Endorsements.{endorsement, office_public}
-pub use Rattle.office_key.specs.Offices.{IsOffice, max_signatures, next_office, office_of, office_text}
-pub use Rattle.office_key.specs.declared.office.Office.{Office}
-pub use Rattle.polling_world.proofs.Placing.{history_there}
-pub use Rattle.polling_world.specs.Configs.{Config}
-pub use Rattle.polling_world.specs.Keys.{roster_of}
-pub use Rattle.polling_world.specs.Machines.{MachineState}
-pub use Rattle.polling_world.specs.Making.{election_of}
-pub use Rattle.polling_world.specs.Playing.{AreOf, IsPlayed}
-pub use Rattle.polling_world.specs.Worlds.{machine_of, world_of}
-pub use Rattle.roster.specs.RosterText.{roster_tree}
-pub use Rattle.roster.specs.declared.post.Post.{Post}
+pub use Rattle.place_commands.proofs.OnePlayAnswer.{one_script, PlayOne, same_undone}
+pub use Rattle.place_commands.specs.Play.{KeepOrder, log_file, machine_log_name, play_files, roster_file, roster_name}
+pub use Rattle.place_commands.specs.{Repair.with_steps, Run.AreRunMachines, Run.IsRunMachine}
+pub use Rattle.polling_world.proofs.{OnePlay.one_play, Placing.get-map, Placing.get-map_from, Placing.history_there}
+pub use Rattle.polling_world.specs.Worlds.{world_of}
+pub use Rattle.polling_world.specs.{Configs.Config, Configs.config_of, Keys.roster_of, Machines.MachineState}
+pub use Rattle.polling_world.specs.{Making.election_of, Playing.AreOf, Playing.IsPlayed, Worlds.machine_of}
+pub use Rattle.roster.specs.{declared.post.Post.Post, RosterText.roster_tree}
+pub use Rattle.rule_engine.specs.declared.verdict.Verdict.{Verdict}
 pub use Rattle.rule_language.specs.Standard.{standard_rules}
-pub use Rattle.std.proofs.Common.{List, None, [], ap, append-nil, append_assoc, arith, cond, drop, get_or, inl, inr}
-pub use Rattle.std.proofs.Common.{map, min, refl, rules, string_bytes, subst, suc, sym, take, zero, ℕ, ◌%◌, ◌++◌, ◌+◌}
-pub use Rattle.std.proofs.Common.{◌-◌, ◌/◌, ◌<◌, ◌∙◌, ◌∷◌, ◌≡◌, ◌≢◌, ◌≤◌}
-pub use Rattle.std.proofs.lemmas.Bool.{cases_lt, cond-false, true≢false}
-pub use Rattle.std.proofs.lemmas.Fmt.{decimal_injective}
-pub use Rattle.std.proofs.lemmas.List.{get_or-append_right, length-map, nil_from_length, take_all}
-pub use Rattle.std.proofs.lemmas.List.Elements.{All-cons, All-contains, All-nil}
-pub use Rattle.std.proofs.lemmas.List.Kept.{AllPairs-cons}
-pub use Rattle.std.proofs.lemmas.List.Sums.{sum_by-cons}
-pub use Rattle.std.proofs.lemmas.Option.{get_or_from_slice_get, same_Some, slice_get-map, slice_get_within}
-pub use Rattle.std.proofs.lemmas.Slice.Eq.{bytes_eq-Decides}
-pub use Rattle.std.specs.Fmt.{decimal}
-pub use Rattle.std.specs.List.{flat_map}
-pub use Rattle.std.specs.Prelude.{Err, IfOk, IfSome, IsSomeAnd, Ok, Result, count_by, option_map, slice_get, ⊤}
-pub use Rattle.std.specs.Str.{bytes_eq}
+pub use Rattle.std.proofs.Common.{[], ap, append-nil, append_assoc, arith, Bool, codes, cond, Contains, drop, false}
+pub use Rattle.std.proofs.Common.{get_or, inl, inr, length, length-append, List, map, None, Option, refl, rules, Some}
+pub use Rattle.std.proofs.Common.{string_bytes, subst, suc, sym, take, true, zero, ℕ, ◌%◌, ◌++◌, ◌+◌, ◌<◌, ◌∙◌, ◌∷◌}
+pub use Rattle.std.proofs.Common.{◌≡◌, ◌≢◌, ◌≤◌, ◌⊎◌}
+pub use Rattle.std.proofs.lemmas.Bool.{cases_Bool, cases_lt, cases_order, true≢false}
+pub use Rattle.std.proofs.lemmas.List.Elements.{All-cons, All-contains, All-nil, All-weaker}
+pub use Rattle.std.proofs.lemmas.List.{append_cancel_left, append_cancel_right, get_or-append-add, length-map}
+pub use Rattle.std.proofs.lemmas.List.{nil_from_length, take_all}
+pub use Rattle.std.proofs.lemmas.Option.{get_or_from_slice_get, same_Some, slice_get_within}
+pub use Rattle.std.proofs.{lemmas.Bool.Decides.not_from_Decides, lemmas.Fmt.decimal_injective}
+pub use Rattle.std.proofs.{lemmas.List.Kept.AllPairs-cons, lemmas.List.Sums.sum_by-cons}
+pub use Rattle.std.proofs.{lemmas.Slice.Eq.bytes_eq-Decides, Math.Seq.drop-nil, Math.Seq.take-nil}
+pub use Rattle.std.specs.Prelude.{AllPairs, count_by, Err, IfOk, IfSome, IsSomeAnd, Ok, Result, slice_get, ⊤}
+pub use Rattle.std.specs.{Fmt.decimal, List.All, List.flat_map, Str.bytes_eq}

@@ -4,6 +4,8 @@ pub mod Demonstrations
 pub mod DemonstrationCommand
 pub mod CitedLaws
 pub mod Commands
+pub mod Pairs
+pub mod SetFiles
 pub mod OfficeCallsLeave
 pub mod OfficeNumbers
 pub mod DoneCases

@@ -1,24 +1,18 @@
 -- The numbers of an office rise.
-use Rattle.std.proofs.Common.{◌⊎◌, length, codes, Bool, true}
-use Rattle.std.proofs.Common.{Option, Some, false}
-use Rattle.auditorium_core.proofs.Imports.{◌≡◌, ◌≢◌, ◌∙◌, ℕ, ◌+◌, ◌<◌, ◌≤◌, List, [], ◌∷◌, take, None, inl, inr}
-use Rattle.auditorium_core.proofs.Imports.{refl, sym, ap, subst, arith, Ok, Err, IsSomeAnd, bytes_eq}
-use Rattle.auditorium_core.proofs.Imports.{cases_lt, take_all, All-cons, AllPairs-cons, bytes_eq-Decides, Files}
-use Rattle.auditorium_core.proofs.Imports.{file_set, HssSigns, Office, endorsement, office_public, IsOffice}
-use Rattle.auditorium_core.proofs.Imports.{max_signatures, office_of, office_text, next_office, short_signature}
-use Rattle.auditorium_core.proofs.Imports.{cut_text, one_office, Answer, refusal_answer, refused_answer, IsAnswerTo}
-use Rattle.auditorium_core.proofs.Imports.{Unsigned, endorse_answer, signature_file, IsOfficeAnswer}
-use Rattle.auditorium_core.proofs.Imports.{GivesSigned, IsEndorsedAnswer, IsEndorsedVerdict, Signed, max_signed}
-use Rattle.auditorium_core.proofs.Imports.{key_file, made_office, office_file, AreCallsOn, Call, IsCall}
-use Rattle.auditorium_core.proofs.Imports.{IsCallOrOther, IsCutOff, IsLeftSo, IsOfficeIn, ReadsUnsigned}
-use Rattle.auditorium_core.proofs.Imports.{IsSignedByNumber, IsUsedUp, NumbersRise, UsesNumber, with_next}
-use Rattle.auditorium_core.proofs.Imports.{SetsSome, Command, Means, endorse, endorsed, office}
-use Rattle.std.specs.List.{All}
-use Rattle.office_key.proofs.GoodSignatures.{endorsed as signs_well}
-use Rattle.office_commands.proofs.EndorseCommand.{office_read, unsigned_parts}
-use Rattle.office_commands.proofs.EndorsedCommand.{bad, good, one_signed}
-use Rattle.auditorium_core.proofs.OfficeCallsLeave.{IsLeftOfTwo, left_elsewhere, left_of_two, none_set, of_sets}
-use Rattle.auditorium_core.proofs.OfficeCallsLeave.{office_is_no_other, refusal_writes_none, set_elsewhere, set_here}
+use Rattle.auditorium_core.proofs.Imports
+use Imports.{[], All, All-cons, AllPairs-cons, Answer, AnswersWords, ap, AreCallsOn, arith, bad, Call, cases_lt, codes}
+use Imports.{Command, cut_text, endorse, endorsed, endorsed_one, file_set, Files, good, HssSigns, inl, inr, IsAnswerTo}
+use Imports.{IsCall, IsCallOrOther, IsCutOff, IsEndorsedAnswer, IsGivenSomehow, IsLeftSo, IsOfficeAnswer, IsOfficeIn}
+use Imports.{IsSignedByNumber, IsSomeAnd, IsUsedUp, key_file, length, List, max_signed, Means, None, NumbersRise}
+use Imports.{office, office_file, office_read, one_office, OnExposed, Option, ReadsUnsigned, refl, refusal_answer}
+use Imports.{refused_answer, same_Some, SetsSome, short_signature, signature_file, signs_well, Some, sym, take}
+use Imports.{take_all, Unsigned, unsigned_parts, UsesNumber, with_next, ℕ, ◌+◌, ◌<◌, ◌∙◌, ◌∷◌, ◌≡◌, ◌≢◌, ◌≤◌, ◌⊎◌}
+use Rattle.auditorium_core.proofs.OfficeCallsLeave.{IsLeftOfTwo, left_elsewhere, left_of_two, office_is_no_other}
+use Rattle.auditorium_core.proofs.OfficeCallsLeave.{refusal_writes_none, set_whole}
+use Rattle.auditorium_core.proofs.SetFiles.{same_or_not, set_elsewhere, set_here}
+use Rattle.auditorium_core.proofs.{Commands.of_command, DoneCases.done_cases}
+use Rattle.office_key.specs.Offices.{IsOffice, max_signatures, next_office, office_of, office_text}
+use Rattle.office_key.specs.{declared.office.Office.Office, Endorsements.endorsement, Endorsements.office_public}
 
 -- an office's file is no signature's, and none of a public key
 no_signature : (name file : List ℕ) → office_file name ≢ signature_file file
@@ -33,21 +27,6 @@ read_office_in : (files : Files) (name file : List ℕ) (read : Unsigned) → Re
 read_office_in files name file read is =
     office_read (office_file name) (files (office_file name)) read.office
     (unsigned_parts name file (files (office_file name)) (files file ∷ []) read is)
-
--- an office in a file that is there
-some_and : (this : Option (List ℕ)) (bytes : List ℕ) (of : Office) → this ≡ Some bytes → IsOffice bytes of →
-    IsSomeAnd this (λ b. IsOffice b of)
-some_and this bytes of e is = subst (λ (t : Option (List ℕ)). IsSomeAnd t (λ b. IsOffice b of)) (sym e) is
-
-and_some : (this : Option (List ℕ)) (bytes : List ℕ) (of : Office) → this ≡ Some bytes →
-    IsSomeAnd this (λ b. IsOffice b of) → IsOffice bytes of
-and_some this bytes of e is = subst (λ (t : Option (List ℕ)). IsSomeAnd t (λ b. IsOffice b of)) e is
-
--- a file is the text of one office
-one_in : (this : Option (List ℕ)) (a b : Office) → IsSomeAnd this (λ bytes. IsOffice bytes a) →
-    IsSomeAnd this (λ bytes. IsOffice bytes b) → a ≡ b
-one_in None a b is also = absurd is
-one_in (Some bytes) a b is also = one_office bytes a b is also
 
 -- an office with the next number has a text
 next_is : (this : Option (List ℕ)) (of : Office) → IsSomeAnd this (λ bytes. IsOffice bytes of) →
@@ -71,11 +50,7 @@ module _ (name file : List ℕ) (before after : Files) (read : Unsigned) (is : R
 
   -- where the office's file has the text, and nothing else changed
   next_set : after ≡ with_next before name read.office → IsUsedUp name file read before after
-  next_set e = record {
-    next = some_and (after (office_file name)) text (next_office read.office)
-        (ap (λ (f : Files). f (office_file name)) e ∙ set_here before (office_file name) text) whole;
-    left = inl e;
-  }
+  next_set e = record { next = rw (e, set_here before (office_file name) text) whole; left = inl e }
 
   -- where it has a prefix
   first_set : (n : ℕ) → after ≡ file_set before (office_file name) (take n text) →
@@ -87,8 +62,7 @@ module _ (name file : List ℕ) (before after : Files) (read : Unsigned) (is : R
           proper = less;
           left = e;
           refused = λ other has. cut_text text (next_office read.office) other n whole less
-              (and_some (after (office_file name)) (take n text) other
-              (ap (λ (f : Files). f (office_file name)) e ∙ set_here before (office_file name) (take n text)) has);
+              (rw (e, set_here before (office_file name) (take n text)) at has);
         })
         | inr all ↦ inr (next_set (e ∙ ap (file_set before (office_file name)) (take_all n text all)))
       ]
@@ -96,13 +70,10 @@ module _ (name file : List ℕ) (before after : Files) (read : Unsigned) (is : R
   -- where it has the text and the signature's file a prefix of the signature
   both_set : (n : ℕ) → after ≡ file_set (with_next before name read.office) (signature_file file) (take n signature) →
       IsUsedUp name file read before after
-  both_set n e = record {
-    next = some_and (after (office_file name)) text (next_office read.office)
-        (ap (λ (f : Files). f (office_file name)) e
-        ∙ set_elsewhere (with_next before name read.office) (signature_file file) (take n signature) (office_file name)
-        (no_signature name file) ∙ set_here before (office_file name) text) whole;
-    left = inr (n, e);
-  }
+  both_set n e =
+      let other = set_elsewhere (with_next before name read.office) (signature_file file) (take n signature)
+      (office_file name) (no_signature name file) in
+      record { next = rw (e, other, set_here before (office_file name) text) whole; left = inr (n, e) }
 
   -- so the files are in one of the three states
   states : IsLeftOfTwo before (office_file name) text (signature_file file) signature after →
@@ -111,22 +82,13 @@ module _ (name file : List ℕ) (before after : Files) (read : Unsigned) (is : R
   states (inr (inl (n, e))) = inr (read, is, first_set n e)
   states (inr (inr (n, e))) = inr (read, is, inr (both_set n e))
 
--- files that are exposed are as they were
-as_before : (old new : Option Files) (before after : Files) → old ≡ Some before → new ≡ Some after → new ≡ old →
-    after ≡ before
-as_before old new before after told left e = let same : Some after ≡ Some before = sym left ∙ e ∙ told in cc
-
--- what was set is seen in the files that are exposed
-told_sets : (old new : Option Files) (before after : Files) (files : List (List ℕ × List ℕ)) → old ≡ Some before →
-    new ≡ Some after → SetsSome old files new → SetsSome (Some before) files (Some after)
-told_sets old new before after files told left sets =
-    subst (λ (n : Option Files). SetsSome (Some before) files n) left
-    (subst (λ (o : Option Files). SetsSome o files new) told sets)
-
--- an answer's files by another name
-same_sets : (old new : Option Files) (answer other : Answer) → answer ≡ other → SetsSome old answer.files new →
-    SetsSome old other.files new
-same_sets old new answer other e sets = subst (λ (a : Answer). SetsSome old a.files new) e sets
+-- what `office` leaves: all as it was where the file is there, and else two files of its own
+abbrev IsLeftByOffice : List ℕ → List ℕ → Files → Files → Type 0
+IsLeftByOffice name seed before after =
+    (after ≡ before)
+    ⊎ ((before (office_file name) ≡ None)
+    × IsLeftOfTwo before (office_file name) (office_text (office_of seed 0)) (key_file name) (office_public name seed)
+    after)
 
 module _ (IsDone : Command → Type 0) (call : Call) (is : IsCall IsDone call) where
   -- the files as they were and as they are
@@ -136,38 +98,45 @@ module _ (IsDone : Command → Type 0) (call : Call) (is : IsCall IsDone call) w
   abbrev after : Files
   after = call.after
 
-  -- those of an answer were set up to some place
-  sets_of : (answer other : Answer) → answer ≡ other → SetsSome is.old.files answer.files is.new.files →
-      SetsSome (Some before) other.files (Some after)
-  sets_of answer other e sets =
-      told_sets is.old.files is.new.files before after other.files is.told is.left
-      (same_sets is.old.files is.new.files answer other e sets)
+  -- the files of an answer were set up to some place
+  abbrev AreSet : Answer → Type 0
+  AreSet answer = SetsSome (Some before) answer.files (Some after)
 
-  -- so nothing was, where the answer is one without files
-  none_of : (answer other : Answer) → answer ≡ other → other.files ≡ [] →
-      SetsSome is.old.files answer.files is.new.files → after ≡ before
-  none_of answer other e none sets = none_set before after other.files none (sets_of answer other e sets)
+  -- nothing was, where the answer is one without files
+  none_of : (answer other : Answer) → answer ≡ other → other.files ≡ [] → AreSet answer → after ≡ before
+  none_of answer other e none sets = same_Some after before (rw (ap (λ (a : Answer). a.files) e ∙ none) at sets)
 
   -- what follows where no file changed, and of the files that an answer of the command sets,
   -- follows of the call
   of_call : (command : Command) (L : Type 0) → IsDone command → Means call.words command → (after ≡ before → L) →
-      ((answer : Answer) → IsAnswerTo command (Some before) answer →
-      SetsSome is.old.files answer.files is.new.files → L) → L
+      ((answer : Answer) → IsAnswerTo command (Some before) answer → AreSet answer → L) → L
   of_call command L done means kept sets =
-      of_sets IsDone call.words command is.old is.new L done means
-      (λ e. kept (as_before is.old.files is.new.files before after is.told is.left e))
-      (λ answer right. sets answer (subst (λ (f : Option Files). IsAnswerTo command f answer) is.told right))
-      call.how is.done
+      done_cases IsDone call.words (IsGivenSomehow is.old) is.old is.new (λ how. L)
+      (λ (risen, unwritten). kept (same unwritten.files))
+      (λ (answer, gives, cut). sets answer (right answer gives.answers) (rw (is.told, is.left) at cut.files))
+      (λ (unwritten, faults). kept (same unwritten.files))
+      (λ how some (answer, gives, told, written). sets answer (right answer gives.answers)
+      (set_whole (Some before) (Some after) answer.files (rw (is.told, is.left) at written.files))) call.how is.done
+    where
+      -- files that are exposed are as they were
+      same : is.new.files ≡ is.old.files → after ≡ before
+      same e = same_Some after before (sym is.left ∙ e ∙ is.told)
+
+      -- an answer to the words is the command's
+      right : (answer : Answer) → AnswersWords IsDone call.words (OnExposed is.old.files) answer →
+          IsAnswerTo command (Some before) answer
+      right answer gives =
+          rw is.told at (of_command IsDone call.words (OnExposed is.old.files) command answer done means gives)
 
   -- what an answer of `endorse` leaves
   endorse_sets : (name file : List ℕ) (answer : Answer) → IsAnswerTo (endorse name file) (Some before) answer →
-      SetsSome is.old.files answer.files is.new.files → IsLeftSo name file before after
+      AreSet answer → IsLeftSo name file before after
   endorse_sets name file answer (inl (refusal, gives, told)) sets =
       inl (none_of answer (refusal_answer refusal) told (refusal_writes_none refusal) sets)
   endorse_sets name file answer (inr (read, gives, of)) sets =
       states name file before after read gives
       (left_of_two before after (office_file name) (office_text (next_office read.office)) (signature_file file)
-      (endorsement name read.office read.bytes) (sets_of answer (endorse_answer name file read) of.told sets))
+      (endorsement name read.office read.bytes) (rw of.told at sets))
 
   -- what a call of `endorse` leaves of the files, whatever its status
   pub endorse_leaves : (name file : List ℕ) → IsDone (endorse name file) → Means call.words (endorse name file) →
@@ -177,8 +146,7 @@ module _ (IsDone : Command → Type 0) (call : Call) (is : IsCall IsDone call) w
 
   -- an answer of `endorsed` writes no file
   endorsed_sets : (key file signature : List ℕ) (answer : Answer) →
-      IsAnswerTo (endorsed key file signature) (Some before) answer →
-      SetsSome is.old.files answer.files is.new.files → after ≡ before
+      IsAnswerTo (endorsed key file signature) (Some before) answer → AreSet answer → after ≡ before
   endorsed_sets key file signature answer (inl (refusal, gives, told)) sets =
       none_of answer (refusal_answer refusal) told (refusal_writes_none refusal) sets
   endorsed_sets key file signature answer (inr (read, gives, inl (well, told))) sets =
@@ -191,30 +159,21 @@ module _ (IsDone : Command → Type 0) (call : Call) (is : IsCall IsDone call) w
   endorsed_leaves key file signature done means =
       of_call (endorsed key file signature) (after ≡ before) done means (λ e. e) (endorsed_sets key file signature)
 
-  -- what `office` leaves: all as it was where the file is there, and else two files of its own
-  abbrev IsLeftByOffice : List ℕ → List ℕ → Type 0
-  IsLeftByOffice name seed =
-      (after ≡ before)
-      ⊎ ((before (office_file name) ≡ None)
-      × IsLeftOfTwo before (office_file name) (office_text (office_of seed 0)) (key_file name) (office_public name seed)
-      after)
-
   office_sets : (name seed : List ℕ) (answer : Answer) (this : Option (List ℕ)) → before (office_file name) ≡ this →
-      IsOfficeAnswer name seed this answer → SetsSome is.old.files answer.files is.new.files →
-      IsLeftByOffice name seed
+      IsOfficeAnswer name seed this answer → AreSet answer → IsLeftByOffice name seed before after
   office_sets name seed answer None e told sets =
       inr (
         e,
         left_of_two before after (office_file name) (office_text (office_of seed 0)) (key_file name)
-            (office_public name seed) (sets_of answer (made_office name seed) told sets),
+            (office_public name seed) (rw told at sets),
       )
   office_sets name seed answer (Some bytes) e told sets =
       inl (none_of answer (refused_answer (office_file name) 0 (codes "Exists")) told refl sets)
 
   office_leaves : (name seed : List ℕ) → IsDone (office name seed) → Means call.words (office name seed) →
-      IsLeftByOffice name seed
+      IsLeftByOffice name seed before after
   office_leaves name seed done means =
-      of_call (office name seed) (IsLeftByOffice name seed) done means (λ e. inl e)
+      of_call (office name seed) (IsLeftByOffice name seed before after) done means (λ e. inl e)
       (λ answer. office_sets name seed answer (before (office_file name)) refl)
 
 -- the signature's file differs only where the number is used
@@ -228,78 +187,54 @@ signed_by_number name file before after (inr (read, is, inl cut)) differs =
     (λ same. no_signature name file (sym same))))
 signed_by_number name file before after (inr (read, is, inr up)) differs = (read, is, up.next)
 
+-- the bytes are of no office with a number below n
+abbrev HaveAtLeast : ℕ → List ℕ → Type 0
+HaveAtLeast n bytes = (of : Office) → IsOffice bytes of → n ≤ of.next
+
 -- the office's file is there, and has no number below n
-record HasAtLeast (name : List ℕ) (n : ℕ) (files : Files) : Type 0 where
-  bytes : List ℕ
-  there : files (office_file name) ≡ Some bytes
-  least : (of : Office) → IsOfficeIn files name of → n ≤ of.next
+abbrev HasAtLeast : List ℕ → ℕ → Files → Type 0
+HasAtLeast name n files = IsSomeAnd (files (office_file name)) (HaveAtLeast n)
 
--- so it is where the file is as before
-kept : (name : List ℕ) (n : ℕ) (before after : Files) → after (office_file name) ≡ before (office_file name) →
-    HasAtLeast name n before → HasAtLeast name n after
-kept name n before after e has = record {
-  bytes = has.bytes;
-  there = e ∙ has.there;
-  least = λ of is.
-      has.least of (subst (λ (t : Option (List ℕ)). IsSomeAnd t (λ b. IsOffice b of)) e is);
-}
+-- so an office that is in it has n at least
+least : (this : Option (List ℕ)) (n : ℕ) (of : Office) → IsSomeAnd this (HaveAtLeast n) →
+    IsSomeAnd this (λ bytes. IsOffice bytes of) → n ≤ of.next
+least None n of has is = absurd has
+least (Some bytes) n of has is = has of is
 
--- whether two names are one
-same_or_not : (a b : List ℕ) → (a ≡ b) ⊎ (a ≢ b)
-same_or_not a b =
-    elim (bytes_eq a b) as (λ (t : Bool). bytes_eq a b ≡ t → (a ≡ b) ⊎ (a ≢ b)) [
-      | true ↦ λ e. inl ((bytes_eq-Decides a b).0 e)
-      | false ↦ λ e. inr (λ same. let no : true ≡ false = sym ((bytes_eq-Decides a b).1 same) ∙ e in cc)
-    ] refl
+-- and where one is in it that has, no number is below n
+at_least : (this : Option (List ℕ)) (n : ℕ) (of : Office) → IsSomeAnd this (λ bytes. IsOffice bytes of) →
+    n ≤ of.next → IsSomeAnd this (HaveAtLeast n)
+at_least None n of is low = absurd is
+at_least (Some bytes) n of is low =
+    λ one also. omega (arith, low, ap (λ (o : Office). o.next) (one_office bytes of one is also))
 
 module _ (name : List ℕ) (n : ℕ) (before after : Files) (has : HasAtLeast name n before) where
+  -- it stays so where the file is as before
+  kept : after (office_file name) ≡ before (office_file name) → HasAtLeast name n after
+  kept e = rw e has
+
   -- a call of `endorse` keeps it
   endorse_keeps : (other file : List ℕ) → IsLeftSo other file before after → HasAtLeast name n after
-  endorse_keeps other file (inl e) = kept name n before after (ap (λ (f : Files). f (office_file name)) e) has
+  endorse_keeps other file (inl e) = kept (ap (λ (f : Files). f (office_file name)) e)
   endorse_keeps other file (inr (read, is, inl cut)) =
       elim (same_or_not (office_file name) (office_file other)) [
-        | inl same ↦ record {
-          bytes = take cut.n (office_text (next_office read.office));
-          there = ap after same ∙ ap (λ (f : Files). f (office_file other)) cut.left
-              ∙ set_here before (office_file other) (take cut.n (office_text (next_office read.office)));
-          least = λ of found. absurd (cut.refused of
-              (subst (λ (f : List ℕ). IsSomeAnd (after f) (λ b. IsOffice b of)) same found));
-        }
-        | inr differs ↦ kept name n before after
-            (ap (λ (f : Files). f (office_file name)) cut.left
+        | inl same ↦
+            (let here = set_here before (office_file other) (take cut.n (office_text (next_office read.office))) in
+            rw (same, cut.left, here) (λ of found. absurd (cut.refused of (rw (cut.left, here) found))))
+        | inr differs ↦ kept (ap (λ (f : Files). f (office_file name)) cut.left
             ∙ set_elsewhere before (office_file other) (take cut.n (office_text (next_office read.office)))
-            (office_file name) differs) has
+            (office_file name) differs)
       ]
   endorse_keeps other file (inr (read, is, inr up)) =
       elim (same_or_not (office_file name) (office_file other)) [
         | inl same ↦
-            let (here, left) = read_office_in before other file read is in
-            let low : n ≤ read.office.next =
-            has.least read.office (subst (λ (f : List ℕ). IsSomeAnd (before f) (λ b. IsOffice b read.office)) (sym same)
-            here) in
-            next_kept other same (next_office read.office) up.next (omega (arith, low))
-        | inr differs ↦ kept name n before after (elsewhere other file read differs up.left) has
+            (let low : n ≤ read.office.next =
+            least (before (office_file other)) n read.office (rw same at has)
+            (read_office_in before other file read is).0 in
+            rw same (at_least (after (office_file other)) n (next_office read.office) up.next (omega (arith, low))))
+        | inr differs ↦ kept (elsewhere other file read differs up.left)
       ]
     where
-      -- where the office has this number, of which n is at most
-      next_kept : (other : List ℕ) → office_file name ≡ office_file other → (of : Office) → IsOfficeIn after other of →
-          n ≤ of.next → HasAtLeast name n after
-      next_kept other same of found low =
-          let P : List ℕ → Type 0 = λ f. IsSomeAnd (after f) (λ b. IsOffice b of) in
-          there (after (office_file name)) refl (subst P (sym same) found)
-        where
-          there : (this : Option (List ℕ)) → after (office_file name) ≡ this →
-              IsSomeAnd this (λ b. IsOffice b of) → HasAtLeast name n after
-          there None e never = absurd never
-          there (Some bytes) e found = record {
-            bytes = bytes;
-            there = e;
-            least = λ one has.
-                let equal : of ≡ one = one_in (after (office_file name)) of one (some_and (after (office_file name))
-                bytes of e found) has in
-                omega (arith, low, ap (λ (o : Office). o.next) equal);
-          }
-
       -- another office's file is as before
       elsewhere : (other file : List ℕ) (read : Unsigned) → office_file name ≢ office_file other →
           ((after ≡ with_next before other read.office)
@@ -316,20 +251,14 @@ module _ (name : List ℕ) (n : ℕ) (before after : Files) (has : HasAtLeast na
           ∙ set_elsewhere before (office_file other) (office_text (next_office read.office)) (office_file name) differs
 
   -- so does one of `office`, which overwrites no file
-  office_keeps : (other seed : List ℕ) →
-      ((after ≡ before)
-      ⊎ ((before (office_file other) ≡ None)
-      × IsLeftOfTwo before (office_file other) (office_text (office_of seed 0)) (key_file other)
-      (office_public other seed) after)) → HasAtLeast name n after
-  office_keeps other seed (inl e) = kept name n before after (ap (λ (f : Files). f (office_file name)) e) has
+  office_keeps : (other seed : List ℕ) → IsLeftByOffice other seed before after → HasAtLeast name n after
+  office_keeps other seed (inl e) = kept (ap (λ (f : Files). f (office_file name)) e)
   office_keeps other seed (inr (none, left)) =
       elim (same_or_not (office_file name) (office_file other)) [
-        | inl same ↦
-            absurd (let no : Some has.bytes ≡ None = sym has.there ∙ ap before same ∙ none in
-            let never : ⊥ = cc in never)
-        | inr differs ↦ kept name n before after
+        | inl same ↦ absurd (rw (same, none) at has)
+        | inr differs ↦ kept
             (left_elsewhere before after (office_file other) (office_text (office_of seed 0)) (key_file other)
-            (office_public other seed) (office_file name) differs (no_key name other) left) has
+            (office_public other seed) (office_file name) differs (no_key name other) left)
       ]
 
 module _ (IsDone : Command → Type 0) (name : List ℕ) (offices : (n s : List ℕ) → IsDone (office n s))
@@ -337,7 +266,7 @@ module _ (IsDone : Command → Type 0) (name : List ℕ) (offices : (n s : List 
   -- so does every call
   call_keeps : (n : ℕ) (call : Call) → IsCallOrOther IsDone name call → HasAtLeast name n call.before →
       HasAtLeast name n call.after
-  call_keeps n call (inr e) has = kept name n call.before call.after e has
+  call_keeps n call (inr e) has = kept name n call.before call.after has e
   call_keeps n call (inl (is, inl (other, seed, means))) has =
       office_keeps name n call.before call.after has other seed
       (office_leaves IsDone call is other seed (offices other seed) means)
@@ -345,26 +274,15 @@ module _ (IsDone : Command → Type 0) (name : List ℕ) (offices : (n s : List 
       endorse_keeps name n call.before call.after has other file
       (endorse_leaves IsDone call is other file (endorses other file) means)
   call_keeps n call (inl (is, inr (inr (key, file, signature, means)))) has =
-      kept name n call.before call.after
+      kept name n call.before call.after has
       (ap (λ (f : Files). f (office_file name))
-      (endorsed_leaves IsDone call is key file signature (checks key file signature) means)) has
+      (endorsed_leaves IsDone call is key file signature (checks key file signature) means))
 
   -- after a call that used a number the office's file has at least the next one
   used_next : (call : Call) (read : Unsigned) → UsesNumber name call read →
       HasAtLeast name (read.office.next + 1) call.after
-  used_next call read uses = by (call.after (office_file name)) refl uses.next
-    where
-      by : (this : Option (List ℕ)) → call.after (office_file name) ≡ this →
-          IsSomeAnd this (λ b. IsOffice b (next_office read.office)) → HasAtLeast name (read.office.next + 1) call.after
-      by None e never = absurd never
-      by (Some bytes) e found = record {
-        bytes = bytes;
-        there = e;
-        least = λ of has.
-            let same : next_office read.office ≡ of =
-            one_in (call.after (office_file name)) (next_office read.office) of uses.next has in
-            omega (arith, ap (λ (o : Office). o.next) same);
-      }
+  used_next call read uses =
+      at_least (call.after (office_file name)) (read.office.next + 1) (next_office read.office) uses.next (omega arith)
 
   -- a later call uses a higher number
   abbrev IsHigher : Call → Call → Type 0
@@ -379,11 +297,11 @@ module _ (IsDone : Command → Type 0) (name : List ℕ) (offices : (n s : List 
   later first files [] has on = λ i d within. absurd (let no : ⊥ = omega (arith, within) in no)
   later first files (second ∷ calls) has (e, is, rest) =
       let at : (read : Unsigned) → UsesNumber name first read → HasAtLeast name (read.office.next + 1) second.before =
-      λ read uses. subst (λ (f : Files). HasAtLeast name (read.office.next + 1) f) (sym e) (has read uses) in
+      λ read uses. rw e (has read uses) in
       All-cons (IsHigher first) second calls
       (λ read again uses also.
       let (here, left) = read_office_in second.before name also.file again also.read_so in
-      omega (arith, (at read uses).least again.office here))
+      omega (arith, least (second.before (office_file name)) (read.office.next + 1) again.office (at read uses) here))
       (later first second.after calls
       (λ read uses. call_keeps (read.office.next + 1) second is (at read uses)) rest)
 
@@ -399,7 +317,18 @@ pub called_good : (name key file signature bytes : List ℕ) (of : Office) (answ
     of.next < max_signatures → length bytes ≤ max_signed →
     IsEndorsedAnswer key file signature
     (Some (office_public name of.seed) ∷ Some bytes ∷ Some (endorsement name of bytes) ∷ []) answer → answer ≡ good
-called_good name key file signature bytes of answer left fits is = by is
+called_good name key file signature bytes of answer left fits is =
+    let short = short_signature k bytes s well in
+    endorsed_one key file signature (Some k ∷ Some bytes ∷ Some s ∷ []) answer good is
+    (inr (
+      record { key = k; bytes = bytes; signature = s },
+      inl (
+        k,
+        inr (omega (arith, short.0), refl),
+        inl (bytes, inr (fits, refl), inl (s, inr (omega (arith, short.1), refl), refl)),
+      ),
+      inl (well, refl),
+    ))
   where
     k : List ℕ
     k = office_public name of.seed
@@ -410,33 +339,3 @@ called_good name key file signature bytes of answer left fits is = by is
     -- the signature is one under the key
     well : HssSigns k bytes s
     well = signs_well name bytes of left
-
-    read : Signed
-    read = record { key = k; bytes = bytes; signature = s }
-
-    -- both are within their limits
-    files : List (Option (List ℕ))
-    files = Some k ∷ Some bytes ∷ Some s ∷ []
-
-    given : GivesSigned key file signature files (Ok read)
-    given =
-        let short = short_signature k bytes s well in
-        inl (
-          k,
-          inr (omega (arith, short.0), refl),
-          inl (bytes, inr (fits, refl), inl (s, inr (omega (arith, short.1), refl), refl)),
-        )
-
-    -- so the verdict is good
-    by : IsEndorsedAnswer key file signature files answer → answer ≡ good
-    by (inl (refusal, gives, e)) =
-        absurd (let no : Err refusal ≡ Ok read = one_signed key file signature files (Err refusal) (Ok read) gives given
-        in let never : ⊥ = cc in never)
-    by (inr (found, gives, verdict)) =
-        let whole : Ok found ≡ Ok read = one_signed key file signature files (Ok found) (Ok read) gives given in
-        let same : found ≡ read = cc in
-        told (subst (λ (r : Signed). IsEndorsedVerdict r answer) same verdict)
-      where
-        told : IsEndorsedVerdict read answer → answer ≡ good
-        told (inl (really, e)) = e
-        told (inr (none, e)) = absurd (none well)

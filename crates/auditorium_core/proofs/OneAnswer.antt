@@ -1,9 +1,7 @@
 -- Words and files have at most one answer.
-use Rattle.std.proofs.Common.{Some}
-use Rattle.auditorium_core.proofs.Imports.{◌≡◌, ◌∙◌, ℕ, inl, inr, List, map, sym, Files, command_parts, IsStill}
-use Rattle.auditorium_core.proofs.Imports.{Answer, AnswersWords, OnExposed}
-use Rattle.auditorium_core.proofs.CitedLaws.{CitedLaws}
-use Rattle.auditorium_core.proofs.Commands.{have_one_answer, of_command}
+use Rattle.auditorium_core.proofs.Imports.{Answer, AnswersWords, command_parts, Files, inl, inr, IsStill, List, map}
+use Rattle.auditorium_core.proofs.Imports.{OnExposed, Some, sym, ℕ, ◌∙◌, ◌≡◌}
+use Rattle.auditorium_core.proofs.{CitedLaws.CitedLaws, Commands.have_one_answer, Commands.of_command}
 
 -- without threads any words have one answer over files that are exposed
 pub one_answer : CitedLaws → (words : List (List ℕ)) (files : Files) (a b : Answer) →

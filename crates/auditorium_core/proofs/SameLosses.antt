@@ -1,23 +1,14 @@
 -- Losses of the same entries on the same ways, in order, are the same but for their causes.
-use Rattle.std.proofs.Common.{length, true, Some}
-use Rattle.std.specs.Prelude.{AllPairs, ◌↔◌}
-use Rattle.std.specs.List.{Contains}
-use Rattle.auditorium_core.proofs.Imports.{◌≡◌, ◌∙◌, ℕ, zero, suc, ◌<◌, inl, inr, List, [], ◌∷◌, refl, sym}
-use Rattle.auditorium_core.proofs.Imports.{ap, subst, arith, true≢false, All-contains, Contains-none, Contains-head, Contains-later}
-use Rattle.auditorium_core.proofs.Imports.{element_at, member_at, one_at, slice_get, SealedEntry, Loss}
-use Rattle.auditorium_core.proofs.Imports.{node_of_sealed, history, MachineState, Script, world_of}
-use Rattle.entry_order.specs.declared.event.Event.TheVariants.{Sent}
-use Rattle.entry_order.specs.History.{sent}
-use Rattle.entry_order.specs.Receipt.{IsOrderly}
-use Rattle.entry_order.proofs.Histories.{nth_split}
-use Rattle.entry_order.proofs.Lists.{Contains-cons_cases, list_any_of, list_any_some}
-use Rattle.finished_floor.specs.declared.loss.LossWhy.{LossWhy}
-use Rattle.finished_floor.specs.declared.loss.LossWhy.TheVariants.{Scripted, ToStopped, LogFull}
-use Rattle.finished_floor.specs.Arrivals.{is_lost, is_of}
+use Rattle.auditorium_core.proofs.Imports.{[], All-contains, AllPairs, ap, arith, Contains, Contains-cons_cases}
+use Rattle.auditorium_core.proofs.Imports.{Contains-head, Contains-later, Contains-none, DifferInCauses, DiffersInCause}
+use Rattle.auditorium_core.proofs.Imports.{element_at, history, inl, inr, is_of_parts, IsOrderly, itself, length, List}
+use Rattle.auditorium_core.proofs.Imports.{list_any_of, list_any_some, MachineState, member_at, node_of_sealed}
+use Rattle.auditorium_core.proofs.Imports.{nth_split, one_at, refl, Script, SealedEntry, Sent, sent, slice_get, Some}
+use Rattle.auditorium_core.proofs.Imports.{subst, suc, sym, true, true≢false, world_of, zero, ℕ, ◌<◌, ◌∙◌, ◌∷◌, ◌≡◌}
+use Rattle.auditorium_core.proofs.Pairs.{same_member}
+use Rattle.finished_floor.specs.declared.loss.LossWhy.TheVariants.{LogFull, Scripted, ToStopped}
 use Rattle.finished_floor.specs.Losses.{AreLosses, IsCauseOf, IsOnWay, IsToldBefore}
-use Rattle.finished_floor.specs.Scripted.{is_scripted}
-use Rattle.finished_floor.proofs.Arriving.{is_of_parts, itself}
-use Rattle.auditorium_core.specs.OneRun.{DiffersInCause, DifferInCauses}
+use Rattle.finished_floor.specs.{Arrivals.is_lost, Arrivals.is_of, declared.loss.Loss.Loss, Scripted.is_scripted}
 
 -- both are of one entry, on one way
 abbrev SameWay : Loss → Loss → Type 0
@@ -40,19 +31,11 @@ later_told x xs told i j d lt within = told (suc i) (suc j) d (omega (arith, lt)
 
 -- a loss isn't reported before one of the same entry on the same way
 not_same : (x z : Loss) → SameWay x z → IsToldBefore x z → ⊥
-not_same x z (f, n, t) (inl lower) = omega (arith, f, lower)
-not_same x z (f, n, t) (inr (g, inl lower)) = omega (arith, t, lower)
-not_same x z (f, n, t) (inr (g, inr (u, lower))) = omega (arith, n, lower)
+not_same x z same told = grind arith
 
 -- no two are each reported before the other, up to their causes
 not_both : (x y z w : Loss) → SameWay x z → SameWay y w → IsToldBefore y z → IsToldBefore x w → ⊥
-not_both x y z w (f, n, t) (g, m, u) (inl a) (inl b) = omega (arith, f, g, a, b)
-not_both x y z w (f, n, t) (g, m, u) (inl a) (inr (h, b)) = omega (arith, f, g, a, h)
-not_both x y z w (f, n, t) (g, m, u) (inr (h, a)) (inl b) = omega (arith, f, g, h, b)
-not_both x y z w (f, n, t) (g, m, u) (inr (h, inl a)) (inr (k, inl b)) = omega (arith, t, u, a, b)
-not_both x y z w (f, n, t) (g, m, u) (inr (h, inl a)) (inr (k, inr (l, b))) = omega (arith, t, u, a, l)
-not_both x y z w (f, n, t) (g, m, u) (inr (h, inr (l, a))) (inr (k, inl b)) = omega (arith, t, u, l, b)
-not_both x y z w (f, n, t) (g, m, u) (inr (h, inr (l, a))) (inr (k, inr (o, b))) = omega (arith, n, m, a, b)
+not_both x y z w same also first second = grind arith
 
 -- the first of both are of one entry, on one way
 first_same : (x y : Loss) (xs ys : List Loss) → AllPairs IsToldBefore (x ∷ xs) → AllPairs IsToldBefore (y ∷ ys) →
@@ -81,16 +64,9 @@ later_among x y xs ys told (f, n, t) among z inside =
       | inr later ↦ (w, later, (g, m, u))
     ]
 
--- a loss of these
-abbrev loss_with : ℕ → ℕ → ℕ → LossWhy → Loss
-loss_with from number to why = record { from = from; number = number; to = to; why = why }
-
 -- of one entry on one way a loss differs in its cause alone
 cause_alone : (x y : Loss) → SameWay x y → y ≡ record x { why = y.why }
-cause_alone x y (f, n, t) =
-    ap (λ (k : ℕ). loss_with k y.number y.to y.why) (sym f)
-    ∙ ap (λ (k : ℕ). loss_with x.from k y.to y.why) (sym n)
-    ∙ ap (λ (k : ℕ). loss_with x.from x.number k y.why) (sym t)
+cause_alone x y (f, n, t) = λ i. record { from = sym f i; number = sym n i; to = sym t i; why = y.why }
 
 -- the other way round
 turned : (x y : Loss) → SameWay x y → SameWay y x
@@ -120,31 +96,10 @@ alike (x ∷ xs) (y ∷ ys) told others among back agree =
 -- losses in order have one of an entry on a way
 one_on_way : (xs : List Loss) (x y : Loss) → AllPairs IsToldBefore xs → Contains xs x → Contains xs y → SameWay x y →
     x ≡ y
-one_on_way [] x y told inside there same = absurd (Contains-none x inside)
-one_on_way (z ∷ zs) x y told inside there same =
-    elim (Contains-cons_cases z zs x inside) [
-      | inl is ↦ elim (Contains-cons_cases z zs y there) [
-        | inl is' ↦ sym is ∙ is'
-        | inr later ↦ absurd (not_same x y same
-            (subst (λ (w : Loss). IsToldBefore w y) is (first_told z zs y told later)))
-      ]
-      | inr later ↦ elim (Contains-cons_cases z zs y there) [
-        | inl is' ↦ absurd (not_same y x (turned x y same)
-            (subst (λ (w : Loss). IsToldBefore w x) is' (first_told z zs x told later)))
-        | inr after ↦ one_on_way zs x y (later_told z zs told) later after same
-      ]
-    ]
+one_on_way xs x y told inside there same =
+    same_member IsToldBefore xs told x y inside there (not_same x y same) (not_same y x (turned x y same))
 
 -- ---- losses of one world
-
--- a loss is one of its entry on its way
-lost_some : (losses : List Loss) (l : Loss) → Contains losses l → is_lost losses l.from l.number l.to ≡ true
-lost_some losses l c = list_any_of (is_of l.from l.number l.to) losses l c (itself l l.from l.number l.to refl refl refl)
-
--- what is lost on a way has a loss
-some_lost : (losses : List Loss) (from number to : ℕ) → is_lost losses from number to ≡ true →
-    (l : Loss) × Contains losses l × (is_of from number to l ≡ true)
-some_lost losses from number to some = list_any_some (is_of from number to) losses some
 
 -- the entry of a machine with a number, if it sent so many
 record IsSentSo (machines : List MachineState) (from number : ℕ) : Type 0 where
@@ -173,14 +128,15 @@ module _ (script : Script) (machines : List MachineState) (orderly : IsOrderly n
       let way = All-contains (IsOnWay machines) losses l is.only inside in
       let so = sent_so machines orderly l.from l.number way.number in
       let some : is_lost losses l.from so.entry.entry.number l.to ≡ true =
-      subst (λ (n : ℕ). is_lost losses l.from n l.to ≡ true) (sym so.numbered) (lost_some losses l inside) in
+      rw so.numbered
+      (list_any_of (is_of l.from l.number l.to) losses l inside (itself l l.from l.number l.to refl refl refl)) in
       elim (is.each l.from l.to so.entry way.from way.to way.other so.was_sent) [
         | inl (got, none) ↦ absurd (true≢false (sym some ∙ none))
         | inr (unheard, once) ↦ elim (also.each l.from l.to so.entry way.from way.to way.other so.was_sent) [
           | inl (got, none) ↦ absurd (unheard got)
           | inr (not_got, one) ↦
               (let (k, there, of) =
-              some_lost others l.from so.entry.entry.number l.to one in
+              list_any_some (is_of l.from so.entry.entry.number l.to) others one in
               let (from, number, to) = is_of_parts k l.from so.entry.entry.number l.to of in
               (k, there, (sym from, sym so.numbered ∙ sym number, sym to)))
         ]
@@ -192,13 +148,9 @@ module _ (script : Script) (machines : List MachineState) (orderly : IsOrderly n
   scripted_too losses others is also x y inside there (f, n, t) why =
       let way = All-contains (IsOnWay machines) others y also.only there in
       let cause = All-contains (λ (l : Loss). IsCauseOf script machines losses l l.why) losses x is.causes inside in
-      let named : is_scripted script.loses x.from x.number x.to ≡ true =
-      subst (λ (c : LossWhy). IsCauseOf script machines losses x c) why cause in
-      let line : is_scripted script.loses y.from y.number y.to ≡ true =
-      subst (λ (k : ℕ). is_scripted script.loses k y.number y.to ≡ true) f
-      (subst (λ (k : ℕ). is_scripted script.loses x.from k y.to ≡ true) n
-      (subst (λ (k : ℕ). is_scripted script.loses x.from x.number k ≡ true) t named)) in
-      let same = one_on_way others (loss_with y.from y.number y.to Scripted) y also.sorted
+      let named : is_scripted script.loses x.from x.number x.to ≡ true = rw why at cause in
+      let line : is_scripted script.loses y.from y.number y.to ≡ true = rw (f, n, t) at named in
+      let same = one_on_way others (record y { why = Scripted }) y also.sorted
       (also.scripted y.from y.number y.to way.from way.to way.other way.number line) there (refl, refl, refl) in
       ap (λ (l : Loss). l.why) (sym same)
 
@@ -208,11 +160,11 @@ module _ (script : Script) (machines : List MachineState) (orderly : IsOrderly n
   not_full losses others is also x y inside there (f, n, t) why other_why =
       let cause = All-contains (λ (l : Loss). IsCauseOf script machines losses l l.why) losses x is.causes inside in
       let other = All-contains (λ (l : Loss). IsCauseOf script machines others l l.why) others y also.causes there in
-      let (m, at, stopped) = subst (λ (c : LossWhy). IsCauseOf script machines losses x c) why cause in
-      let (k, at', going, full) = subst (λ (c : LossWhy). IsCauseOf script machines others y c) other_why other in
+      let (m, at, stopped) = rw why at cause in
+      let (k, at', going, full) = rw other_why at other in
       let same : m ≡ k =
       one_at machines y.to m k (subst (λ (to : ℕ). slice_get machines to ≡ Some m) t at) at' in
-      going (subst (λ (u : MachineState). u.stop ≡ Some (length u.events)) same stopped)
+      going (rw same at stopped)
 
   -- two right lists of what machines lost differ in their causes alone
   pub same_losses : (losses others : List Loss) → AreLosses script machines losses →

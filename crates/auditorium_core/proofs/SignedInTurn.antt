@@ -1,56 +1,38 @@
 -- The number of an office is in place before a signature with it is begun.
-use Rattle.std.proofs.Common.{◌⊎◌, Option, Some, None, Bool, true, false}
-use Rattle.auditorium_core.proofs.Imports.{◌≡◌, ◌≢◌, ◌∙◌, ℕ, ◌<◌, List, [], ◌∷◌, take, drop, inl, inr, refl, sym, ap}
-use Rattle.auditorium_core.proofs.Imports.{subst, arith, Ok, Err, Result, Failed, Files, StoreGhosts}
-use Rattle.auditorium_core.proofs.Imports.{SinkGhosts}
-use Rattle.auditorium_core.proofs.Imports.{OnRead, OnExposed, on_exposed, Refusal, refusal_answer, absent, refused}
-use Rattle.auditorium_core.proofs.Imports.{Status, Command, Means, AnswersWords, Answer, OrRefused, Outside, outside}
-use Rattle.auditorium_core.proofs.Imports.{GivesUnsigned, IsEndorsement, Unsigned, endorse_answer, office_file, endorse}
-use Rattle.auditorium_core.proofs.Imports.{HasDone, IsGivenBy, IsWrittenBy, PlacesAll, PlacesInTurn}
-use Rattle.auditorium_core.proofs.Imports.{IsSignedInTurn, SignsInTurn}
-use Rattle.std.proofs.Math.Seq.{drop-nil, take-nil}
+use Rattle.auditorium_core.proofs.Imports
+use Imports.{[], absent, Answer, AnswersWords, ap, arith, Bool, Command, drop-nil, endorse, endorse_answer, false}
+use Imports.{Files, GivesUnsigned, HasDone, inl, inr, IsEndorsement, IsGivenBy, IsSignedInTurn, IsWrittenBy, List}
+use Imports.{Means, None, office_file, Ok, on_exposed, OnExposed, Option, OrRefused, outside, PlacesInTurn, refl}
+use Imports.{Refusal, refusal_answer, refused, SignsInTurn, SinkGhosts, Some, Status, StoreGhosts, subst, sym, take-nil}
+use Imports.{true, Unsigned, ℕ, ◌∙◌, ◌∷◌, ◌≡◌, ◌≢◌, ◌⊎◌}
+use Rattle.auditorium_core.proofs.DoneCases.{done_cases, Giving}
+use Rattle.auditorium_core.proofs.{Commands.of_command, OfficeCallsLeave.refusal_writes_none}
 use Rattle.command_line.specs.declared.status.Status.TheVariants as status
-use Rattle.auditorium_core.proofs.Commands.{of_command}
-use Rattle.auditorium_core.proofs.DoneCases.{Giving, done_cases}
-use Rattle.auditorium_core.proofs.OfficeCallsLeave.{refusal_writes_none}
 
--- where there is no file, no call is made
-no_call : {S : Type 0} (of : StoreGhosts S) (old new : S) (files : List (List ℕ × List ℕ)) (ok : Bool) → files ≡ [] →
-    PlacesAll of old files ok new → new ≡ old
-no_call of old new [] ok none (same, done) = same
-no_call of old new (file ∷ files) ok none calls = absurd (let no : ⊥ = cc in no)
-
--- a part of no files is none
-none_taken : (n : ℕ) (files : List (List ℕ × List ℕ)) → files ≡ [] → take n files ≡ []
-none_taken n files none = ap (take n) none ∙ take-nil n
-
-none_dropped : (n : ℕ) (files : List (List ℕ × List ℕ)) → files ≡ [] → drop n files ≡ []
-none_dropped n files none = ap (drop n) none ∙ drop-nil n
-
--- so the store is as it was
+-- where an answer has no file the store is as it was
 none_in_turn : {S : Type 0} (of : StoreGhosts S) (answer : Answer) (old new : S) (ok : Bool) → answer.files ≡ [] →
     PlacesInTurn of answer old ok new → new ≡ old
-none_in_turn of answer old new ok none (inl (calls, failed)) =
-    no_call of old new (take answer.ahead answer.files) false
-    (none_taken answer.ahead answer.files none) calls
+none_in_turn of answer old new ok none (inl (calls, failed)) = (rw (none, take-nil) at calls).0
 none_in_turn of answer old new ok none (inr (mid, calls, same, others)) =
-    no_call of mid new (drop answer.ahead answer.files) ok
-    (none_dropped answer.ahead answer.files none) others
-    ∙ no_call of old mid (take answer.ahead answer.files) true
-    (none_taken answer.ahead answer.files none) calls
+    (rw (none, drop-nil) at others).0 ∙ (rw (none, take-nil) at calls).0
 
 -- a refusal isn't done
 refusal_not_done : (refusal : Refusal) → (refusal_answer refusal).status ≢ status.Done
 refusal_not_done (absent file) e = let no : status.Absent ≡ status.Done = e in cc
 refusal_not_done (refused file place cause) e = let no : status.Refused ≡ status.Done = e in cc
 
--- an answer over exposed files, or over some, is a refusal or that of what was read in them
-refused_or_read : (told : Option Files) (name file : List ℕ) (answer : Answer) →
-    OnExposed told (office_file name ∷ file ∷ [])
-    (λ files. OrRefused (GivesUnsigned name file files) (IsEndorsement name file) answer) →
+-- the answer is a refusal's, or that of what was read in these files
+abbrev IsRefusedOrRead : Option Files → List ℕ → List ℕ → Answer → Type 0
+IsRefusedOrRead told name file answer =
     ((refusal : Refusal) × (answer ≡ refusal_answer refusal))
     ⊎ ((read : Unsigned) × OnExposed told (office_file name ∷ file ∷ [])
     (λ files. GivesUnsigned name file files (Ok read)) × (answer ≡ endorse_answer name file read))
+
+-- an answer over exposed files, or over some, is so
+refused_or_read : (told : Option Files) (name file : List ℕ) (answer : Answer) →
+    OnExposed told (office_file name ∷ file ∷ [])
+    (λ files. OrRefused (GivesUnsigned name file files) (IsEndorsement name file) answer) →
+    IsRefusedOrRead told name file answer
 refused_or_read None name file answer (files, many, inl (refusal, gives, e)) = inl (refusal, e)
 refused_or_read None name file answer (files, many, inr (read, gives, is)) = inr (read, (files, many, gives), is.told)
 refused_or_read (Some at) name file answer (inl (refusal, gives, e)) = inl (refusal, e)
@@ -65,8 +47,7 @@ module _ {S K : Type 0} (of : StoreGhosts S) (of_sink : SinkGhosts K) (IsDone : 
   -- the calls of the store, whether or not the output could be written
   placed : (answer : Answer) (mid : S) (ok : Bool) → IsWrittenBy of of_sink answer mid out ok new out_after →
       (way : Bool) × PlacesInTurn of answer mid way new × (ok ≡ true → way ≡ true)
-  placed answer mid ok (inl (calls, same, failed)) =
-      (false, calls, λ e. let no : false ≡ true = sym failed ∙ e in no)
+  placed answer mid ok (inl (calls, same, failed)) = (false, calls, λ e. sym failed ∙ e)
   placed answer mid ok (inr (calls, written)) = (true, calls, λ e. refl)
 
   -- an answer that was given is a refusal, which no call of the store followed, or was placed in turn
@@ -79,31 +60,19 @@ module _ {S K : Type 0} (of : StoreGhosts S) (of_sink : SinkGhosts K) (IsDone : 
   either answer ok is =
       let (mid, on, files, faults, calls) = of_command IsDone words (IsGiven answer ok) (endorse name file) answer done
       means is in
-      by mid files faults (placed answer mid ok calls)
-      (refused_or_read (of.files old) name file answer
+      let (way, made, whole) = placed answer mid ok calls in
+      elim (refused_or_read (of.files old) name file answer
       (on_exposed of (office_file name ∷ file ∷ [])
-      (λ files. OrRefused (GivesUnsigned name file files) (IsEndorsement name file) answer) old mid on))
-    where
-      by : (mid : S) → of.files mid ≡ of.files old → of.write_faults mid ≡ of.write_faults old →
-          ((way : Bool) × PlacesInTurn of answer mid way new × (ok ≡ true → way ≡ true)) →
-          (((refusal : Refusal) × (answer ≡ refusal_answer refusal))
-          ⊎ ((read : Unsigned) × OnExposed (of.files old) (office_file name ∷ file ∷ [])
-          (λ files. GivesUnsigned name file files (Ok read)) × (answer ≡ endorse_answer name file read))) →
-          IsEither answer ok
-      by mid files faults (way, calls, whole) (inl (refusal, e)) =
-          inl (
-            subst (λ (a : Answer). a.status ≢ status.Done) (sym e) (refusal_not_done refusal),
-            ap of.write_faults
-                (none_in_turn of answer mid new way
-                (ap (λ (a : Answer). a.files) e ∙ refusal_writes_none refusal) calls)
-                ∙ faults,
-          )
-      by mid files faults (way, calls, whole) (inr (read, gives, e)) =
-          inr (
-            way,
-            (read, gives, mid, files, subst (λ (a : Answer). PlacesInTurn of a mid way new) e calls),
-            whole,
-          )
+      (λ files. OrRefused (GivesUnsigned name file files) (IsEndorsement name file) answer) old mid on)) [
+        | inl (refusal, e) ↦ inl (
+          rw e (refusal_not_done refusal),
+          ap of.write_faults (none_in_turn of answer mid new way
+              (ap (λ (a : Answer). a.files) e ∙ refusal_writes_none refusal) made) ∙ faults,
+        )
+        | inr (read, gives, e) ↦
+            (let turn = subst (λ (a : Answer). PlacesInTurn of a mid way new) e made in
+            inr (way, (read, gives, mid, files, turn), whole))
+      ]
 
   -- what follows of the call
   abbrev Follows : Status → Type 0
@@ -111,10 +80,7 @@ module _ {S K : Type 0} (of : StoreGhosts S) (of_sink : SinkGhosts K) (IsDone : 
 
   -- where no write failed and nothing was done
   nothing : (how : Status) → how ≢ status.Done → of.write_faults new ≡ of.write_faults old → Follows how
-  nothing how other same = record {
-    done = λ e. absurd (other e);
-    failed = λ more. absurd (omega (arith, more, same));
-  }
+  nothing how other same = record { done = λ e. absurd (other e); failed = λ more. absurd (omega (arith, more, same)) }
 
   -- where an answer was given
   given : (how : Status) (answer : Answer) (ok : Bool) →

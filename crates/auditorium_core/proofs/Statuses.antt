@@ -1,12 +1,10 @@
 -- What the status of an answer says of the words.
-use Rattle.std.proofs.Common.{Option, Some, None}
-use Rattle.std.specs.List.{Contains}
-use Rattle.auditorium_core.proofs.Imports.{◌≡◌, List, ℕ, inl, inr, map, sym, ap, subst, All-contains, Files, OnExposed}
-use Rattle.auditorium_core.proofs.Imports.{Status, Command, command_parts, Means, AreGood, Answer, usage_answer}
-use Rattle.auditorium_core.proofs.Imports.{AnswersWords, IsOfAnswers, HasItsWords}
-use Rattle.command_line.specs.declared.status.Status.TheVariants as status
-use Rattle.command_line.proofs.CommandProofs.{IsOfCommands}
+use Rattle.auditorium_core.proofs.Imports.{All-contains, Answer, AnswersWords, AreGood, Command, command_parts}
+use Rattle.auditorium_core.proofs.Imports.{Contains, Files, HasItsWords, inl, inr, IsOfAnswers, IsOfCommands, List, map}
+use Rattle.auditorium_core.proofs.Imports.{Means, None, OnExposed, Option, refl, Some, Status, subst, usage_answer, ℕ}
+use Rattle.auditorium_core.proofs.Imports.{◌≡◌}
 use Rattle.auditorium_core.proofs.Commands.{have_statuses}
+use Rattle.command_line.specs.declared.status.Status.TheVariants as status
 
 -- a status that a command can have is one that an answer can have
 of_command : (how : Status) → IsOfCommands how → IsOfAnswers how
@@ -20,28 +18,20 @@ of_command how is = tt
 command_words : (IsDone : Command → Type 0) (words : List (List ℕ)) (command : Command) (answer : Answer) →
     IsDone command → Means words command → Contains (command_parts command).statuses answer.status →
     HasItsWords IsDone words answer
-command_words IsDone words command answer done means has = record {
-  some = of_command answer.status some;
-  usage = (λ e. absurd (subst IsOfCommands e some), λ bad. absurd (bad (command, done, means)));
-  own = λ not_usage. (command, means, has);
-}
-  where
-    -- a command can have the status
-    some : IsOfCommands answer.status
-    some = All-contains IsOfCommands (command_parts command).statuses answer.status (have_statuses command).some has
+command_words IsDone words command answer done means has =
+    let some : IsOfCommands answer.status =
+    All-contains IsOfCommands (command_parts command).statuses answer.status (have_statuses command).some has in
+    record {
+      some = of_command answer.status some;
+      usage = (λ e. absurd (subst IsOfCommands e some), λ bad. absurd (bad (command, done, means)));
+      own = λ not_usage. (command, means, has);
+    }
 
 -- what the status of an invalid command line says
 usage_words : (IsDone : Command → Type 0) (words : List (List ℕ)) (answer : Answer) → ¬ AreGood IsDone words →
     answer ≡ usage_answer → HasItsWords IsDone words answer
-usage_words IsDone words answer bad e = record {
-  some = subst IsOfAnswers (sym is) tt;
-  usage = (λ same. bad, λ none. is);
-  own = λ not_usage. absurd (not_usage is);
-}
-  where
-    -- the answer's status is Usage
-    is : answer.status ≡ status.Usage
-    is = ap (λ (a : Answer). a.status) e
+usage_words IsDone words answer bad e =
+    rw e (record { some = tt; usage = (λ same. bad, λ none. refl); own = λ not_usage. absurd (not_usage refl) })
 
 -- what the status says of the words of any command, and of an invalid command line
 pub status_words : (IsDone : Command → Type 0) (words : List (List ℕ)) (told : Option Files) (answer : Answer) →

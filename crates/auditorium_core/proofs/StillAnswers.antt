@@ -1,6 +1,6 @@
 -- Where the words aren't those of a run, one answer is right without threads and with them.
-use Rattle.std.proofs.Common.{Option}
-use Rattle.auditorium_core.proofs.Imports.{ℕ, List, inl, inr, Command, run, IsAny, IsStill, Means, Answer, AnswersWords}
+use Rattle.auditorium_core.proofs.Imports.{Answer, AnswersWords, Command, inl, inr, IsAny, IsStill, List, Means, Option}
+use Rattle.auditorium_core.proofs.Imports.{run, ℕ}
 
 module _ (words : List (List ℕ)) (no_run : (script prefix : List ℕ) → ¬ Means words (run script prefix))
     (OnFiles : List (List ℕ) → (List (Option (List ℕ)) → Type 0) → Type 0) (answer : Answer) where

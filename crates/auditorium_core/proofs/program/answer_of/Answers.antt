@@ -1,4 +1,4 @@
-use Rattle.auditorium_core.proofs.Imports.{rules, map, string_bytes, AreGood, IsStill, asked}
+use Rattle.auditorium_core.proofs.Imports.{AreGood, asked, IsStill, map, rules, string_bytes}
 use Rattle.auditorium_core.proofs.Endings.{answered_words, usage_answered}
 use Rattle.auditorium_core.proofs.program.answer_of.Goals as goal
 

@@ -1,5 +1,5 @@
-use Rattle.auditorium_core.proofs.Imports.{map, string_bytes, IsGivenBy, outside, IsAny, run}
-use Rattle.auditorium_core.proofs.Endings.{answered_words, was_done, done_as_any}
+use Rattle.auditorium_core.proofs.Imports.{IsAny, IsGivenBy, map, outside, run, string_bytes}
+use Rattle.auditorium_core.proofs.Endings.{answered_words, done_as_any, was_done}
 use Rattle.auditorium_core.proofs.program.auditorium_heard.Goals as goal
 
 pub returns-in-Some-clause-done : goal.returns-in-Some-clause-done
@@ -15,12 +15,8 @@ returns-in-Some-clause-done g c =
 
 pub returns-in-None-clause-done : goal.returns-in-None-clause-done
 returns-in-None-clause-done g c =
-    let store = g.S.Store in
-    let sink = g.K.Sink in
-    let old = c.args.store.now in
-    let new = c.done_by.new.store in
-    let out = c.args.out.now in
-    let out_now = c.done_by.new.out in
-    done_as_any (map string_bytes c.args.words.now) (IsGivenBy store sink old out new out_now)
-    (outside store sink old out) (outside store sink new out_now) c.done_by.result c.in-None.ensures.none
+    done_as_any (map string_bytes c.args.words.now)
+    (IsGivenBy g.S.Store g.K.Sink c.args.store.now c.args.out.now c.done_by.new.store c.done_by.new.out)
+    (outside g.S.Store g.K.Sink c.args.store.now c.args.out.now)
+    (outside g.S.Store g.K.Sink c.done_by.new.store c.done_by.new.out) c.done_by.result c.in-None.ensures.none
     c.done_by.ensures.done

@@ -1,4 +1,4 @@
-use Rattle.auditorium_core.proofs.Imports.{map, string_bytes, IsStill}
+use Rattle.auditorium_core.proofs.Imports.{IsStill, map, string_bytes}
 use Rattle.auditorium_core.proofs.Endings.{was_done}
 use Rattle.auditorium_core.proofs.program.done_by.Goals as goal
 
