@@ -1,19 +1,14 @@
 -- What holds of each play of a lawful script.
 use Rattle.demonstration.proofs.Imports.{◌≡◌, ℕ, ◌+◌, ◌<◌, ◌≤◌, inl, inr, List, [], length, refl, sym, subst, arith}
-use Rattle.demonstration.proofs.Imports.{length-append, Ok, Err, flat_map, cases_lt, text_of, roster_tree}
-use Rattle.demonstration.proofs.Imports.{max_machines, Script, IsLawful, SealedEntry, history, sent_in, Event}
-use Rattle.demonstration.proofs.Imports.{HasHeader, header_tree, record_text, roster_of, MachineState, IsPlayed}
-use Rattle.demonstration.proofs.Imports.{world_of, Refusal, too_long, max_roster, IsLeftOf, end_of, left_has_header}
-use Rattle.demonstration.proofs.Imports.{whole_is_left, script_roster_is_read, AuditReport, Demonstration, IsKeptOf}
-use Rattle.demonstration.proofs.Imports.{GivesAudit, IsCounted, IsDemonstrationOf, IsRefusedSo}
-use Rattle.std.specs.Prelude.{take}
+use Rattle.demonstration.proofs.Imports.{length-append, Ok, Err, flat_map, cases_lt, text_of, roster_tree, Script}
+use Rattle.demonstration.proofs.Imports.{IsLawful, SealedEntry, history, sent_in, Event, HasHeader, header_tree}
+use Rattle.demonstration.proofs.Imports.{record_text, roster_of, MachineState, IsPlayed, world_of, Refusal, too_long}
+use Rattle.demonstration.proofs.Imports.{max_roster, IsLeftOf, end_of, left_has_header, whole_is_left}
+use Rattle.demonstration.proofs.Imports.{script_roster_is_read, AuditReport, Demonstration, IsKeptOf, GivesAudit}
+use Rattle.demonstration.proofs.Imports.{IsCounted, IsDemonstrationOf, IsRefusedSo, take}
 
 module _ (script : Script) (lawful : IsLawful script) (machines : List MachineState) (played : IsPlayed script machines)
   where
-    -- there are 1 to 16 machines
-    pub few : length machines ≤ max_machines
-    few = omega (arith, played.are_of.count, lawful.machines.few.1)
-
     -- there is a first machine, whose log is kept
     pub some_machine : 0 < length machines
     some_machine = omega (arith, played.are_of.count, lawful.machines.few.0)
@@ -55,7 +50,7 @@ demonstrated script machines session sent bytes report shown played kept gives s
   machines = machines;
   report = report;
   audited = record { bytes = bytes; played = played; kept = kept; gives = gives };
-  counted = subst (λ (n : ℕ). IsCounted n report shown) same counted;
+  counted = rw same at counted;
 }
 
 -- the refusal of the kept log's audit is that of the demonstration

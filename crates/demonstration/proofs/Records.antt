@@ -1,9 +1,9 @@
 -- The bytes of records, one right after another.
-use Rattle.std.proofs.Common.{take}
-use Rattle.demonstration.proofs.Imports.{◌≡◌, ◌∙◌, ℕ, ◌+◌, ◌-◌, ◌≤◌, List, ◌∷◌, length, drop, Some, ap, sym, arith}
-use Rattle.demonstration.proofs.Imports.{length-append, slice_get, flat_map, flat_map-append, drop_more, length-drop}
-use Rattle.demonstration.proofs.Imports.{take-append-drop, take_all, slice_get_within, get_or_from_slice_get, text_of}
-use Rattle.demonstration.proofs.Imports.{SealedEntry, Event, header_tree, log_text, record_text, end_of}
+use Rattle.demonstration.proofs.Imports.{take, ◌≡◌, ◌∙◌, ℕ, ◌+◌, ◌-◌, ◌≤◌, List, ◌∷◌, length, drop, Some, ap, sym}
+use Rattle.demonstration.proofs.Imports.{arith, length-append, slice_get, flat_map, flat_map-append, drop_more}
+use Rattle.demonstration.proofs.Imports.{length-drop, take-append-drop, take_all, slice_get_within}
+use Rattle.demonstration.proofs.Imports.{get_or_from_slice_get, text_of, SealedEntry, Event, header_tree, log_text}
+use Rattle.demonstration.proofs.Imports.{record_text, end_of}
 
 -- how many bytes the records of these events have
 abbrev pub size : List (Event SealedEntry) → ℕ

@@ -1,5 +1,4 @@
-use Rattle.demonstration.proofs.Imports.{◌∙◌, ◌+◌, List, length, ap, subst, inl, inr, arith, SealedEntry, Event}
-use Rattle.demonstration.proofs.Imports.{HasNoEnd, IsLastEnd}
+use Rattle.demonstration.proofs.Imports.{◌∙◌, ◌+◌, length, ap, inl, inr, arith}
 use Rattle.demonstration.proofs.Records.{after_within, cut_is}
 use Rattle.demonstration.proofs.kept.kept_text.Goals as goal
 
@@ -18,8 +17,7 @@ returns-in-Some c =
     let place = c.in-Some.place in
     inl (
       place,
-      subst (λ (es : List (Event SealedEntry)). IsLastEnd c.args.session es place) c.events-events.ensures.events
-          c.in-Some.ensures,
+      rw c.events-events.ensures.events at c.in-Some.ensures,
       c.truncate.ensures.items
           ∙ cut_is log.owner c.events-events.result.now log.events (place + 1) c.in_ok-text.text.items
           c.events-events.ensures.events c.in_ok-text.ensures.text c.begin_of-end.result
@@ -28,8 +26,4 @@ returns-in-Some c =
 
 pub returns-in-None : goal.returns-in-None
 returns-in-None c =
-    inr (
-      subst (λ (es : List (Event SealedEntry)). HasNoEnd c.args.session es) c.events-events.ensures.events
-          c.in-None.ensures,
-      c.in_ok-text.ensures.text,
-    )
+    inr (rw c.events-events.ensures.events at c.in-None.ensures, c.in_ok-text.ensures.text)

@@ -1,5 +1,4 @@
-use Rattle.std.proofs.Common.{take}
-use Rattle.demonstration.proofs.Imports.{◌∙◌, ◌+◌, Some, ap, sym, subst, slice_get-get_or}
+use Rattle.demonstration.proofs.Imports.{take, ◌∙◌, ◌+◌, sym, subst}
 use Rattle.demonstration.proofs.Ends.{IsLastOf, kept_last, new_last}
 use Rattle.demonstration.proofs.kept.last_end.Goals.{then-ends_session, else-ends_session}
 use Rattle.demonstration.proofs.kept.last_end.Goals as goal
@@ -11,7 +10,7 @@ loop-place-preserved c =
     let place = c.loop-place.place in
     let more = c.index-events-place.result in
     let within = c.loop-place-test.true in
-    let at = slice_get-get_or events place more within ∙ ap Some (sym c.index-events-place.is) in
+    let at = c.index-events-place.is in
     elim c.if-ends_session.branch [
       | then-ends_session w ↦ subst (IsLastOf session (take (place + 1) events)) (sym w.last-is)
           (new_last session events place more c.loop-place.last within at

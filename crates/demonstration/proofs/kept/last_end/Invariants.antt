@@ -1,5 +1,4 @@
-use Rattle.std.proofs.Common.{take}
-use Rattle.demonstration.proofs.Imports.{MatchOption, HasNoEnd, IsLastEnd}
+use Rattle.demonstration.proofs.Imports.{take, MatchOption, HasNoEnd, IsLastEnd}
 use Rattle.demonstration.proofs.kept.last_end.Given as goal
 
 -- the last of the events so far that ends the session, if one does

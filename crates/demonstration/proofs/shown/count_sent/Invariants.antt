@@ -1,5 +1,4 @@
-use Rattle.std.proofs.Common.{take}
-use Rattle.demonstration.proofs.Imports.{◌≡◌, ◌*◌, ◌^◌, ◌≤◌, length, sent_in, world_of}
+use Rattle.demonstration.proofs.Imports.{take, ◌≡◌, ◌*◌, ◌^◌, ◌≤◌, length, sent_in, world_of}
 use Rattle.demonstration.proofs.shown.count_sent.Given as goal
 
 -- the entries of the machines so far are counted, each of which sent fewer than 32 bits count

@@ -1,7 +1,7 @@
 use Rattle.demonstration.proofs.Imports.{◌∙◌, ◌≤◌, List, ℕ, length, ap, sym, subst, Ok, Err, text_of, Post, HaveText}
-use Rattle.demonstration.proofs.Imports.{roster_tree, history, HasHeader, MachineState, IsPlayed, WorldState}
-use Rattle.demonstration.proofs.Imports.{world_of, roster_has_text, refusal_of, max_roster, report_of, on_refusal}
-use Rattle.demonstration.proofs.Imports.{IsKeptOf, GivesAudit, IsRefusedSo}
+use Rattle.demonstration.proofs.Imports.{roster_tree, history, HasHeader, MachineState, IsPlayed, WorldState, world_of}
+use Rattle.demonstration.proofs.Imports.{roster_has_text, refusal_of, max_roster, report_of, on_refusal, IsKeptOf}
+use Rattle.demonstration.proofs.Imports.{GivesAudit, IsRefusedSo}
 use Rattle.demonstration.proofs.Plays.{demonstrated, kept_has_header, refused_so, roster_short}
 use Rattle.demonstration.proofs.shown.demonstrate.Goals as goal
 

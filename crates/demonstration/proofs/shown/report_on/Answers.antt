@@ -1,6 +1,6 @@
 use Rattle.demonstration.proofs.Imports.{[], ◌∷◌, Some, Ok, Err, sha256, text_of, roster_tree, standard_rules}
-use Rattle.demonstration.proofs.Imports.{IsLogRefusal, refusal_of, WithLogs, ReportParts, report_of, standard, IfOk-weaker}
-use Rattle.demonstration.proofs.Imports.{err_by, logs_have_makers, on_refusal, GivesAudit, log_name}
+use Rattle.demonstration.proofs.Imports.{IsLogRefusal, refusal_of, WithLogs, ReportParts, report_of, standard}
+use Rattle.demonstration.proofs.Imports.{IfOk-weaker, err_by, logs_have_makers, on_refusal, GivesAudit, log_name}
 use Rattle.demonstration.proofs.Reports.{of_log, of_refusal}
 use Rattle.demonstration.proofs.shown.report_on.Goals as goal
 
