@@ -1,31 +1,24 @@
 -- What the proofs of this crate take from others.
-pub use Rattle.election_script.specs.Deeds.{ballot_deed, do_read, machine_and_session, override_deed}
-pub use Rattle.election_script.specs.Generated.{authorise_of, booths, count_actions, day_steps, first_number, generated}
-pub use Rattle.election_script.specs.Generated.{hears, machines_of, numbers_of, others, session_ballot, session_booth}
-pub use Rattle.election_script.specs.Generated.{sessions, supervisor, supervisor_actions, supervisor_steps}
+pub use Rattle.election_script.specs.Deeds.{ballot_deed, do_read}
+pub use Rattle.election_script.specs.Generated.{authorise_of, count_actions, hears, session_booth, sessions, supervisor}
 pub use Rattle.election_script.specs.Grammar.{AreDeedsOf, IsTextOf, actions_at, deed_words, do_line, how_words}
 pub use Rattle.election_script.specs.Grammar.{is_passed_over, key_line, line_of, lines_of, lines_of_kind, link_line}
 pub use Rattle.election_script.specs.Grammar.{log_line, lose_line, machine_line, name_at, name_of, seed_line, step_line}
-pub use Rattle.election_script.specs.Grammar.{step_words, stop_line, version_line}
+pub use Rattle.election_script.specs.Grammar.{step_words, stop_line}
 pub use Rattle.election_script.specs.Kinds.{how_names, key_heights, key_kinds, kinds, line_kinds, line_word, named}
 pub use Rattle.election_script.specs.Kinds.{rank, role_names}
 pub use Rattle.election_script.specs.Lawful.{AreCast, IsBetween, IsBoothAt, IsCast, IsDeedAmong, IsLawful, IsLose}
 pub use Rattle.election_script.specs.Lawful.{IsSession, IsStep, IsStopAt, max_actions, max_events, max_link, max_loses}
 pub use Rattle.election_script.specs.Lawful.{max_steps}
-pub use Rattle.election_script.specs.Left.{End, Left, LinesRead, Next, at_line, head_of, is_most, kind_and_words}
-pub use Rattle.election_script.specs.Left.{left_from, many, most_lines, one, unless_full, words_of}
-pub use Rattle.election_script.specs.Lines.{entry_read, key_read, lose_read, machine_said, one_number, read_line}
-pub use Rattle.election_script.specs.Lines.{receiver_read, seed_read, step_read, stop_read, stopper_read}
-pub use Rattle.election_script.specs.Machines.{Machines, is_same_role, machine_named, machine_of_role, place_of}
+pub use Rattle.election_script.specs.Left.{LinesRead, Next, head_of, is_most, kind_and_words, left_from, words_of}
+pub use Rattle.election_script.specs.Machines.{is_same_role, place_of}
 pub use Rattle.election_script.specs.Reading.{script_from, script_of}
 pub use Rattle.election_script.specs.WordLines.{Lines}
-pub use Rattle.election_script.specs.Words.{LineRead, ballot_read, in_table, is_between, is_listed, is_name_byte}
-pub use Rattle.election_script.specs.Words.{is_name_word, number_within, session_read, ◌>>=◌}
+pub use Rattle.election_script.specs.Words.{LineRead, in_table, is_between, is_listed, is_name_byte, is_name_word}
+pub use Rattle.election_script.specs.Words.{◌>>=◌}
 pub use Rattle.election_script.specs.Written.{deeds_at, deeds_from, ended, script_text, text_of_lines}
 pub use Rattle.election_script.specs.declared.draft.Line.{Line}
 pub use Rattle.election_script.specs.declared.draft.LineFault.{LineFault}
-pub use Rattle.election_script.specs.declared.draft.LineFault.TheVariants.{Why}
-pub use Rattle.election_script.specs.declared.faults.ScriptFault.{ScriptFault}
 pub use Rattle.election_script.specs.declared.faults.ScriptFault.TheVariants.{At}
 pub use Rattle.election_script.specs.declared.kinds.Kind.{Kind}
 pub use Rattle.election_script.specs.declared.script.Cast0.{Cast0}
@@ -50,15 +43,13 @@ pub use Rattle.hall_text.proofs.TextLines.{IsInLine, joined, lines_of_joined, li
 pub use Rattle.hall_text.specs.Lines.{line_spans, text_lines}
 pub use Rattle.hall_text.specs.Spans.{piece}
 pub use Rattle.hall_text.specs.declared.spans.Span.{Span}
-pub use Rattle.hex.proofs.HexLemmas.{decode_of-encode_lower, decode_of-ok}
 pub use Rattle.hex.specs.Hex.{IsBytes, encode_lower, lower_digits}
 pub use Rattle.input_causes.specs.declared.script.ScriptWhy.{ScriptWhy}
 pub use Rattle.input_causes.specs.declared.script.ScriptWhy.TheVariants.{OutOfRange, UnknownWord}
 pub use Rattle.lms_ots.proofs.Candidates.{length-u32str}
-pub use Rattle.lms_ots.proofs.Pieces.{range_with_len_next}
 pub use Rattle.lms_ots.specs.Words.{ots_word}
 pub use Rattle.lms_ots.specs.declared.kind.OtsKind.{OtsKind}
-pub use Rattle.lms_ots.specs.declared.kind.OtsKind.TheVariants.{W1, W2, W4, W8}
+pub use Rattle.lms_ots.specs.declared.kind.OtsKind.TheVariants.{W1}
 pub use Rattle.lms_sign.specs.Height.{IsHeight, height_word}
 pub use Rattle.roster.proofs.Raws.{name_is_text}
 pub use Rattle.roster.specs.Machines.{IsName, IsNameByte, is_supervisor, max_machines}
@@ -67,22 +58,17 @@ pub use Rattle.roster.specs.declared.post.Role.{Role}
 pub use Rattle.roster.specs.declared.post.Role.TheVariants.{Booth, Supervisor}
 pub use Rattle.std.proofs.Common.{Bool, Bor, List, None, Option, Some, [], add-zero, ap, arith, cond, drop, eqb, false}
 pub use Rattle.std.proofs.Common.{filter, get_or, inl, inr, length, map, not, refl, replicate, reverse, rules, set}
-pub use Rattle.std.proofs.Common.{subst, suc, sym, take, tests, true, zero, ℕ, ⊎_elim, ◌%◌, ◌*◌, ◌++◌, ◌+◌, ◌-◌, ◌/◌}
-pub use Rattle.std.proofs.Common.{◌<◌, ◌==◌, ◌^◌, ◌∙◌, ◌∷◌, ◌≡◌, ◌≢◌, ◌≤◌, ◌⊎◌}
-pub use Rattle.std.proofs.Math.Nat.{mul-suc}
+pub use Rattle.std.proofs.Common.{subst, suc, sym, take, tests, true, zero, ℕ, ◌%◌, ◌*◌, ◌++◌, ◌+◌, ◌-◌, ◌/◌, ◌<◌, ◌==◌}
+pub use Rattle.std.proofs.Common.{◌^◌, ◌↔◌, ◌∙◌, ◌∷◌, ◌≡◌, ◌≢◌, ◌≤◌, ◌⊎◌}
 pub use Rattle.std.proofs.Math.Seq.{get_or-append_seam}
-pub use Rattle.std.proofs.lemmas.Bool.{agree_below_at, and_from, and_parts, cases_Bool, cases_eq, cond-false, cond-true}
-pub use Rattle.std.proofs.lemmas.Bool.{cond_both, eq-eqb, false_from_ne_true, false≢true, le-leb, leb-false, leb-true}
-pub use Rattle.std.proofs.lemmas.Bool.{lt-ltb, ltb-true, ne_eqb, true≢false}
-pub use Rattle.std.proofs.lemmas.Bool.Decides.{Decides-eqb, nat_tests}
+pub use Rattle.std.proofs.lemmas.Bool.{and_parts, cases_Bool, cases_eq, cond-false, cond-true, cond_both, eq-eqb}
+pub use Rattle.std.proofs.lemmas.Bool.{false_from_ne_true, le-leb, leb-false, leb-true, ltb-true, ne_eqb, true≢false}
 pub use Rattle.std.proofs.lemmas.Fmt.{decimal_by_steps}
 pub use Rattle.std.proofs.lemmas.Iterator.Consumers.{map_from_collect}
 pub use Rattle.std.proofs.lemmas.Iterator.Splits.{YieldsList-from_slice_split}
-pub use Rattle.std.proofs.lemmas.List.{append-nil, append_assoc, drop_more, get_or-map, get_or-set_other}
-pub use Rattle.std.proofs.lemmas.List.{get_or-set_same, get_or_append_left, get_or_default, length-append, length-map}
-pub use Rattle.std.proofs.lemmas.List.{length-replicate, length-reverse, length-set, length-take-le, length_push}
-pub use Rattle.std.proofs.lemmas.List.{map-append, replicate-append-replicate, reverse-append, take-append-drop}
-pub use Rattle.std.proofs.lemmas.List.{take_all, take_at, take_more, take_rest}
+pub use Rattle.std.proofs.lemmas.List.{append-nil, append_assoc, drop_more, get_or-map, get_or_append_left}
+pub use Rattle.std.proofs.lemmas.List.{get_or_default, length-append, length-map, length-set, length-take-le}
+pub use Rattle.std.proofs.lemmas.List.{length_push, map-append, take_all, take_at, take_more, take_rest}
 pub use Rattle.std.proofs.lemmas.List.Concat.{flat_map-append, flat_map-cons}
 pub use Rattle.std.proofs.lemmas.List.Elements.{All-append, All-cons, All-filter, All-from_recursion, All-get_or}
 pub use Rattle.std.proofs.lemmas.List.Elements.{All-head, All-map, All-nil, All-push, All-replicate, All-same, All-tail}

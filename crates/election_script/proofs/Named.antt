@@ -1,11 +1,53 @@
--- What a word names in the tables of roles, ways to override, kinds of key and heights.
-use Rattle.election_script.proofs.Imports.{◌≡◌, ◌≢◌, ◌∙◌, sym, ap, subst, refl, ℕ, List, [], ◌∷◌, inl, inr, Option}
-use Rattle.election_script.proofs.Imports.{Some, None, bytes_eq, bytes_eq-Decides, how_word, How, IfSome, IfNone, ok_or}
-use Rattle.election_script.proofs.Imports.{UnknownWord, in_table, OtsKind, W1, ots_word, IsHeight, height_word, Role}
-use Rattle.election_script.proofs.Imports.{Supervisor, Booth, role_word, named, role_names, how_names, key_kinds}
-use Rattle.election_script.proofs.Imports.{key_heights, Kind, line_kinds, line_word}
+-- What a word names: a machine, or something in a table.
+use Rattle.election_script.proofs.Imports.{ℕ, ◌≤◌, List, refl, length, nat_le, leb-true, le-leb, IsName, IsNameByte}
+use Rattle.election_script.proofs.Imports.{is_between, is_name_byte, is_name_word, IsBetween, list_all, ◌≡◌, ◌≢◌, ◌∙◌}
+use Rattle.election_script.proofs.Imports.{sym, ap, subst, [], ◌∷◌, inl, inr, Option, Some, None, bytes_eq}
+use Rattle.election_script.proofs.Imports.{bytes_eq-Decides, how_word, How, IfSome, IfNone, ok_or, UnknownWord}
+use Rattle.election_script.proofs.Imports.{in_table, OtsKind, W1, ots_word, IsHeight, height_word, Role, Supervisor}
+use Rattle.election_script.proofs.Imports.{Booth, role_word, named, role_names, how_names, key_kinds, key_heights, Kind}
+use Rattle.election_script.proofs.Imports.{line_kinds, line_word, arith, zero, suc, ◌+◌, ◌<◌, Bool, true, false, get_or}
+use Rattle.election_script.proofs.Imports.{slice_get, All, Any, AllPairs, slice_get_cases, get_or_from_slice_get}
+use Rattle.election_script.proofs.Imports.{false_from_ne_true, Cast0, StopAt, IsStopAt, name_at, name_of, is_same_role}
+use Rattle.election_script.proofs.Imports.{place_of, is_listed, roles_of, stopped_of, ◌⊎◌, cases_Bool, slice_get-get_or}
+use Rattle.election_script.proofs.Imports.{position_from, true≢false, Deed, IsDeedOf, IsDeedIn, IsDeedAmong, ◌↔◌}
+use Rattle.std.specs.Bool.{Decides}
+use Rattle.std.proofs.Common.{is_some}
+use Rattle.std.proofs.lemmas.Option.{slice_get-map}
+use Rattle.std.proofs.lemmas.Bool.Decides.{Decides-and, Decides-or, Decides-like, Decides-by_and}
 use Rattle.election_script.proofs.Gives.{either_some}
+use Rattle.std.specs.List.{list_any}
+use Rattle.std.specs.Prelude.{◌||◌}
+use Rattle.std.proofs.lemmas.List.Folds.{Any-from_list_any, list_any-from_Any}
+use Rattle.std.proofs.lemmas.Bool.{cases_order}
 use Rattle.entry_format.specs.declared.deed.How.TheVariants as how
+
+-- ---- which words have the form of a name
+
+-- a number is at most another
+at_most : (a b : ℕ) → Decides (nat_le a b) (a ≤ b)
+at_most a b = (leb-true a b, le-leb a b)
+
+-- a number is between two others
+pub between_test : (least greatest number : ℕ) → Decides (is_between least greatest number)
+    (IsBetween least greatest number)
+between_test least greatest number =
+    Decides-and (nat_le least number) (nat_le number greatest) (at_most least number) (at_most number greatest)
+
+-- a byte is a character of a name
+byte_test : (byte : ℕ) → Decides (is_name_byte byte) (IsNameByte byte)
+byte_test byte =
+    Decides-or (is_between 97 122 byte) (is_between 48 57 byte) (between_test 97 122 byte) (between_test 48 57 byte)
+
+-- a word is a name
+pub name_test : (word : List ℕ) → Decides (is_name_word word) (IsName word)
+name_test word =
+    Decides-like (is_name_word word)
+    (λ (size, bytes). record { some = size.0; at_most = size.1; bytes = bytes })
+    (λ is. ((is.some, is.at_most), is.bytes))
+    (Decides-and (is_between 1 16 (length word)) (list_all is_name_byte word) (between_test 1 16 (length word))
+    (Decides-by_and is_name_byte IsNameByte (list_all is_name_byte) byte_test refl (λ x xs. refl) word))
+
+-- ---- what a word names in the tables of roles, ways to override, kinds of key and heights
 
 -- what is found is what is read
 pub reads : {A : Type 0} (rows : List (List ℕ × A)) (word : List ℕ) (found : Option A) → found ≡ named rows word →
@@ -99,3 +141,170 @@ pub height_is : (word : List ℕ) (found : Option ℕ) → IfSome found IsHeight
     → IfNone found ((height : ℕ) → IsHeight height → word ≢ height_word height) → found ≡ named key_heights word
 height_is word (Some height) good is unknown = sym (ap (named key_heights) is ∙ some_height height good)
 height_is word None good is unknown = sym (no_height word unknown)
+
+-- ---- machines at their places, and by their names
+
+-- the machine at the place has the name
+abbrev pub IsNamedAt : List Cast0 → List ℕ → ℕ → Type 0
+IsNamedAt machines name place = (place < length machines) × (name_at machines place ≡ name)
+
+-- the machine at the place has the role
+abbrev pub HasRoleAt : List Cast0 → Role → ℕ → Type 0
+HasRoleAt machines role place = (cast : Cast0) × (slice_get machines place ≡ Some cast) × (cast.role ≡ role)
+
+-- the machine at a place may do the deed in the version
+abbrev pub IsDone : ℕ → List Cast0 → ℕ × Deed → Type 0
+IsDone version machines done =
+    (cast : Cast0) × (slice_get machines done.0 ≡ Some cast) × IsDeedOf cast.role done.1 × IsDeedIn version done.1
+    × IsDeedAmong machines done.1
+
+-- the machine at a place
+pub cast_at : (machines : List Cast0) (place : ℕ) → place < length machines → (cast : Cast0) × (slice_get machines
+    place ≡ Some cast)
+cast_at machines place within = elim (slice_get_cases machines place).1 [
+  | inl found ↦ (found.0, found.2)
+  | inr past ↦ absurd (omega arith)
+]
+
+-- no two machines have one name
+abbrev pub AreDistinct : List Cast0 → Type 0
+AreDistinct machines = AllPairs (λ (cast other : Cast0). cast.name ≢ other.name) machines
+
+-- the first place from one on of a machine of the name
+abbrev pub from : List ℕ → ℕ → List Cast0 → Option ℕ
+from name at machines = position_from (λ (machine : List ℕ × Role). bytes_eq machine.0 name) at (roles_of machines)
+
+-- the name of a place is that of the machine there
+pub name_is : (machines : List Cast0) (place : ℕ) (d : Cast0) → place < length machines →
+    name_at machines place ≡ (get_or machines place d).name
+name_is machines place d within = ap name_of (slice_get-get_or machines place d within)
+
+-- a machine of the name stands at a place, and the other way round
+pub any_named : (machines : List Cast0) (name : List ℕ) → Any (λ (cast : Cast0). cast.name ≡ name) machines →
+    (place : ℕ) × IsNamedAt machines name place
+any_named machines name (place, cast, within, is, named) =
+    (place, (within, name_is machines place cast within ∙ ap (λ (c : Cast0). c.name) is ∙ named))
+
+pub named_any : (machines : List Cast0) (name : List ℕ) (place : ℕ) → IsNamedAt machines name place →
+    Any (λ (cast : Cast0). cast.name ≡ name) machines
+named_any machines name place (within, named) =
+    let (cast, there) = cast_at machines place within in
+    let is = get_or_from_slice_get machines place cast cast there in
+    (place, cast, within, is, sym (name_is machines place cast within ∙ ap (λ (c : Cast0). c.name) is) ∙ named)
+
+-- the first machine of a name is found, or there is none
+found : (machines : List Cast0) (name : List ℕ) (at : ℕ) →
+    ((k : ℕ) × (from name at machines ≡ Some (at + k)) × IsNamedAt machines name k)
+    ⊎ ((from name at machines ≡ None) × ((k : ℕ) → IsNamedAt machines name k → ⊥))
+found [] name at = inr (refl, λ k (within, named). absurd (omega (arith, within)))
+found (first ∷ machines) name at = elim (cases_Bool (bytes_eq first.name name)) [
+  | inl same ↦ inl (0, rw same (ap Some (omega arith)), (omega arith, (bytes_eq-Decides first.name name).0 same))
+  | inr other ↦ elim (found machines name (at + 1)) [
+    | inl (k, is, (within, named)) ↦
+        inl (suc k, rw other (is ∙ ap Some (omega arith)), (omega (arith, within), named))
+    | inr (is, none) ↦
+        let later : (k : ℕ) → IsNamedAt (first ∷ machines) name k → ⊥ = elim [
+          | zero ↦ λ (within, named). true≢false (sym ((bytes_eq-Decides first.name name).1 named) ∙ other)
+          | suc k ↦ λ (within, named). none k (omega (arith, within), named)
+        ] in
+        inr (rw other is, later)
+  ]
+]
+
+-- a name that is found is that of the machine at the place
+pub place_is : (machines : List Cast0) (name : List ℕ) (place : ℕ) →
+    place_of (roles_of machines) name ≡ Some place → IsNamedAt machines name place
+place_is machines name place at = elim (found machines name 0) [
+  | inl (k, is, there) ↦
+      let same : 0 + k ≡ place = cc in
+      subst (IsNamedAt machines name) (omega (arith, same)) there
+  | inr (is, none) ↦ cc
+]
+
+-- a name that no machine has isn't found
+pub place_none : (machines : List Cast0) (name : List ℕ) →
+    (Any (λ (cast : Cast0). cast.name ≡ name) machines → ⊥) → place_of (roles_of machines) name ≡ None
+place_none machines name new = elim (found machines name 0) [
+  | inl (k, is, there) ↦ absurd (new (named_any machines name k there))
+  | inr (is, none) ↦ is
+]
+
+-- nor has any machine a name that isn't found
+pub place_unknown : (machines : List Cast0) (name : List ℕ) → is_some (place_of (roles_of machines) name) ≡ false →
+    Any (λ (cast : Cast0). cast.name ≡ name) machines → ⊥
+place_unknown machines name unknown any = elim (found machines name 0) [
+  | inl (k, is, there) ↦ absurd (true≢false (sym (ap is_some is) ∙ unknown))
+  | inr (is, none) ↦ let (k, there) = any_named machines name any in none k there
+]
+
+-- two places of one name are one
+pub same_place : (machines : List Cast0) (i j : ℕ) → AreDistinct machines → i < length machines →
+    j < length machines → name_at machines i ≡ name_at machines j → i ≡ j
+same_place machines i j distinct within also same =
+    let (d, there) = cast_at machines i within in
+    let names : (get_or machines i d).name ≡ (get_or machines j d).name =
+    sym (name_is machines i d within) ∙ same ∙ name_is machines j d also in
+    elim (cases_order i j) [
+      | inl is ↦ is
+      | inr differ ↦ elim differ [
+        | inl below ↦ absurd (distinct i j d below also names)
+        | inr above ↦ absurd (distinct j i d above within (sym names))
+      ]
+    ]
+
+-- the name at a place is that of the machine there alone
+pub place_back : (machines : List Cast0) (place : ℕ) → AreDistinct machines → place < length machines →
+    place_of (roles_of machines) (name_at machines place) ≡ Some place
+place_back machines place distinct within = elim (found machines (name_at machines place) 0) [
+  | inl (k, is, (inside, named)) ↦
+      let same = same_place machines k place distinct inside within named in
+      is ∙ ap Some (omega (arith, same))
+  | inr (is, none) ↦ absurd (none place (within, refl))
+]
+
+-- a role is that role
+pub same_role : (role other : Role) → (is_same_role role other ≡ true) ↔ (other ≡ role)
+same_role Supervisor Supervisor = (λ is. refl, λ is. refl)
+same_role Supervisor Booth = (λ is. cc, λ is. cc)
+same_role Booth Supervisor = (λ is. cc, λ is. cc)
+same_role Booth Booth = (λ is. refl, λ is. refl)
+
+-- the name and the role of the machine at a place
+pub has_role : (machines : List Cast0) (place : ℕ) (cast : Cast0) → slice_get machines place ≡ Some cast →
+    slice_get (roles_of machines) place ≡ Some (cast.name, cast.role)
+has_role machines place cast is =
+    rw (slice_get-map {B = List ℕ × Role} (λ (cast : Cast0). (cast.name, cast.role)) machines place, is)
+
+-- whether a stop's machine is of the name
+abbrev is_stop_of : List Cast0 → List ℕ → StopAt → Bool
+is_stop_of machines name stop = bytes_eq (name_at machines stop.machine) name
+
+-- a name is among those of the machines that stop where one of the stops is of it
+among_is : (machines : List Cast0) (stops : List StopAt) (name : List ℕ) →
+    is_listed (stopped_of machines stops) name ≡ list_any (is_stop_of machines name) stops
+among_is machines [] name = refl
+among_is machines (stop ∷ stops) name =
+    ap (λ rest. is_stop_of machines name stop || rest) (among_is machines stops name)
+
+-- a machine that stops is among them by its name
+pub stop_among : (machines : List Cast0) (stops : List StopAt) (place : ℕ) →
+    Any (λ (stop : StopAt). stop.machine ≡ place) stops →
+    is_listed (stopped_of machines stops) (name_at machines place) ≡ true
+stop_among machines stops place (k, stop, within, is, same) =
+    let name : List ℕ = name_at machines place in
+    among_is machines stops name ∙ list_any-from_Any (is_stop_of machines name) stops
+    (k, stop, within, is, (bytes_eq-Decides (name_at machines stop.machine) name).1 (ap (name_at machines) same))
+
+-- and another isn't
+pub stop_new : (machines : List Cast0) (stops : List StopAt) (place : ℕ) → AreDistinct machines →
+    All (IsStopAt machines) stops → place < length machines →
+    (Any (λ (stop : StopAt). stop.machine ≡ place) stops → ⊥) →
+    is_listed (stopped_of machines stops) (name_at machines place) ≡ false
+stop_new machines stops place distinct good inside none =
+    let name : List ℕ = name_at machines place in
+    false_from_ne_true (is_listed (stopped_of machines stops) name) (λ among.
+    let (k, stop, within, is, test) = Any-from_list_any (is_stop_of machines name) stops
+    (sym (among_is machines stops name) ∙ among) in
+    let there : stop.machine < length machines = rw is at (good k stop within).0 in
+    let same = (bytes_eq-Decides (name_at machines stop.machine) name).0 test in
+    none (k, stop, within, is, same_place machines stop.machine place distinct there inside same))

@@ -1,43 +1,223 @@
--- The lines of a script are read as it, and no others are.
-use Rattle.election_script.proofs.Imports.{◌≡◌, ◌≢◌, ◌∙◌, ap, sym, subst, refl, ℕ, suc, ◌+◌, Bool, true, false, List}
-use Rattle.election_script.proofs.Imports.{[], ◌∷◌, ◌++◌, map, Some, Ok, All, AllPairs, slice_get, Lines, Cast0, StopAt}
-use Rattle.election_script.proofs.Imports.{Script, IsLawful, AreDeedsOf, IsName, IsLose, IsStopAt, IsStep, Deed}
-use Rattle.election_script.proofs.Imports.{role_word, decimal, encode_lower, roles_of, stopped_of, with_deeds}
-use Rattle.election_script.proofs.Imports.{actions_at, do_read, lose_read, stop_read, step_read, IsBetween, Machines}
-use Rattle.election_script.proofs.Imports.{inl, inr, codes, All-nil, All-cons, seed_read, key_read, one_number}
-use Rattle.election_script.proofs.Imports.{ots_word, height_word, lines_of, machine_line, arith, max_link, max_events}
-use Rattle.election_script.proofs.Imports.{max_actions, ◌<◌, ◌≤◌, length, get_or, All-push, All-same, All-weaker, cond}
-use Rattle.election_script.proofs.Imports.{length_push, slice_get_within, slice_get-get_or, count_by, cases_eq, OtsKind}
-use Rattle.election_script.proofs.Imports.{IsVersion, is_supervisor, IsHeight, IsBytes, IsDeedOf, IsDeedIn, IsDeedAmong}
-use Rattle.election_script.proofs.Imports.{IsCast, AreCast, version_line, do_line, lose_line, stop_line, step_line}
-use Rattle.election_script.proofs.Imports.{max_machines, max_loses, max_steps, Decides-eqb, Kind, rank, drop, ◌>>=◌}
-use Rattle.election_script.proofs.Imports.{Left, End, Next, many, is_most, unless_full, script_from, leb-false}
-use Rattle.election_script.proofs.Imports.{seed_line, key_line, log_line, link_line}
-use Rattle.election_script.proofs.Places.{IsDone}
+-- A text is read as a script exactly where it is a text of it.
+use Rattle.election_script.proofs.Imports.{ne_eqb, drop, ◌<◌, nat_le, ◌≡◌, ◌∙◌, ap, sym, refl, arith, ℕ, ◌≤◌, true}
+use Rattle.election_script.proofs.Imports.{false, List, [], ◌∷◌, ◌++◌, length, map, Some, Ok, append-nil, Kind, rank}
+use Rattle.election_script.proofs.Imports.{line_word, line_kinds, named, Lines, LineRead, false_from_ne_true, leb-true}
+use Rattle.election_script.proofs.Imports.{subst, Err, All, All-nil, All-push, length_push, kinds, slice_get}
+use Rattle.election_script.proofs.Imports.{append_assoc, length-append, ◌>>=◌, Next, kind_and_words, is_most, leb-false}
+use Rattle.election_script.proofs.Imports.{◌≢◌, suc, ◌+◌, Bool, AllPairs, Cast0, StopAt, Script, IsLawful, AreDeedsOf}
+use Rattle.election_script.proofs.Imports.{IsName, IsLose, IsStopAt, IsStep, Deed, role_word, decimal, encode_lower}
+use Rattle.election_script.proofs.Imports.{roles_of, stopped_of, with_deeds, actions_at, do_read, IsBetween, inl, inr}
+use Rattle.election_script.proofs.Imports.{codes, ots_word, height_word, lines_of, machine_line, max_link}
+use Rattle.election_script.proofs.Imports.{max_events, max_actions, get_or, All-same, All-weaker, slice_get_within}
+use Rattle.election_script.proofs.Imports.{slice_get-get_or, count_by, cases_eq, OtsKind, IsVersion, is_supervisor}
+use Rattle.election_script.proofs.Imports.{IsHeight, IsBytes, IsDeedOf, IsDeedIn, IsDeedAmong, IsCast, AreCast, do_line}
+use Rattle.election_script.proofs.Imports.{lose_line, stop_line, step_line, max_machines, max_loses, max_steps}
+use Rattle.election_script.proofs.Imports.{script_from, seed_line, key_line, log_line, link_line, not, filter, list_all}
+use Rattle.election_script.proofs.Imports.{list_all-from_AllPass, and_parts, cases_Bool, line_of, is_passed_over}
+use Rattle.election_script.proofs.Imports.{IsTextOf, text_lines, is_between, join_with_byte, join_with_byte-slice_split}
+use Rattle.election_script.proofs.Imports.{words_of, left_from, head_of, script_of, LinesRead, ◌↔◌}
+use Rattle.std.proofs.lemmas.Bool.Decides.{Decides-eqb}
+use Rattle.election_script.specs.Left.{Left, End, one, many, unless_full, most_lines, at_line, is_same_kind, some}
+use Rattle.election_script.specs.Lines.{lose_read, stop_read, step_read, seed_read, key_read, one_number}
+use Rattle.election_script.proofs.Parts.{middle, all_in_front, fresh, fresh_push, no_pairs}
+use Rattle.election_script.proofs.Gives.{Gives, value_gives, then_gives, then_gave, either_gives, if_gives}
+use Rattle.election_script.proofs.Gives.{unless_gives, some_gives}
+use Rattle.election_script.proofs.Named.{IsDone, between_test, kind_word}
 use Rattle.election_script.specs.Reading.{version_read, cast_read, one_supervisor, none_left, script_after}
 use Rattle.election_script.proofs.ReadWords.{number_back, seed_back, key_back, machine_back, deed_back, lose_back}
 use Rattle.election_script.proofs.ReadWords.{stop_back, step_back, seed_gives, key_gives, one_gives, machine_gives}
 use Rattle.election_script.proofs.ReadWords.{deed_gives, lose_gives, stop_gives, step_gives}
-use Rattle.election_script.proofs.Parts.{middle, all_in_front, fresh, fresh_push, no_pairs}
-use Rattle.election_script.proofs.DeedCount.{deed_count, deeds_done}
-use Rattle.election_script.proofs.Busy.{same_roles, same_stops, supervisors_busy, get_busy, size_busy, lines_busy}
-use Rattle.election_script.proofs.Busy.{each_busy, own_deeds}
-use Rattle.election_script.proofs.ReadLines.{head_is, Tells, IsPast, in_front, past, one_back, many_back, some_back}
-use Rattle.election_script.proofs.ReadLines.{room, each_back, at_line_is, one_said, many_said, some_said, each_said}
-use Rattle.election_script.proofs.Gives.{Gives, value_gives, then_gives, then_gave, if_gives}
+use Rattle.election_script.proofs.MachineDeeds.{deed_count, deeds_done, same_roles, same_stops, supervisors_busy}
+use Rattle.election_script.proofs.MachineDeeds.{get_busy, size_busy, lines_busy, each_busy, own_deeds}
+use Rattle.election_script.proofs.ScriptLines.{IsPlain, is_line, is_own, own_line, plain_line, words_back, script_lines}
 use Rattle.election_script.specs.declared.kinds.Kind.TheVariants as kind
+
+-- ---- lines are read as what they say, kind by kind, and no others are
+
+-- what is left to read are lines of these words
+abbrev pub Tells : Left → Lines → Type 0
+Tells (End n) [] = Unit {0}
+Tells (Next n head left) (words ∷ lines) = (head ≡ kind_and_words words) × Tells left lines
+Tells left lines = ⊥
+
+-- the first word of a line names its kind
+word_names : (k : Kind) → named line_kinds (line_word k) ≡ Some k
+word_names kind.Version = refl
+word_names k = refl
+
+-- the kind of a line and the words after its first
+pub head_is : (k : Kind) (args : List (List ℕ)) → kind_and_words (line_word k ∷ args) ≡ Ok (k, args)
+head_is k args = rw (word_names k) refl
+
+-- a kind is itself
+self : (k : Kind) → is_same_kind k k ≡ true
+self k = (Decides-eqb (rank k) (rank k)).1 refl
+
+-- the first line is of a later kind, if there is one
+abbrev pub IsPast : Kind → Lines → Type 0
+IsPast k [] = Unit {0}
+IsPast k (words ∷ lines) = (j : Kind) × (args : List (List ℕ)) × (words ≡ line_word j ∷ args) × (rank k < rank j)
+
+-- no line of the kind is left
+many_none : {A : Type 0} (k : Kind) (read : List A → List (List ℕ) → LineRead A) (values : List A) (left : Left)
+    (lines : Lines) → Tells left lines → IsPast k lines → many k read values left ≡ Ok (values, left)
+many_none k read values (End n) lines tells past = refl
+many_none k read values (Next n head left) [] tells past = absurd tells
+many_none k read values (Next n head left) (words ∷ lines) (same, more) (j, args, is, later) =
+    let other = ne_eqb (rank k) (rank j) (λ one. omega (arith, one, later)) in
+    rw (same ∙ ap kind_and_words is ∙ head_is j args, other) refl
+
+module _ {A : Type 0} (k : Kind) (line : A → List (List ℕ)) where
+  -- lines that say the values stand in front of others
+  abbrev pub in_front : List A → Lines → Lines
+  in_front xs lines = map (λ x. line_word k ∷ drop 1 (line x)) xs ++ lines
+
+  -- so the first is of a kind after an earlier one, where the first of the others is
+  pub past : (j : Kind) (xs : List A) (lines : Lines) → rank j < rank k → IsPast j lines → IsPast j (in_front xs lines)
+  past j [] lines later others = others
+  past j (x ∷ xs) lines later others = (k, drop 1 (line x), refl, later)
+
+  -- one line
+  pub one_back : (read : List (List ℕ) → LineRead A) (value : A) (left : Left) (lines : Lines) →
+      Tells left (in_front (value ∷ []) lines) → read (drop 1 (line value)) ≡ Ok value →
+      (rest : Left) × Tells rest lines × (one k read left ≡ Ok (value, rest))
+  one_back read value (End n) lines tells is = absurd tells
+  one_back read value (Next n head rest) lines (same, more) is =
+      (rest, more, rw (same ∙ head_is k (drop 1 (line value)), self k, is) refl)
+
+  -- all lines, each after those in front of it
+  pub many_back : (read : List A → List (List ℕ) → LineRead A) (all : List A) →
+      ((before : List A) (x : A) (after : List A) → all ≡ before ++ x ∷ after →
+      (read before (drop 1 (line x)) >>= unless_full k before) ≡ Ok x) → (values xs : List A) → all ≡ values ++ xs →
+      (left : Left) (lines : Lines) → IsPast k lines → Tells left (in_front xs lines) →
+      (rest : Left) × Tells rest lines × (many k read values left ≡ Ok (all, rest))
+  many_back read all each values [] parts left lines past tells =
+      let same : all ≡ values = parts ∙ append-nil values in
+      (left, tells, many_none k read values left lines tells past ∙ ap (λ (l : List A). Ok (l, left)) (sym same))
+  many_back read all each values (x ∷ xs) parts (End n) lines past tells = absurd tells
+  many_back read all each values (x ∷ xs) parts (Next n head left) lines past (same, more) =
+      let next = parts ∙ sym (append_assoc values (x ∷ []) xs) in
+      let (rest, tells, is) = many_back read all each (values ++ x ∷ []) xs next left lines past more in
+      (rest, tells, rw (same ∙ head_is k (drop 1 (line x)), self k, each values x xs parts) is)
+
+  -- at least one
+  pub some_back : (read : List A → List (List ℕ) → LineRead A) (xs : List A) (left : Left) (lines : Lines) →
+      0 < length xs → Tells left (in_front xs lines) → some k read [] left ≡ many k read [] left
+  some_back read [] left lines any tells = absurd (omega (arith, any))
+  some_back read (x ∷ xs) (End n) lines any tells = absurd tells
+  some_back read (x ∷ xs) (Next n head left) lines any (same, more) =
+      rw (same ∙ head_is k (drop 1 (line x)), self k) refl
+
+  -- there is room for a value among those that there may be
+  pub room : (most : ℕ) (all before after : List A) (x : A) (read : LineRead A) → most_lines k ≡ Some most →
+      length all ≤ most → all ≡ before ++ x ∷ after → read ≡ Ok x → (read >>= unless_full k before) ≡ Ok x
+  room most all before after x read limit few parts is =
+      let size = ap length parts ∙ length-append before (x ∷ after) in
+      let free : nat_le most (length before) ≡ false = false_from_ne_true (nat_le most (length before))
+      (λ full. omega (arith, size, few, leb-true most (length before) full)) in
+      rw (is, limit, free) refl
+
+  -- lines whose values are read by themselves, up to as many as there may be
+  pub each_back : (read : List (List ℕ) → LineRead A) (P : A → Type 0) (most : ℕ) → most_lines k ≡ Some most →
+      ((x : A) → P x → read (drop 1 (line x)) ≡ Ok x) → (all : List A) → All P all → length all ≤ most →
+      (left : Left) (lines : Lines) → IsPast k lines → Tells left (in_front all lines) →
+      (rest : Left) × Tells rest lines × (many k (λ values. read) [] left ≡ Ok (all, rest))
+  each_back read P most limit back all good few =
+      many_back (λ values. read) all (λ before x after is.
+      room most all before after x (read (drop 1 (line x))) limit few is (back x (middle P all before after x is good)))
+      [] all refl
+
+-- a kind has its place among the kinds
+at_rank : (k : Kind) → slice_get kinds (rank k) ≡ Some k
+at_rank kind.Version = refl
+at_rank k = refl
+
+-- the head of a line of the kind is that of its words
+said : (k found : Kind) (words args : List (List ℕ)) → is_same_kind k found ≡ true → words ≡ args →
+    Ok (found, words) ≡ kind_and_words (line_word k ∷ args)
+said k found words args same are =
+    let ranks : rank k ≡ rank found = (Decides-eqb (rank k) (rank found)).0 same in
+    let kind : Some k ≡ Some found = sym (at_rank k) ∙ ap (slice_get kinds) ranks ∙ at_rank found in
+    let one : k ≡ found = cc in
+    ap (λ k. Ok (k, words)) (sym one) ∙ ap (λ args. Ok (k, args)) are ∙ sym (head_is k args)
+
+-- what is read of a numbered line is read of it
+pub at_line_is : {A : Type 0} (n : ℕ) (read : LineRead A) → Gives (at_line n read) (λ a. read ≡ Ok a)
+at_line_is n (Ok value) = λ a is. let same : value ≡ a = cc in ap Ok same
+at_line_is n (Err why) = λ a is. cc
+
+module _ {A : Type 0} (k : Kind) (line : A → List (List ℕ)) where
+  -- lines that say the values stand in front of the rest
+  abbrev AreInFront : Left → List A → Left → Type 0
+  AreInFront left values rest = (lines : Lines) → Tells rest lines → Tells left (in_front k line values lines)
+
+  -- one line
+  pub one_said : (read : List (List ℕ) → LineRead A) (P : A → Type 0) →
+      ((words : List (List ℕ)) → Gives (read words) (λ a. P a × (words ≡ drop 1 (line a)))) → (left : Left) →
+      Gives (one k read left) (λ (a, rest). P a × AreInFront left (a ∷ []) rest)
+  one_said read P each (Next n (Ok (found, words)) left) =
+      if_gives (is_same_kind k found) _ _ _ (λ same.
+      then_gives _ _ (λ a. P a × (words ≡ drop 1 (line a))) _ (λ a is. each words a (at_line_is n (read words) a is))
+      (λ a (holds, are). value_gives _ (a, left)
+      (holds, λ lines tells. (said k found words (drop 1 (line a)) same are, tells))))
+  one_said read P each left = λ b is. cc
+
+  -- lines, of which each keeps what holds of the values before
+  many_from : (read : List A → List (List ℕ) → LineRead A) (Q : List A → Type 0) →
+      ((values : List A) (words : List (List ℕ)) → Q values → is_most (most_lines k) (length values) ≡ false →
+      Gives (read values words) (λ a. Q (values ++ a ∷ []) × (words ≡ drop 1 (line a)))) → (values : List A) →
+      Q values →
+      (left : Left) → Gives (many k read values left)
+      (λ (all, rest). Q all × ((xs : List A) × (all ≡ values ++ xs) × AreInFront left xs rest))
+  many_from read Q each values holds (Next n (Ok (found, words)) left) =
+      either_gives (is_same_kind k found) _ _ _ (λ same.
+      then_gives _ _ (λ a. Q (values ++ a ∷ []) × (words ≡ drop 1 (line a))) _
+      (λ a is. then_gave (read values words) (unless_full k values) _ (λ a reads.
+      unless_gives (is_most (most_lines k) (length values)) _ _ _ (λ room.
+      value_gives _ a (each values words holds room a reads))) a
+      (at_line_is n (read values words >>= unless_full k values) a is))
+      (λ a (kept, are) (all, rest) is.
+      let (whole, (xs, split, front)) = many_from read Q each (values ++ a ∷ []) kept left (all, rest) is in
+      let parts = split ∙ append_assoc values (a ∷ []) xs in
+      (whole, (a ∷ xs, parts, λ lines tells. (said k found words (drop 1 (line a)) same are, front lines tells)))))
+      (λ other. value_gives _ (values, Next n (Ok (found, words)) left)
+      (holds, ([], sym (append-nil values), λ lines tells. tells)))
+  many_from read Q each values holds left =
+      value_gives _ (values, left) (holds, ([], sym (append-nil values), λ lines tells. tells))
+
+  pub many_said : (read : List A → List (List ℕ) → LineRead A) (Q : List A → Type 0) →
+      ((values : List A) (words : List (List ℕ)) → Q values → is_most (most_lines k) (length values) ≡ false →
+      Gives (read values words) (λ a. Q (values ++ a ∷ []) × (words ≡ drop 1 (line a)))) → Q [] → (left : Left) →
+      Gives (many k read [] left) (λ (all, rest). Q all × AreInFront left all rest)
+  many_said read Q each holds left = λ (all, rest) is.
+      let (whole, (xs, split, front)) = many_from read Q each [] holds left (all, rest) is in
+      (whole, subst (λ values. AreInFront left values rest) (sym split) front)
+
+  -- at least one
+  pub some_said : (read : List A → List (List ℕ) → LineRead A) (P : List A × Left → Type 0) (left : Left) →
+      Gives (many k read [] left) P → Gives (some k read [] left) P
+  some_said read P (Next n (Ok (found, words)) left) all = if_gives (is_same_kind k found) _ _ _ (λ same. all)
+  some_said read P left all = λ b is. cc
+
+  -- lines whose values are read by themselves, up to as many as there may be
+  pub each_said : (read : List (List ℕ) → LineRead A) (P : A → Type 0) (most : ℕ) → most_lines k ≡ Some most →
+      ((words : List (List ℕ)) → Gives (read words) (λ a. P a × (words ≡ drop 1 (line a)))) → (left : Left) →
+      Gives (many k (λ values. read) [] left)
+      (λ (all, rest). (All P all × (length all ≤ most)) × AreInFront left all rest)
+  each_said read P most limit each left =
+      many_said (λ values. read) (λ all. All P all × (length all ≤ most)) (λ values words (all, few) room a is.
+      let (holds, are) = each words a is in
+      let free = leb-false most (length values) (ap (λ o. is_most o (length values)) (sym limit) ∙ room) in
+      ((All-push P values a all holds, omega (arith, free, length_push values a)), are)) (All-nil P, omega arith) left
 
 -- a version's line
 version_back : (version : ℕ) (left : Left) (lines : Lines) → IsBetween 1 2 version →
     Tells left ((codes "version" ∷ decimal version ∷ []) ∷ lines) →
     (rest : Left) × Tells rest lines × (version_read 1 left ≡ Ok (version, rest))
 version_back version (End n) lines good tells = absurd tells
-version_back version (Next n head rest) lines good (same, more) = (
-  rest,
-  more,
-  rw (same ∙ head_is kind.Version (decimal version ∷ []), number_back 1 2 version good (omega arith))
-      refl,
-)
+version_back version (Next n head rest) lines good (same, more) =
+    let is = number_back 1 2 version good (omega arith) in
+    (rest, more, rw (same ∙ head_is kind.Version (decimal version ∷ []), is) refl)
 
 -- none
 version_none : (args : List (List ℕ)) (left : Left) (lines : Lines) → Tells left ((codes "seed" ∷ args) ∷ lines) →
@@ -69,11 +249,8 @@ busy_back from deeds (cast ∷ machines) each =
     cc
 
 -- they have nothing to do
-all_idle : (from : ℕ) (machines : List Cast0) → All (λ (cast : Cast0). cast.actions ≡ []) (with_deeds from [] machines)
-all_idle from [] = All-nil (λ (cast : Cast0). cast.actions ≡ [])
-all_idle from (cast ∷ machines) =
-    All-cons (λ (cast : Cast0). cast.actions ≡ []) (record { name = cast.name; role = cast.role; actions = [] })
-    (with_deeds (from + 1) [] machines) refl (all_idle (from + 1) machines)
+all_idle : (machines : List Cast0) → All (λ (cast : Cast0). cast.actions ≡ []) (idle machines)
+all_idle machines i cast within = each_busy 0 [] machines i _ (slice_get-get_or (idle machines) i cast within)
 
 -- machines are few, and each has a name of its own
 abbrev AreNew : List Cast0 → Type 0
@@ -169,7 +346,7 @@ module _ (script : Script) (lawful : IsLawful script) (deeds : List (ℕ × Deed
       (omega (arith, size_busy 0 [] all, lawful.machines.few.0)) t4' in
       let (l5, t5, machines) = many_back kind.Machine machine_line cast_read (idle all)
       (λ before cast after is. cast_back before after (idle all) cast is
-      (new_busy [] all (lawful.machines.few.1, lawful.machines.named, lawful.machines.distinct)) (all_idle 0 all))
+      (new_busy [] all (lawful.machines.few.1, lawful.machines.named, lawful.machines.distinct)) (all_idle all))
       [] (idle all) refl l4 do_lines
       (past kind.Do (do_line script.version all) kind.Machine deeds lose_lines (omega arith)
       (past_loses kind.Machine (omega arith))) t4' in
@@ -177,7 +354,7 @@ module _ (script : Script) (lawful : IsLawful script) (deeds : List (ℕ × Deed
       (IsDone script.version all) max_actions refl
       (deed_back all lawful.machines.named lawful.machines.distinct script.version lawful.version) deeds
       (deeds_done script deeds lawful are)
-      (omega (arith, deed_count script deeds are, lawful.machines.in_all)) l5 lose_lines
+      (omega (arith, deed_count all deeds are.known are.each, lawful.machines.in_all)) l5 lose_lines
       (past_loses kind.Do (omega arith)) t5 in
       let (l7, t7, loses) = each_back kind.Lose (lose_line all) (lose_read (roles_of all)) (IsLose all) max_loses refl
       (lose_back all lawful.machines.named lawful.machines.distinct) script.loses lawful.loses lawful.few_loses l6
@@ -223,52 +400,46 @@ cast_gives before words (few, named, distinct) room =
     let names = All-push (λ (cast : Cast0). IsName cast.name) before cast named good in
     value_gives _ cast ((most, names, fresh_push (λ (cast : Cast0). cast.name) before cast distinct new), is))
 
-module _ (part : Script) (deeds : List (ℕ × Deed)) where
+module _ (version : ℕ) (machines : List Cast0) (deeds : List (ℕ × Deed)) where
   -- the machines with what they are to do
   abbrev busy : List Cast0
-  busy = with_deeds 0 deeds part.machines
+  busy = with_deeds 0 deeds machines
 
-  -- the script with these
-  abbrev whole : Script
-  whole = record part { machines = busy }
+  -- each has its own deeds
+  own : (place : ℕ) (cast : Cast0) → slice_get busy place ≡ Some cast → cast.actions ≡ actions_at place deeds
+  own place cast at = each_busy 0 deeds machines place cast at ∙ ap (λ p. actions_at p deeds) (omega arith)
 
-  module _ (done : All (IsDone part.version busy) deeds) where
-    -- the deeds are those of the script
-    pub in_order : AreDeedsOf whole deeds
-    in_order = record {
-      known = All-weaker (IsDone part.version busy) (λ (done : ℕ × Deed). done.0 < length busy)
-          (λ done is. slice_get_within busy done.0 is.0 is.1) deeds done;
-      each = λ place cast at.
-          each_busy 0 deeds part.machines place cast at ∙ ap (λ p. actions_at p deeds) (omega arith);
-    }
+  module _ (done : All (IsDone version busy) deeds) where
+    -- the deeds are of these machines
+    known : All (λ (done : ℕ × Deed). done.0 < length busy) deeds
+    known = All-weaker (IsDone version busy) (λ (done : ℕ × Deed). done.0 < length busy)
+        (λ done is. slice_get_within busy done.0 is.0 is.1) deeds done
 
     -- each machine may do its own
-    casts : All (IsCast part.version busy) busy
+    casts : All (IsCast version busy) busy
     casts i x within =
         let cast : Cast0 = get_or busy i x in
         let at : slice_get busy i ≡ Some cast = slice_get-get_or busy i x within in
-        All-same (λ deed. IsDeedOf cast.role deed × IsDeedIn part.version deed × IsDeedAmong busy deed) cast.actions
-        (actions_at i deeds) (in_order.each i cast at)
-        (All-weaker (λ deed. IsDone part.version busy (i, deed))
-        (λ deed. IsDeedOf cast.role deed × IsDeedIn part.version deed × IsDeedAmong busy deed)
-        (λ deed (own, there, does, in_version, among).
+        let P : Deed → Type 0 = λ deed. IsDeedOf cast.role deed × IsDeedIn version deed × IsDeedAmong busy deed in
+        All-same P cast.actions (actions_at i deeds) (own i cast at)
+        (All-weaker (λ deed. IsDone version busy (i, deed)) P (λ deed (own, there, does, in_version, among).
         let both : Some own ≡ Some cast = sym there ∙ at in
         let same : own ≡ cast = cc in
         (subst (λ (c : Cast0). IsDeedOf c.role deed) same does, in_version, among)) (actions_at i deeds)
-        (own_deeds (λ place deed. IsDone part.version busy (place, deed)) i deeds done))
+        (own_deeds (λ place deed. IsDone version busy (place, deed)) i deeds done))
 
     -- the machines may be a script's
-    pub are_cast : AreNew part.machines → count_by (λ (cast : Cast0). is_supervisor cast.role) part.machines ≡ 1 →
-        length deeds ≤ max_actions → AreCast part.version busy
+    are_cast : AreNew machines → count_by (λ (cast : Cast0). is_supervisor cast.role) machines ≡ 1 →
+        length deeds ≤ max_actions → AreCast version busy
     are_cast new one most =
-        let (few, named, distinct) = new_busy deeds part.machines new in
+        let (few, named, distinct) = new_busy deeds machines new in
         record {
-          few = (some part.machines one (size_busy 0 deeds part.machines), few);
+          few = (some machines one (size_busy 0 deeds machines), few);
           named = named;
           distinct = distinct;
-          supervisor = supervisors_busy 0 deeds part.machines ∙ one;
+          supervisor = supervisors_busy 0 deeds machines ∙ one;
           actions = casts;
-          in_all = omega (arith, deed_count whole deeds in_order, most);
+          in_all = omega (arith, deed_count busy deeds known own, most);
         }
       where
         -- where there is a supervisor there is a machine
@@ -290,10 +461,17 @@ none_is : (left : Left) → Gives (none_left left) (λ done. Tells left [])
 none_is (End n) = λ done is. tt
 none_is left = λ done is. cc
 
+-- a version's line in front of the others
+stated : (n : ℕ) (words : List (List ℕ)) (number : ℕ) (left : Left) → words ≡ decimal number ∷ [] → (script : Script)
+    (deeds : List (ℕ × Deed)) → script.version ≡ number → Tells left (lines_of false script deeds) →
+    Tells (Next n (Ok (kind.Version, words)) left) (lines_of true script deeds)
+stated n words number left are script deeds same tells =
+    (rw (are, ← same) (sym (head_is kind.Version (decimal script.version ∷ []))), tells)
+
 -- the version, which may be told
 version_is : (left : Left) → Gives (version_read 1 left) (λ (version, rest). IsVersion version
-    × ((told : Bool) × (told ≡ false → version ≡ 1) × ((lines : Lines) → Tells rest lines →
-    Tells left (cond told ((codes "version" ∷ decimal version ∷ []) ∷ lines) lines))))
+    × ((told : Bool) × (told ≡ false → version ≡ 1) × ((script : Script) (deeds : List (ℕ × Deed)) →
+    script.version ≡ version → Tells rest (lines_of false script deeds) → Tells left (lines_of told script deeds))))
 version_is (Next n (Ok (kind.Version, words)) left) =
     then_gives _ _ (λ number. IsBetween 1 2 number × (words ≡ decimal number ∷ [])) _
     (λ number is. one_gives 1 2 words number (at_line_is n (one_number 1 2 words) number is)) (λ number (between, are).
@@ -301,9 +479,8 @@ version_is (Next n (Ok (kind.Version, words)) left) =
       | inl is ↦ inl is
       | inr other ↦ inr (omega (arith, between, other))
     ] in
-    let head = ap (λ args. Ok (kind.Version, args)) are ∙ sym (head_is kind.Version (decimal number ∷ [])) in
-    value_gives _ (number, left) (good, (true, (λ untold. cc), λ lines tells. (head, tells))))
-version_is left = value_gives _ (1, left) (inl refl, (false, (λ untold. refl), λ lines tells. tells))
+    value_gives _ (number, left) (good, (true, (λ untold. cc), stated n words number left are)))
+version_is left = value_gives _ (1, left) (inl refl, (false, (λ untold. refl), λ script deeds same tells. tells))
 
 -- the script that is read is lawful, and its lines are these
 abbrev pub IsSaid : Left → Bool → Script → Type 0
@@ -313,99 +490,166 @@ IsSaid left told script =
 after_said : (version : ℕ) → IsVersion version → (left : Left) →
     Gives (script_after (version, left)) (λ script. (script.version ≡ version) × IsSaid left false script)
 after_said version good l0 =
-    then_gave _ _ _ (λ (seed, l1) seed_is.
-    then_gave _ _ _ (λ ((signature, height), l2) key_is.
-    then_gave _ _ _ (λ (log, l3) log_is.
-    then_gave _ _ _ (λ (link, l4) link_is.
-    then_gave _ _ _ (λ (machines, l5) machines_are.
-    then_gave _ _ _ (λ one one_is.
+    then_gives _ _ _ _ (one_said kind.Seed (λ seed. codes "seed" ∷ encode_lower seed ∷ []) seed_read
+    (λ seed. IsBetween 1 32 (length seed) × IsBytes seed) seed_gives l0) (λ (seed, l1) ((sized, octets), seed_front).
+    then_gives _ _ _ _ (one_said kind.Key (λ (key : OtsKind × ℕ). codes "key" ∷ ots_word key.0 ∷ height_word key.1 ∷ [])
+    key_read (λ key. IsHeight key.1) key_gives l1) (λ ((signature, height), l2) (high, key_front).
+    then_gives _ _ _ _ (one_said kind.Log (λ log. codes "log" ∷ decimal log ∷ []) (one_number 1 max_events)
+    (IsBetween 1 max_events) (one_gives 1 max_events) l2) (λ (log, l3) (log_good, log_front).
+    then_gives _ _ _ _ (one_said kind.Link (λ link. codes "link" ∷ decimal link ∷ []) (one_number 1 max_link)
+    (IsBetween 1 max_link) (one_gives 1 max_link) l3) (λ (link, l4) (link_good, link_front).
+    then_gives _ _ _ _ (some_said kind.Machine machine_line cast_read _ l4 (many_said kind.Machine machine_line
+    cast_read AreNew cast_gives (omega arith, All-nil _, no_pairs (λ (cast : Cast0). cast.name)) l4))
+    (λ (machines, l5) (new, machines_front).
+    then_gives _ _ _ _ (supervisor_is machines l5) (λ one supervised.
     then_gave _ _ _ (λ (deeds, l6) deeds_are.
-    then_gave _ _ _ (λ (loses, l7) loses_are.
-    then_gave _ _ _ (λ (stops, l8) stops_are.
-    then_gave _ _ _ (λ (steps, l9) steps_are.
-    then_gave _ _ _ (λ ended ended_is.
-    let part : Script = record {
-      version = version;
-      seed = seed;
-      kind = signature;
-      height = height;
-      log = log;
-      link = link;
-      machines = machines;
-      loses = loses;
-      stops = stops;
-      steps = steps;
-    } in
-    let all : List Cast0 = busy part deeds in
+    let all : List Cast0 = busy version machines deeds in
     let roles : roles_of all ≡ roles_of machines = same_roles 0 deeds machines in
-    let (seed_good, seed_front) = one_said kind.Seed (λ seed. codes "seed" ∷ encode_lower seed ∷ []) seed_read
-    (λ seed. IsBetween 1 32 (length seed) × IsBytes seed) seed_gives l0 (seed, l1) seed_is in
-    let (key_good, key_front) = one_said kind.Key (λ (key : OtsKind × ℕ). codes "key" ∷ ots_word key.0
-    ∷ height_word key.1 ∷ []) key_read
-    (λ key. IsHeight key.1) key_gives l1 ((signature, height), l2) key_is in
-    let (log_good, log_front) = one_said kind.Log (λ log. codes "log" ∷ decimal log ∷ []) (one_number 1 max_events)
-    (IsBetween 1 max_events) (one_gives 1 max_events) l2 (log, l3) log_is in
-    let (link_good, link_front) = one_said kind.Link (λ link. codes "link" ∷ decimal link ∷ []) (one_number 1 max_link)
-    (IsBetween 1 max_link) (one_gives 1 max_link) l3 (link, l4) link_is in
-    let (new, machines_front) = some_said kind.Machine machine_line cast_read _ l4 (many_said kind.Machine machine_line
-    cast_read AreNew cast_gives (omega arith, All-nil _, no_pairs (λ (cast : Cast0). cast.name)) l4)
-    (machines, l5) machines_are in
-    let ((done, few_deeds), deeds_front) = each_said kind.Do (do_line version all) (do_read version (roles_of all))
-    (IsDone version all) max_actions refl (deed_gives all version good) l5 (deeds, l6)
-    (ap (λ (m : Machines). many kind.Do (λ deeds. do_read version m) [] l5) roles ∙ deeds_are) in
-    let ((lose, few_loses), loses_front) = each_said kind.Lose (lose_line all) (lose_read (roles_of all)) (IsLose all)
-    max_loses refl (lose_gives all) l6 (loses, l7)
-    (ap (λ (m : Machines). many kind.Lose (λ loses. lose_read m) [] l6) roles ∙ loses_are) in
-    let ((stop, distinct), stops_front) = many_said kind.Stop (stop_line all)
+    let ((done, few_deeds), deeds_front) = (rw roles at (each_said kind.Do (do_line version all)
+    (do_read version (roles_of all)) (IsDone version all) max_actions refl (deed_gives all version good) l5)) (deeds, l6)
+    deeds_are in
+    then_gives _ _ _ _ (rw roles at (each_said kind.Lose (lose_line all) (lose_read (roles_of all)) (IsLose all)
+    max_loses refl (lose_gives all) l6)) (λ (loses, l7) ((lose, few_loses), loses_front).
+    then_gives _ _ _ _ (many_said kind.Stop (stop_line all)
     (λ stops. stop_read (roles_of machines) (stopped_of machines stops))
     (λ stops. All (IsStopAt all) stops × AllPairs (λ (stop other : StopAt). stop.machine ≢ other.machine) stops)
     (λ before words (good, own) room stop is.
-    let ((lawful, new), are) = stop_gives all before words stop
-    (ap (λ (m : Machines). stop_read m (stopped_of all before) words) roles
-    ∙ ap (λ stopped. stop_read (roles_of machines) stopped words) (same_stops deeds machines before) ∙ is) in
+    let ((lawful, new), are) = (rw (roles, same_stops deeds machines before) at (stop_gives all before words)) stop is in
     let places = fresh_push (λ (stop : StopAt). stop.machine) before stop own new in
     ((All-push (IsStopAt all) before stop good lawful, places), are))
-    (All-nil _, no_pairs (λ (stop : StopAt). stop.machine)) l7 (stops, l8) stops_are in
-    let ((step, few_steps), steps_front) = each_said kind.Step (step_line all) (step_read (roles_of all)) (IsStep all)
-    max_steps refl (step_gives all) l8 (steps, l9)
-    (ap (λ (m : Machines). many kind.Step (λ steps. step_read m) [] l8) roles ∙ steps_are) in
+    (All-nil _, no_pairs (λ (stop : StopAt). stop.machine)) l7) (λ (stops, l8) ((stop, distinct), stops_front).
+    then_gives _ _ _ _ (rw roles at (each_said kind.Step (step_line all) (step_read (roles_of all)) (IsStep all)
+    max_steps refl (step_gives all) l8)) (λ (steps, l9) ((step, few_steps), steps_front).
+    then_gives _ _ _ _ (none_is l9) (λ ended none.
     let later : Lines = map (do_line version all) deeds ++ (map (lose_line all) loses ++ (map (stop_line all) stops
     ++ (map (step_line all) steps ++ []))) in
-    let tells = steps_front [] (none_is l9 ended ended_is) in
-    let lawful : IsLawful (whole part deeds) = record {
-      version = good;
-      seed = seed_good.0;
-      octets = seed_good.1;
-      height = key_good;
-      log = log_good;
-      link = link_good;
-      machines = are_cast part deeds done new (supervisor_is machines l5 one one_is) few_deeds;
-      loses = lose;
-      few_loses = few_loses;
-      stops = stop;
-      one_stop_each = distinct;
-      steps = step;
-      few_steps = few_steps;
-    } in
     let after = subst (λ (first : Lines). Tells l4 (first ++ later)) (sym (lines_busy 0 deeds machines))
-    (machines_front later (deeds_front _ (loses_front _ (stops_front _ tells)))) in
+    (machines_front later (deeds_front _ (loses_front _ (stops_front _ (steps_front [] none))))) in
     let before = seed_front _ (key_front _ (log_front _ (link_front _ after))) in
-    value_gives _ (whole part deeds) (refl, (lawful, deeds, in_order part deeds done, before)))))))))))))
-
--- the version's line stands in front
-stated : (left : Left) (script : Script) (deeds : List (ℕ × Deed)) (told : Bool) →
-    Tells left (cond told (version_line script ∷ lines_of false script deeds) (lines_of false script deeds)) →
-    Tells left (lines_of told script deeds)
-stated left script deeds true tells = tells
-stated left script deeds false tells = tells
+    value_gives _ _ (
+      refl,
+      (
+        record {
+          version = good;
+          seed = sized;
+          octets = octets;
+          height = high;
+          log = log_good;
+          link = link_good;
+          machines = are_cast version machines deeds done new supervised few_deeds;
+          loses = lose;
+          few_loses = few_loses;
+          stops = stop;
+          one_stop_each = distinct;
+          steps = step;
+          few_steps = few_steps;
+        },
+        deeds,
+        record { known = known version machines deeds done; each = own version machines deeds },
+        before,
+      ),
+    ))))))))))))
 
 -- the lines are a script's, and may tell its version
 pub script_said : (left : Left) → Gives (script_from left) (λ script. (told : Bool)
     × (told ≡ false → script.version ≡ 1) × IsSaid left told script)
 script_said left = then_gives _ _ _ _ (version_is left) (λ (version, rest) (good, (told, untold, front)) script is.
     let (same, (lawful, deeds, in_order, tells)) = after_said version good rest script is in
-    let lines : Lines = lines_of false script deeds in
-    let all = stated left script deeds told
-    (subst (λ v. Tells left (cond told ((codes "version" ∷ decimal v ∷ []) ∷ lines) lines)) (sym same)
-    (front lines tells)) in
-    (told, (λ unsaid. same ∙ untold unsaid), (lawful, deeds, in_order, all)))
+    (told, (λ unsaid. same ∙ untold unsaid), (lawful, deeds, in_order, front script deeds same tells)))
+
+-- ---- a text of a script is read as the script
+
+-- a line of words is read as these
+head_back : (words : List (List ℕ)) → is_own words ≡ true → head_of (line_of words) ≡ kind_and_words words
+head_back words own =
+    let good : is_line words ≡ true = (own_line words own).0 in
+    let plain : list_all (is_between 32 126) (line_of words) ≡ true =
+    list_all-from_AllPass (is_between 32 126) (line_of words)
+    (All-weaker IsPlain (λ byte. is_between 32 126 byte ≡ true) (λ byte is. (between_test 32 126 byte).1 is)
+    (line_of words) (plain_line words good)) in
+    rw (plain, words_back words good) refl
+
+-- lines that count
+abbrev is_told : List ℕ → Bool
+is_told line = not (is_passed_over line)
+
+-- words with a space between each two are joined by it
+spaced : (words : List (List ℕ)) → line_of words ≡ join_with_byte 32 words
+spaced [] = refl
+spaced (word ∷ []) = refl
+spaced (word ∷ next ∷ words) = ap (λ (rest : List ℕ). word ++ 32 ∷ rest) (spaced (next ∷ words))
+
+-- a line is its words with a space between each two
+line_is : (line : List ℕ) → line_of (words_of line) ≡ line
+line_is line = spaced (words_of line) ∙ join_with_byte-slice_split 32 line
+
+-- a head that is read is that of the line's words
+words_are : (line : List ℕ) → Gives (head_of line) (λ (k, args). words_of line ≡ line_word k ∷ args)
+words_are line = if_gives _ _ _ _ (λ plain. by (words_of line))
+  where
+    by : (words : List (List ℕ)) → Gives (kind_and_words words) (λ (k, args). words ≡ line_word k ∷ args)
+    by [] = λ head is. cc
+    by (word ∷ words) = then_gives _ _ _ _ (some_gives (named line_kinds word) _ _ (kind_word word))
+        (λ k same. value_gives _ (k, words) (ap (λ w. w ∷ words) same))
+
+-- a line of a kind's words is the line of these
+line_is_of : (line : List ℕ) (words : List (List ℕ)) → is_own words ≡ true → head_of line ≡ kind_and_words words →
+    line ≡ line_of words
+line_is_of line words own is =
+    let (k, args, are) = (own_line words own).1 in
+    sym (line_is line) ∙ ap line_of (words_are line (k, args) (is ∙ ap kind_and_words are ∙ head_is k args) ∙ sym are)
+
+-- the lines that count are those of the words exactly if their words are told
+lines_tell : (number : ℕ) (lines : List (List ℕ)) (words : Lines) → list_all is_own words ≡ true →
+    (filter is_told lines ≡ map line_of words) ↔ Tells (left_from number lines) words
+lines_tell number [] [] good = (λ same. tt, λ tells. refl)
+lines_tell number [] (first ∷ words) good = (λ same. cc, λ tells. absurd tells)
+lines_tell number (line ∷ lines) words good = elim (cases_Bool (is_passed_over line)) [
+  | inl over ↦ rw over (lines_tell (number + 1) lines words good)
+  | inr other ↦ rw other (next words good (lines_tell (number + 1) lines))
+]
+  where
+    -- the line is the next of the words
+    next : (words : Lines) → list_all is_own words ≡ true → ((more : Lines) → list_all is_own more ≡ true →
+        (filter is_told lines ≡ map line_of more) ↔ Tells (left_from (number + 1) lines) more) →
+        (line ∷ filter is_told lines ≡ map line_of words)
+        ↔ Tells (Next number (head_of line) (left_from (number + 1) lines)) words
+    next [] good go = (λ same. cc, λ tells. absurd tells)
+    next (words ∷ more) good go =
+        let (own, others) = and_parts (is_own words) (list_all is_own more) good in (
+          λ same.
+              let first : line ≡ line_of words = cc in
+              let rest : filter is_told lines ≡ map line_of more = cc in
+              (ap head_of first ∙ head_back words own, (go more others).0 rest),
+          λ (is, tells).
+              let here = line_is_of line words own is in
+              let rest = (go more others).1 tells in
+              cc,
+        )
+
+-- a text of a script is read as it
+pub text_read : (text : List ℕ) (script : Script) → IsTextOf text script → script_of text ≡ Ok script
+text_read text script is =
+    script_back script is.lawful is.deeds is.in_order is.told is.untold (left_from 1 (text_lines text))
+    ((lines_tell 1 (text_lines text) (lines_of is.told script is.deeds)
+    (script_lines is.told script is.deeds is.lawful is.in_order)).0 is.spelt)
+
+-- what is read as a script is a text of it
+pub text_said : (text : List ℕ) (script : Script) → script_of text ≡ Ok script → IsTextOf text script
+text_said text script is =
+    let (told, untold, (lawful, deeds, in_order, tells)) = script_said (left_from 1 (text_lines text)) script is in
+    record {
+      lawful = lawful;
+      deeds = deeds;
+      told = told;
+      untold = untold;
+      in_order = in_order;
+      spelt = (lines_tell 1 (text_lines text) (lines_of told script deeds)
+          (script_lines told script deeds lawful in_order)).1 tells;
+    }
+
+pub one_script : (text : List ℕ) (script other : Script) → IsTextOf text script → IsTextOf text other → script ≡ other
+one_script text script other is also =
+    let same : ◌≡◌ {A = LinesRead Script} (Ok script) (Ok other) =
+    sym (text_read text script is) ∙ text_read text other also in
+    cc

@@ -1,42 +1,36 @@
 -- The words of a line are read as what they say, and no others are.
 use Rattle.election_script.proofs.Imports.{◌≡◌, ◌∙◌, ap, sym, subst, refl, arith, ℕ, ◌<◌, ◌≤◌, ◌^◌, true, false, List}
 use Rattle.election_script.proofs.Imports.{[], ◌∷◌, length, inl, inr, Some, Ok, All, Any, slice_get, decimal}
-use Rattle.election_script.proofs.Imports.{slice_get_within, encode_lower, decode_of-encode_lower, IsBytes, IsDigest}
-use Rattle.election_script.proofs.Imports.{IsVersion, IsDeedIn, how_word, How, Deed, Opened, Authorise, Override}
-use Rattle.election_script.proofs.Imports.{Closed, Activate, Commit, Cast, Cancel, Challenge, Step, Act, Hear, Stop}
-use Rattle.election_script.proofs.Imports.{OtsKind, IsHeight, height_word, Role, Supervisor, Booth, IsName, role_word}
-use Rattle.election_script.proofs.Imports.{Cast0, Lose, StopAt, IsBetween, IsSession, IsLose, IsStopAt, IsStep}
-use Rattle.election_script.proofs.Imports.{max_events, ots_word, name_at, deed_words, step_words, bytes_eq}
-use Rattle.election_script.proofs.Imports.{bytes_eq-Decides, false_from_ne_true, is_name_word, roles_of, stopped_of}
-use Rattle.election_script.proofs.Imports.{number_within, session_read, ballot_read, machine_named, machine_of_role}
-use Rattle.election_script.proofs.Imports.{seed_read, key_read, machine_said, machine_and_session, override_deed}
-use Rattle.election_script.proofs.Imports.{ballot_deed, do_read, entry_read, receiver_read, lose_read, stopper_read}
-use Rattle.election_script.proofs.Imports.{stop_read, step_read, ◌≢◌, Option, None, Result, Err, and_parts, nat_lt}
-use Rattle.election_script.proofs.Imports.{◌&&◌, decode_of-ok, is_between, is_listed, is_same_role, in_table, named}
-use Rattle.election_script.proofs.Imports.{role_names, how_names, key_kinds, key_heights, one_number, codes, is_some}
-use Rattle.election_script.proofs.Imports.{not, true≢false}
-use Rattle.election_script.proofs.Places.{HasRoleAt, IsDone, AreDistinct, cast_at, place_back, place_none, own_role}
-use Rattle.election_script.proofs.Places.{same_place, stop_new, from, place_unknown, stop_among, name_is, place_is}
-use Rattle.election_script.proofs.Places.{IsNamedAt}
+use Rattle.election_script.proofs.Imports.{slice_get_within, encode_lower, IsBytes, IsDigest, IsVersion, IsDeedIn}
+use Rattle.election_script.proofs.Imports.{how_word, How, Deed, Opened, Authorise, Override, Closed, Activate, Commit}
+use Rattle.election_script.proofs.Imports.{Cast, Cancel, Challenge, Step, Act, Hear, Stop, OtsKind, IsHeight}
+use Rattle.election_script.proofs.Imports.{height_word, Role, Supervisor, Booth, IsName, role_word, Cast0, Lose, StopAt}
+use Rattle.election_script.proofs.Imports.{IsBetween, IsSession, IsLose, IsStopAt, IsStep, max_events, ots_word}
+use Rattle.election_script.proofs.Imports.{name_at, deed_words, step_words, bytes_eq, bytes_eq-Decides}
+use Rattle.election_script.proofs.Imports.{false_from_ne_true, is_name_word, roles_of, stopped_of, ballot_deed, do_read}
+use Rattle.election_script.proofs.Imports.{◌≢◌, Result, Err, and_parts, nat_lt, ◌&&◌, is_between, is_listed, in_table}
+use Rattle.election_script.proofs.Imports.{named, role_names, how_names, key_kinds, key_heights, codes, not, true≢false}
+use Rattle.election_script.specs.Deeds.{override_deed, machine_and_session, plain_deed, session_deed, named_deed}
+use Rattle.hex.proofs.HexLemmas.{decode_of-encode_lower, decode_of-ok, decode_sized-ok, decode_sized-twice}
+use Rattle.election_script.specs.Words.{number_within, ballot_read, octets_in}
+use Rattle.election_script.specs.Machines.{machine_named, machine_of_role, is_of_role}
+use Rattle.election_script.specs.Lines.{seed_read, key_read, machine_said, entry_read, receiver_read, lose_read}
+use Rattle.election_script.specs.Lines.{stopper_read, stop_read, step_read, one_number, own_step, named_step}
+use Rattle.election_script.proofs.Named.{has_role, HasRoleAt, IsDone, AreDistinct, cast_at, place_back, place_none}
+use Rattle.election_script.proofs.Named.{same_role, same_place, stop_new, from, place_unknown, stop_among, name_is}
+use Rattle.election_script.proofs.Named.{place_is, IsNamedAt, between_test, name_test, role_named, how_named}
+use Rattle.election_script.proofs.Named.{kind_named, height_named, some_role, some_how, some_kind, some_height, AreRows}
+use Rattle.election_script.proofs.Named.{row_is}
 use Rattle.hall_text.proofs.DigestText.{digest_decodes}
 use Rattle.hall_text.proofs.Numbers.{number-found}
-use Rattle.std.proofs.lemmas.Option.{slice_get-map, cond_some}
-use Rattle.std.specs.Prelude.{option_map}
-use Rattle.election_script.proofs.Names.{between_test, name_test}
-use Rattle.election_script.proofs.Spaceless.{AreNamed}
-use Rattle.election_script.proofs.Named.{role_named, how_named, kind_named, height_named, some_role, some_how}
-use Rattle.election_script.proofs.Named.{some_kind, some_height, AreRows, row_is}
+use Rattle.std.proofs.lemmas.Option.{cond_some}
+use Rattle.election_script.proofs.ScriptLines.{AreNamed}
 use Rattle.hall_text.specs.Words.{number_in, value_from, digest_in, in_lower_case}
 use Rattle.hex.specs.Hex.{decode_of, decode_sized}
 use Rattle.hex.specs.declared.error.FromHexError.{FromHexError}
-use Rattle.hex.proofs.HexLemmas.{decode_sized-ok, decode_sized-twice}
 use Rattle.election_script.specs.declared.kinds.DeedName.{DeedName}
 use Rattle.election_script.specs.declared.kinds.StepName.{StepName}
-use Rattle.election_script.specs.Words.{octets_in}
 use Rattle.election_script.specs.Kinds.{deed_names, later_deeds, step_names}
-use Rattle.election_script.specs.Machines.{is_of_role}
-use Rattle.election_script.specs.Deeds.{plain_deed, session_deed, named_deed}
-use Rattle.election_script.specs.Lines.{own_step, named_step}
 use Rattle.election_script.proofs.Gives.{Gives, value_gives, then_gives, if_gives, unless_gives, some_gives}
 use Rattle.std.proofs.lemmas.Bool.{not-false}
 use Rattle.entry_format.specs.declared.deed.How.TheVariants as how
@@ -50,27 +44,18 @@ number_back least greatest number is small =
     let most : number ≤ greatest = is.1 in
     rw (number-found (decimal number) number (omega arith) refl, (between_test least greatest number).1 is) refl
 
--- those of a session
-session_back : (session : ℕ) → IsSession session → session_read (decimal session) ≡ Ok session
-session_back session is = number_back 1 4294967295 session is (omega arith)
-
 -- those of a ballot
 ballot_back : (ballot : List ℕ) → IsDigest ballot → IsBytes ballot → ballot_read (encode_lower ballot) ≡ Ok ballot
 ballot_back ballot size bytes =
-    rw (
-      digest_decodes (encode_lower ballot) ballot (record { size = size; bytes = bytes; digits = refl }),
-      (bytes_eq-Decides (encode_lower ballot) (encode_lower ballot)).1 refl,
-    ) refl
+    let decodes = digest_decodes (encode_lower ballot) ballot (record { size = size; bytes = bytes; digits = refl }) in
+    rw (decodes, (bytes_eq-Decides (encode_lower ballot) (encode_lower ballot)).1 refl)
 
 -- those of a seed
 pub seed_back : (seed : List ℕ) → IsBetween 1 32 (length seed) → IsBytes seed →
     seed_read (encode_lower seed ∷ []) ≡ Ok seed
 seed_back seed size bytes =
-    rw (
-      decode_of-encode_lower seed bytes,
-      (bytes_eq-Decides (encode_lower seed) (encode_lower seed)).1 refl,
-      (between_test 1 32 (length seed)).1 size,
-    ) refl
+    let same = (bytes_eq-Decides (encode_lower seed) (encode_lower seed)).1 refl in
+    rw (decode_of-encode_lower seed bytes, same, (between_test 1 32 (length seed)).1 size)
 
 -- the words of a key
 pub key_back : (kind : OtsKind) (height : ℕ) → IsHeight height →
@@ -101,16 +86,14 @@ module _ (machines : List Cast0) (names : AreNamed machines) (distinct : AreDist
   role_back : (place : ℕ) (role : Role) → HasRoleAt machines role place →
       machine_of_role (roles_of machines) role (name_at machines place) ≡ Ok place
   role_back place role (cast, is, same) =
-      let there : slice_get (roles_of machines) place ≡ Some (cast.name, cast.role) =
-      slice_get-map (λ (cast : Cast0). (cast.name, cast.role)) machines place
-      ∙ ap (option_map (λ (cast : Cast0). (cast.name, cast.role))) is in
-      rw (name_back place (slice_get_within machines place cast is), there, own_role role cast.role same) refl
+      let within = slice_get_within machines place cast is in
+      rw (name_back place within, has_role machines place cast is, (same_role role cast.role).1 same)
 
   -- with a session
   role_session_back : (place : ℕ) (role : Role) (session : ℕ) → HasRoleAt machines role place → IsSession session →
       machine_and_session (roles_of machines) role (name_at machines place) (decimal session) ≡ Ok (place, session)
   role_session_back place role session has is =
-      rw (role_back place role has, session_back session is) refl
+      rw (role_back place role has, number_back 1 4294967295 session is (omega arith)) refl
 
   -- with a session and a ballot
   ballot_deed_back : (place session : ℕ) (ballot : List ℕ) → HasRoleAt machines Booth place →
@@ -136,8 +119,7 @@ module _ (machines : List Cast0) (names : AreNamed machines) (distinct : AreDist
   -- each deed that a machine of the script may do is read back from its line
   pub deed_back : (version : ℕ) → IsVersion version → (done : ℕ × Deed) → IsDone version machines done →
       do_read version (roles_of machines) (name_at machines done.0 ∷ deed_words version machines done.1) ≡ Ok done
-  deed_back version good (place, Opened) (cast, at, own, is, among) =
-      rw (role_back place Supervisor (cast, at, own)) refl
+  deed_back version good (place, Opened) (cast, at, own, is, _) = rw (role_back place Supervisor (cast, at, own))
   deed_back version good (place, Authorise booth session) (cast, at, own, is, among) =
       rw (role_back place Supervisor (cast, at, own), role_session_back booth Booth session among.0 among.1) refl
   deed_back version good (place, Override session how.Cast) (cast, at, own, two, among) =
@@ -146,8 +128,7 @@ module _ (machines : List Cast0) (names : AreNamed machines) (distinct : AreDist
       rw (two, override_back place session how.Cancel (cast, at, own) among) refl
   deed_back version (inl one) (place, Override session how.Cancel) (cast, at, own, is, among) =
       rw (one, role_session_back place Supervisor session (cast, at, own) among) refl
-  deed_back version good (place, Closed) (cast, at, own, is, among) =
-      rw (role_back place Supervisor (cast, at, own)) refl
+  deed_back version good (place, Closed) (cast, at, own, is, _) = rw (role_back place Supervisor (cast, at, own))
   deed_back version good (place, Activate session) (cast, at, own, is, among) =
       rw (role_session_back place Booth session (cast, at, own) among) refl
   deed_back version good (place, Commit session ballot) (cast, at, own, is, among) =
@@ -164,14 +145,11 @@ module _ (machines : List Cast0) (names : AreNamed machines) (distinct : AreDist
       lose_read (roles_of machines) (name_at machines lose.from ∷ decimal lose.number ∷ name_at machines lose.to ∷ [])
       ≡ Ok lose
   lose_back lose (from_in, to_in, differ, most) =
-      let maker : List ℕ = name_at machines lose.from in
-      let receiver : List ℕ = name_at machines lose.to in
-      let other : bytes_eq receiver maker ≡ false = false_from_ne_true (bytes_eq receiver maker)
-      (λ same. differ (same_place machines lose.from lose.to distinct from_in to_in
-      (sym ((bytes_eq-Decides receiver maker).0 same)))) in
-      let heard : receiver_read (roles_of machines) maker receiver ≡ Ok lose.to =
-      rw (is_name lose.to to_in, other, place_back machines lose.to distinct to_in) refl in
-      rw (entry_back lose.from lose.number from_in most, heard) refl
+      let other : bytes_eq (name_at machines lose.to) (name_at machines lose.from) ≡ false =
+      false_from_ne_true _ (λ same. differ (same_place machines lose.from lose.to distinct from_in to_in
+      (sym ((bytes_eq-Decides (name_at machines lose.to) (name_at machines lose.from)).0 same)))) in
+      let entry = entry_back lose.from lose.number from_in most in
+      rw (entry, is_name lose.to to_in, other, place_back machines lose.to distinct to_in)
 
   -- a stop of a machine that has no other
   pub stop_back : (stops : List StopAt) (stop : StopAt) → All (IsStopAt machines) stops → IsStopAt machines stop →
@@ -179,14 +157,9 @@ module _ (machines : List Cast0) (names : AreNamed machines) (distinct : AreDist
       stop_read (roles_of machines) (stopped_of machines stops)
       (name_at machines stop.machine ∷ decimal stop.events ∷ []) ≡ Ok stop
   stop_back stops stop good (inside, most) new =
-      let stopper : stopper_read (roles_of machines) (stopped_of machines stops) (name_at machines stop.machine)
-      ≡ Ok stop.machine =
-      rw (
-        is_name stop.machine inside,
-        stop_new machines stops stop.machine distinct good inside new,
-        place_back machines stop.machine distinct inside,
-      ) refl in
-      rw (stopper, number_back 0 max_events stop.events (omega arith, most) (omega arith)) refl
+      let free = stop_new machines stops stop.machine distinct good inside new in
+      let events = number_back 0 max_events stop.events (omega arith, most) (omega arith) in
+      rw (is_name stop.machine inside, free, place_back machines stop.machine distinct inside, events)
 
   -- a step
   pub step_back : (step : Step) → IsStep machines step →
@@ -269,34 +242,22 @@ module _ (machines : List Cast0) where
   named_gives name = if_gives (is_name_word name) _ _ _ (λ good. some_gives _ _ _ (place_is machines name))
 
   -- a machine of a role
-  role_is : (role other : Role) → is_same_role role other ≡ true → other ≡ role
-  role_is Supervisor Supervisor is = refl
-  role_is Supervisor Booth is = cc
-  role_is Booth Supervisor is = cc
-  role_is Booth Booth is = refl
-
   role_gives : (role : Role) (name : List ℕ) → Gives (machine_of_role (roles_of machines) role name)
       (λ place. IsNamedAt machines name place × HasRoleAt machines role place)
   role_gives role name = then_gives _ _ _ _ (named_gives name) (λ place at.
       let (cast, there) = cast_at machines place at.0 in
-      let listed : slice_get (roles_of machines) place ≡ Some (cast.name, cast.role) =
-      slice_get-map (λ (cast : Cast0). (cast.name, cast.role)) machines place
-      ∙ ap (option_map (λ (cast : Cast0). (cast.name, cast.role))) there in
+      let listed = has_role machines place cast there in
       if_gives (is_of_role role (slice_get (roles_of machines) place)) _ _ _ (λ has.
-      value_gives _ place (at, (cast, there, role_is role cast.role (sym (ap (is_of_role role) listed) ∙ has)))))
+      value_gives _ place (at, (cast, there, (same_role role cast.role).0 (sym (ap (is_of_role role) listed) ∙ has)))))
 
   -- a new name
-  none_is : {A : Type 0} (o : Option A) → is_some o ≡ false → None ≡ o
-  none_is (Some a) is = cc
-  none_is None is = refl
-
   pub machine_gives : (words : List (List ℕ)) → Gives (machine_said (roles_of machines) words)
       (λ said. IsName said.0 × (Any (λ (cast : Cast0). cast.name ≡ said.0) machines → ⊥)
       × (words ≡ said.0 ∷ role_word said.1 ∷ []))
   machine_gives (name ∷ word ∷ []) =
       then_gives _ _ (λ own. IsName own × (Any (λ (cast : Cast0). cast.name ≡ own) machines → ⊥) × (name ≡ own)) _
       (unless_gives _ _ _ _ (λ good. unless_gives _ _ _ _ (λ unknown.
-      value_gives _ name ((name_test name).0 (not-false _ good), place_unknown machines name (none_is _ unknown), refl))))
+      value_gives _ name ((name_test name).0 (not-false _ good), place_unknown machines name unknown, refl))))
       (λ own (good, new, same). then_gives _ _ _ _
       (some_gives (named role_names word) _ _ (role_named word)) (λ role is.
       value_gives _ (own, role) (good, new, cc)))
@@ -337,11 +298,9 @@ module _ (machines : List Cast0) where
       unless_gives (not (is_name_word name)) _ _ _ (λ good. unless_gives (is_listed (stopped_of machines stops) name)
       _ _ _ (λ new.
       some_gives _ _ _ (λ place is.
-      let at = place_is machines name place is in (
-        at,
-        λ any. true≢false (sym (stop_among machines stops place any)
-            ∙ ap (is_listed (stopped_of machines stops)) at.1 ∙ new),
-      ))))
+      let at = place_is machines name place is in
+      let among = ap (is_listed (stopped_of machines stops)) at.1 ∙ new in
+      (at, λ any. true≢false (sym (stop_among machines stops place any) ∙ among)))))
 
   pub stop_gives : (stops : List StopAt) (words : List (List ℕ)) →
       Gives (stop_read (roles_of machines) (stopped_of machines stops) words)

@@ -1,4 +1,4 @@
-use Rattle.election_script.proofs.TextRead.{text_read, text_said}
+use Rattle.election_script.proofs.ReadScript.{text_read, text_said}
 use Rattle.election_script.proofs.laws.texts_of_scripts_are_read.Goals as goal
 
 pub returns : goal.returns

@@ -1,5 +1,5 @@
 use Rattle.election_script.proofs.Imports.{eq-eqb, ◌++◌, ap, sym, ◌∙◌, ne_eqb, session_booth, deeds_of, actions_of}
-use Rattle.election_script.proofs.DaySessions.{actions_own, actions_other}
+use Rattle.election_script.proofs.Day.{actions_own, actions_other}
 use Rattle.election_script.proofs.making.actions_of.Goals.{then-booth_of-booth+in_ok-push_deeds, else-booth_of-booth}
 use Rattle.election_script.proofs.making.actions_of.Goals as goal
 

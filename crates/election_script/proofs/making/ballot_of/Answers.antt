@@ -1,6 +1,6 @@
-use Rattle.election_script.proofs.Imports.{◌≡◌, ◌+◌, ◌*◌, ◌++◌, length, take, replicate, arith, ap, sym, ◌∙◌}
-use Rattle.election_script.proofs.Imports.{take_all, concat, u32str, length-u32str}
-use Rattle.election_script.proofs.DaySessions.{copies_more}
+use Rattle.election_script.proofs.Imports.{◌≡◌, ◌+◌, ◌*◌, ◌++◌, length, take, replicate, arith, ap, sym, ◌∙◌, take_all}
+use Rattle.election_script.proofs.Imports.{concat, u32str, length-u32str}
+use Rattle.election_script.proofs.Day.{copies_more}
 use Rattle.election_script.proofs.making.ballot_of.Goals as goal
 
 -- one copy more
@@ -22,8 +22,6 @@ loop-copy-preserved c =
 -- all eight
 pub returns : goal.returns
 returns c =
-    let ballot = c.loop-copy.ballot in
     let all : c.loop-copy.copy ≡ 8 = omega arith in
-    sym (take_all 32 ballot (omega (arith, c.loop-copy.invariant.long)))
-    ∙ ap (λ k. take (4 * k) ballot) (sym all) ∙ c.loop-copy.invariant.copies
-    ∙ ap (λ k. concat (replicate k (u32str c.args.session))) all
+    sym (take_all 32 c.loop-copy.ballot (omega (arith, c.loop-copy.invariant.long)))
+    ∙ (rw all at c.loop-copy.invariant.copies)

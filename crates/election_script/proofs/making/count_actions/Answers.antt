@@ -1,5 +1,5 @@
 use Rattle.election_script.proofs.Imports.{arith, ap, length}
-use Rattle.election_script.proofs.DaySessions.{count_within}
+use Rattle.election_script.proofs.Day.{count_within}
 use Rattle.election_script.proofs.making.count_actions.Goals as goal
 
 -- a machine does no more than all

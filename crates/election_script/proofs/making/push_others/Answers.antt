@@ -1,6 +1,6 @@
-use Rattle.election_script.proofs.Imports.{◌==◌, not, filter, eq-eqb, ◌≡◌, ℕ, ◌-◌, ◌++◌, List, Bool, arith, ap, sym}
-use Rattle.election_script.proofs.Imports.{◌∙◌, ne_eqb, flat_map, range_with_len, Step, hears}
-use Rattle.election_script.proofs.DaySessions.{joined_more, kept_one, kept_none}
+use Rattle.election_script.proofs.Imports.{◌==◌, not, eq-eqb, ◌≡◌, ℕ, ◌-◌, ◌++◌, List, Bool, arith, ap, sym, ◌∙◌}
+use Rattle.election_script.proofs.Imports.{ne_eqb, range_with_len, Step, hears}
+use Rattle.election_script.proofs.Day.{joined_more, kept_one, kept_none}
 use Rattle.election_script.proofs.making.push_others.Goals.{then-at-from+in_ok-push_hears, else-at-from}
 use Rattle.election_script.proofs.making.push_others.Goals as goal
 
@@ -11,12 +11,10 @@ loop-at-preserved c =
     let from = c.args.from in
     let is_other : ℕ → Bool = λ other. not (other == from) in
     let heard : ℕ → List Step = λ other. hears other from (range_with_len c.args.first (c.args.end - c.args.first)) in
-    let front : List Step = flat_map heard (filter is_other (range_with_len 1 (at - 1))) in
     elim c.if-at-from.branch [
       | then-at-from+in_ok-push_hears w ↦
           rw w.steps-is
-          (joined_more c.args.steps.now.items c.loop-at.steps.items _ front (heard at) _
-          c.loop-at.invariant w.in_ok-push_hears.ensures
+          (joined_more _ _ _ _ _ _ c.loop-at.invariant w.in_ok-push_hears.ensures
           (kept_one heard is_other 1 at c.loop-at.auto.at (ap not (ne_eqb at from w.if-at-from.true))))
       | else-at-from w ↦
           rw w.steps-is
@@ -28,9 +26,5 @@ loop-at-preserved c =
 -- all three
 pub returns : goal.returns
 returns c =
-    let at : c.loop-at.at ≡ 4 = omega arith in
-    let heard : ℕ → List Step = λ other.
-    hears other c.args.from (range_with_len c.args.first (c.args.end - c.args.first)) in
-    c.loop-at.invariant
-    ∙ ap (λ k. c.args.steps.now.items
-    ++ flat_map heard (filter (λ other. not (other == c.args.from)) (range_with_len 1 (k - 1)))) at
+    let last : c.loop-at.at ≡ 4 = omega arith in
+    rw last at c.loop-at.invariant

@@ -1,7 +1,5 @@
-use Rattle.election_script.proofs.Imports.{◌-◌, ◌%◌, refl, sym, ◌∙◌, append-nil, length-set, flat_map, session_steps}
-use Rattle.election_script.proofs.Imports.{sessions}
-use Rattle.election_script.proofs.DaySessions.{joined_more, pieces_more}
-use Rattle.election_script.proofs.DayCounts.{made_more, none_made}
+use Rattle.election_script.proofs.Imports.{◌-◌, ◌%◌, refl, sym, ◌∙◌, append-nil, length-set, session_steps}
+use Rattle.election_script.proofs.Day.{joined_more, pieces_more, made_more, none_made}
 use Rattle.election_script.proofs.making.push_sessions.Goals as goal
 
 -- nothing is made before the first
@@ -13,9 +11,7 @@ pub loop-session-preserved : goal.loop-session-preserved
 loop-session-preserved c =
     let session = c.loop-session.session in
     record {
-      steps = joined_more c.args.steps.now.items c.loop-session.steps.items c.push_session.new.steps.items
-          (flat_map session_steps (sessions (session - 1))) (session_steps session) _
-          c.loop-session.invariant.steps c.in_ok-made.ensures.steps
+      steps = joined_more _ _ _ _ _ _ c.loop-session.invariant.steps c.in_ok-made.ensures.steps
           (pieces_more session_steps 1 session c.loop-session.auto.session);
       three = length-set c.loop-session.made ((session - 1) % 3) c.in_ok-made.field-0 ∙ c.loop-session.invariant.three;
       made = made_more c.loop-session.made session c.in_ok-made.field-0 c.loop-session.auto.session
