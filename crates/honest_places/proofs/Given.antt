@@ -1,46 +1,17 @@
 -- What is given by what is left of an honest world's logs.
-use Rattle.election_script.specs.Lawful.{max_actions}
-use Rattle.entry_format.proofs.Unsealings.{one_unsealing}
-use Rattle.entry_format.specs.Nodes.{node_of_sealed}
-use Rattle.entry_format.specs.SealedEntry.{SealedEntry}
-use Rattle.entry_format.specs.Unsealing.{Unseals}
+use Rattle.honest_places.proofs.Imports
+use Imports.{[], AgreesWith, All-contains, ap, AreReadIn, arith, Bool, bytes_eq, bytes_eq-Decides, Collision, cond}
+use Imports.{Contains, Contains-append_left, Contains-filter_cases, Contains-flat_map, Contains-flat_map_cases}
+use Imports.{Contains-map, Contains-map_cases, Contains-middle, DigestsDiffer, Distinct, distinct, election_of}
+use Imports.{element_at, entries_of, entries_of_records, entry_of, EntryGraph, Err, Event, false, few_among, filter}
+use Imports.{Got, GraphFault, HasNoCollision, HaveAll, held_kept, history, honest_entries_agree_in_orderly_worlds}
+use Imports.{in_world, IsAllGiven, IsAllTold, IsGraphAnswer, IsGraphOfGiven, IsHonestGraph, IsHonestlyGiven}
+use Imports.{IsHonestWorld, IsOrderly, IsReadIn, IsStray, length, List, LogRead, max_actions, member_split, Memory}
+use Imports.{Node, node_of_sealed, none_inside, not, not_from_true, Ok, one_unsealing, parents_of, Post, ragged_of}
+use Imports.{refl, SealedEntry, Sent, sent_in, sent_in_cases, sent_in_from, subst, survivors_are_no_strays, sym, take}
+use Imports.{TooMany, true, true≢false, Unseals, World, ℕ, ◌++◌, ◌↔◌, ◌∙◌, ◌∷◌, ◌≡◌, ◌≤◌}
 use Rattle.entry_graph.proofs.DistinctFacts.{distinct_bears, distinct_given}
-use Rattle.entry_graph.specs.Answers.{IsGraphAnswer}
-use Rattle.entry_graph.specs.EntryGraph.{EntryGraph, IsGraphOfGiven, parents_of, ragged_of}
-use Rattle.entry_graph.specs.Given.{HasNoCollision, distinct}
-use Rattle.entry_graph.specs.declared.fault.GraphFault.{GraphFault}
-use Rattle.entry_graph.specs.declared.fault.GraphFault.TheVariants.{Collision, Memory, TooMany}
-use Rattle.entry_order.proofs.Apart.{DigestsDiffer, few_among}
-use Rattle.entry_order.proofs.Honest.{honest_entries_agree_in_orderly_worlds, none_inside}
-use Rattle.entry_order.proofs.Lists.{Contains-filter_cases, Contains-flat_map, Contains-flat_map_cases, Contains-head}
-use Rattle.entry_order.proofs.Lists.{Contains-map, Contains-map_cases}
-use Rattle.entry_order.proofs.Machines.{in_world}
-use Rattle.entry_order.proofs.Orders.{member_split, sent_in_cases, sent_in_from}
-use Rattle.entry_order.proofs.Places.{element_at}
-use Rattle.entry_order.proofs.Strays.{survivors_are_no_strays}
-use Rattle.entry_order.specs.History.{entry_of, held}
-use Rattle.entry_order.specs.Honest.{AgreesWith}
-use Rattle.entry_order.specs.Naming.{Distinct}
-use Rattle.entry_order.specs.Node.{Node}
-use Rattle.entry_order.specs.Receipt.{IsOrderly}
-use Rattle.entry_order.specs.Survivors.{IsStray}
-use Rattle.entry_order.specs.World.{World, history, sent_in}
-use Rattle.entry_order.specs.declared.event.Event.{Event}
-use Rattle.entry_order.specs.declared.event.Event.TheVariants.{Got, Sent}
-use Rattle.evidence.specs.Graphs.{entries_of, entries_of_records}
 use Rattle.honest_places.proofs.Lists.{Contains-take}
-use Rattle.honest_places.specs.Agreement.{HaveAll, IsAllGiven, IsAllTold, IsHonestGraph, IsHonestlyGiven}
-use Rattle.honest_places.specs.HonestWorld.{IsHonestWorld}
-use Rattle.honest_places.specs.WhatIsLeft.{AreReadIn, IsReadIn}
-use Rattle.log_files.proofs.KeptRecords.{held_kept}
-use Rattle.log_files.specs.Logs.{LogRead}
-use Rattle.polling_world.specs.Making.{election_of}
-use Rattle.roster.specs.declared.post.Post.{Post}
-use Rattle.std.proofs.Common.{Bool, Contains, Err, List, Ok, [], ap, arith, bytes_eq, cond, false, filter, length, not}
-use Rattle.std.proofs.Common.{refl, subst, sym, take, true, true≢false, ℕ, ◌++◌, ◌↔◌, ◌∙◌, ◌∷◌, ◌≡◌, ◌≤◌}
-use Rattle.std.proofs.lemmas.Bool.{not_from_true}
-use Rattle.std.proofs.lemmas.List.Elements.{All-contains, Contains-append_left, Contains-append_right}
-use Rattle.std.proofs.lemmas.Slice.Eq.{bytes_eq-Decides}
 
 -- ---- distinct entries
 
@@ -67,11 +38,6 @@ module _ {T : Type 0} (node : T → Node) where
         apart_filter p (distinct node es) (distinct_apart es),
       )
 
-  -- a list that contains all distinct entries is at least as long as the list of them
-  few_distinct : (given all : List T) → ((e : T) → Contains (distinct node given) e → Contains all e) →
-      length (distinct node given) ≤ length all
-  few_distinct given all among = few_among node (distinct node given) all (distinct_apart given) among
-
 -- ---- the entries of an honest world
 
 -- what a machine sent or got was sent
@@ -87,11 +53,9 @@ were_sent w orderly logs all e c =
     let (log, there, inside) =
     Contains-flat_map_cases (λ (log : LogRead). entries_of_records log.kept) logs e c in
     let is = All-contains (IsReadIn w) logs log all there in
-    let same : entries_of_records log.kept ≡ held (take is.read.count (history w is.machine)) =
-    sym (held_kept log.kept) ∙ ap held is.read.kept in
     let (x, among, of) = Contains-map_cases entry_of (take is.read.count (history w is.machine)) e
-    (subst (λ (es : List SealedEntry). Contains es e) same inside) in
-    subst (Contains (sent_in w)) of
+    (rw (← held_kept log.kept, is.read.kept) at inside) in
+    subst (Contains (sent_in w)) {x = entry_of x} of
     (event_was_sent w orderly is.machine x (Contains-take (history w is.machine) is.read.count x among))
 
 module _ (w : World SealedEntry) (orderly : IsOrderly node_of_sealed w) (apart : Distinct node_of_sealed (sent_in w))
@@ -118,8 +82,7 @@ module _ (w : World SealedEntry) (orderly : IsOrderly node_of_sealed w) (apart :
   no_stray : (e : SealedEntry) → Contains once e → IsStray node_of_sealed once e → ⊥
   no_stray e c =
       let all = (honest_entries_agree_in_orderly_worlds node_of_sealed w orderly apart once distinct_sent).survive in
-      ((survivors_are_no_strays node_of_sealed once e).0
-      (subst (λ (es : List SealedEntry). Contains es e) (sym all) c)).1
+      ((survivors_are_no_strays node_of_sealed once e).0 (rw all c)).1
 
   module _ (graph : EntryGraph SealedEntry) (is : IsGraphOfGiven node_of_sealed once graph) where
     -- the graph's survivors are the given entries
@@ -165,12 +128,12 @@ module _ (w : World SealedEntry) (orderly : IsOrderly node_of_sealed w) (apart :
   not_refused : length (sent_in w) ≤ max_actions → (fault : GraphFault SealedEntry) →
       IsGraphAnswer node_of_sealed (λ e. e.text) given (Err fault) → fault ≡ Memory
   not_refused few (Collision e f) (earlier, later, is, before, there, same, differ) =
-      let both : (x : SealedEntry) → Contains (earlier ++ f ∷ later) x → Contains given x =
-      λ x. subst (λ (es : List SealedEntry). Contains es x) (sym is) in
+      let both = λ (x : SealedEntry) (c : Contains (earlier ++ f ∷ later) x). rw (← is) at c in
       absurd (differ (no_collision e f (both e (Contains-append_left earlier (f ∷ later) e there))
-      (both f (Contains-append_right earlier (f ∷ later) f (Contains-head f later))) same))
+      (both f (Contains-middle earlier f later)) same))
   not_refused few TooMany (none, many) =
-      absurd (omega (arith, many, few, few_distinct node_of_sealed given (sent_in w) distinct_sent))
+      let among = few_among node_of_sealed once (sent_in w) (distinct_apart node_of_sealed given) distinct_sent in
+      absurd (omega (arith, many, few, among))
   not_refused few Memory is = refl
 
 -- what is read of the logs of an honest world, or of what is left of them, is honestly given
@@ -193,8 +156,7 @@ all_given w logs all e c =
     let (before, later, is) = member_split (history w m) (Sent e) there in
     let (log, member, read) = all m (in_world w m before (Sent e) later is) in
     Contains-flat_map (λ (l : LogRead). entries_of_records l.kept) logs log e member
-    (subst (λ (es : List SealedEntry). Contains es e) (ap held (sym read.kept) ∙ held_kept log.kept)
-    (Contains-map entry_of (history w m) (Sent e) there))
+    (rw (← held_kept log.kept, read.kept) (Contains-map entry_of (history w m) (Sent e) there))
 
 -- entries of one text are one, so where nothing that was sent collides, different entries have
 -- different digests

@@ -1,32 +1,13 @@
 -- The graph of what is read of an honest world's logs, and what the files that are left of the logs
 -- of a script's world give, under the roster and the election that were read.
-use Rattle.canonical_sexp.specs.Text.{text_of}
-use Rattle.entry_format.specs.Nodes.{node_of_sealed}
-use Rattle.entry_format.specs.SealedEntry.{SealedEntry}
-use Rattle.entry_graph.specs.EntryGraph.{EntryGraph}
-use Rattle.entry_graph.specs.declared.fault.GraphFault.TheVariants.{Memory}
-use Rattle.entry_order.specs.Naming.{Distinct}
-use Rattle.entry_order.specs.World.{World, sent_in}
-use Rattle.evidence.specs.Graphs.{GivesGraph, entries_of, graph_refusal}
-use Rattle.evidence.specs.Logs.{GivesLogs}
-use Rattle.evidence.specs.Refusal.{Refusal}
-use Rattle.evidence.specs.RosterFile.{GivesRoster}
-use Rattle.evidence.specs.declared.roster_file.RosterRead.{RosterRead}
+use Rattle.honest_places.proofs.Imports
+use Imports.{AreAllFilesOf, AreFilesOf, AreReadIn, Distinct, election_is, election_of, entries_of, EntryGraph, Err}
+use Imports.{GivesGraph, GivesLogs, GivesRoster, HaveAll, inl, inr, IsHonestGraph, IsHonestlyRead, IsHonestWorld}
+use Imports.{IsOfScript, List, LogRead, node_of_sealed, None, Ok, Option, Post, refl, Refusal, roster_tree, RosterRead}
+use Imports.{SealedEntry, sent_in, sha256, Some, text_of, World, ℕ, ◌≡◌}
 use Rattle.honest_places.proofs.Given.{all_given, left_agrees, shows_distinct}
 use Rattle.honest_places.proofs.LeftFileFacts.{each_is_read, files_are_given, files_are_read, files_have_all}
 use Rattle.honest_places.proofs.LogScripts.{scripts_are_honest}
-use Rattle.honest_places.specs.Agreement.{HaveAll, IsHonestGraph}
-use Rattle.honest_places.specs.HonestReading.{IsHonestlyRead}
-use Rattle.honest_places.specs.HonestWorld.{IsHonestWorld}
-use Rattle.honest_places.specs.LeftFiles.{AreAllFilesOf, AreFilesOf}
-use Rattle.honest_places.specs.OfScript.{IsOfScript}
-use Rattle.honest_places.specs.WhatIsLeft.{AreReadIn}
-use Rattle.log_files.specs.Logs.{LogRead}
-use Rattle.polling_world.specs.Making.{election_of}
-use Rattle.roster.specs.RosterText.{roster_tree}
-use Rattle.roster.specs.declared.post.Post.{Post}
-use Rattle.sha2.specs.Sha256.{sha256}
-use Rattle.std.proofs.Common.{Err, List, None, Ok, Option, Result, Some, ap, inl, inr, refl, subst, sym, ℕ, ◌∙◌, ◌≡◌}
 
 -- ---- graphs
 
@@ -40,8 +21,8 @@ module _ (posts : List Post) (w : World SealedEntry) (honest : IsHonestWorld pos
     -- the graph of an honest world's logs isn't refused
     pub graph_is_given : (refusal : Refusal) → ¬ GivesGraph (entries_of logs) (Err refusal)
     graph_is_given refusal (fault, is, told) =
-        let memory : fault ≡ Memory = (left_agrees posts w honest apart logs read).not_refused fault is in
-        let none : None ≡ Some refusal = sym (ap graph_refusal memory) ∙ told in
+        let memory = (left_agrees posts w honest apart logs read).not_refused fault is in
+        let none : None ≡ Some refusal = rw memory at told in
         cc
 
   -- where all logs are there and a graph is given, what was sent has different digests
@@ -52,12 +33,6 @@ module _ (posts : List Post) (w : World SealedEntry) (honest : IsHonestWorld pos
 
 -- ---- rosters
 
--- the election is that of the text
-text_election : (machines : List Post) (text election : List ℕ) → text ≡ text_of (roster_tree machines) →
-    election ≡ sha256 text → election ≡ election_of machines
-unfolding election_of
-text_election machines text election spelt is = is ∙ ap sha256 spelt
-
 -- a roster that a file gives comes with the election of its own text
 pub roster_election : (name : List ℕ) (file : Option (List ℕ)) (read : RosterRead) → GivesRoster name file (Ok read) →
     read.election ≡ election_of read.roster.machines
@@ -66,27 +41,18 @@ roster_election name (Some bytes) read (inl (long, told)) = cc
 roster_election name (Some bytes) read (inr (short, (Err fault, reads, told))) = cc
 roster_election name (Some bytes) read (inr (short, (Ok roster, reads, told))) =
     let same : read ≡ record { roster = roster; election = sha256 bytes } = cc in
-    subst (λ (r : RosterRead). r.election ≡ election_of r.roster.machines) (sym same)
-    (text_election roster.machines bytes (sha256 bytes) reads.0.spelt refl)
+    rw same (election_is (sha256 bytes) bytes roster.machines roster.machines refl reads.0.spelt refl)
 
 -- ---- the files of a script's world
 
 module _ (machines : List Post) (election : List ℕ) (w : World SealedEntry) (is : IsOfScript machines election w) where
   -- worlds of a script whose roster was read are honest under that roster
   pub of_script_is_honest : IsHonestWorld machines w
-  of_script_is_honest =
-      subst (λ (posts : List Post). IsHonestWorld posts w) (sym is.roster)
-      (scripts_are_honest is.script is.lawful is.steps w is.comes)
+  of_script_is_honest = rw is.roster (scripts_are_honest is.script is.lawful is.steps w is.comes)
 
   -- the election of a script's world is that of the roster that was read
   pub of_script_election : election ≡ election_of machines
-  of_script_election = text_election machines (text_of (roster_tree machines)) election refl is.in_election
-
-  -- what is given in the election that was read is given in the roster's
-  in_its : (names : List (List ℕ)) (files : List (Option (List ℕ))) (answer : Result (List LogRead) Refusal) →
-      GivesLogs machines election names files answer → GivesLogs machines (election_of machines) names files answer
-  in_its names files answer =
-      subst (λ (e : List ℕ). GivesLogs machines e names files answer) of_script_election
+  of_script_election = election_is election (text_of (roster_tree machines)) machines machines is.in_election refl refl
 
   -- logs and a graph that are given by what is left of a script's logs are read as what its
   -- machines did
@@ -95,7 +61,7 @@ module _ (machines : List Post) (election : List ℕ) (w : World SealedEntry) (i
       (graph : EntryGraph SealedEntry) → GivesGraph (entries_of logs) (Ok graph) →
       IsHonestlyRead machines election w names files logs graph
   script_read apart names files left logs gives graph made =
-      let here = in_its names files (Ok logs) gives in
+      let here = rw of_script_election at gives in
       let honest = of_script_is_honest in
       record {
         gives_logs = gives;
@@ -110,7 +76,7 @@ module _ (machines : List Post) (election : List ℕ) (w : World SealedEntry) (i
   pub script_given : (names : List (List ℕ)) (files : List (Option (List ℕ))) → AreFilesOf w files →
       (refusal : Refusal) → ¬ GivesLogs machines election names files (Err refusal)
   script_given names files left refusal gives =
-      files_are_given machines w of_script_is_honest names files left refusal (in_its names files (Err refusal) gives)
+      files_are_given machines w of_script_is_honest names files left refusal (rw of_script_election at gives)
 
   -- the graph of what they give isn't refused
   pub script_not_refused : Distinct node_of_sealed (sent_in w) → (names : List (List ℕ))
@@ -119,7 +85,7 @@ module _ (machines : List Post) (election : List ℕ) (w : World SealedEntry) (i
       ¬ GivesGraph (entries_of logs) (Err refusal)
   script_not_refused apart names files left logs gives =
       graph_is_given machines w of_script_is_honest apart logs
-      (files_are_read machines w of_script_is_honest names files left logs (in_its names files (Ok logs) gives))
+      (files_are_read machines w of_script_is_honest names files left logs (rw of_script_election at gives))
 
   -- where all whole logs are there and give a graph, what was sent has different digests
   pub script_distinct : (names : List (List ℕ)) (files : List (Option (List ℕ))) → AreAllFilesOf w files →
@@ -127,4 +93,4 @@ module _ (machines : List Post) (election : List ℕ) (w : World SealedEntry) (i
       GivesGraph (entries_of logs) (Ok graph) → Distinct node_of_sealed (sent_in w)
   script_distinct names files whole logs gives =
       graph_shows_distinct machines w of_script_is_honest logs
-      (files_have_all machines w of_script_is_honest names files whole logs (in_its names files (Ok logs) gives))
+      (files_have_all machines w of_script_is_honest names files whole logs (rw of_script_election at gives))

@@ -1,32 +1,12 @@
 -- What a report on an honest place says of the standard rules, and what it comes to.
-use Rattle.auditor.specs.Nodes.{nodes_of}
+use Rattle.honest_places.proofs.Imports
+use Imports.{[], All-contains, AllZip, AllZip-map, ap, AreReadIn, AuditReport, Bool, Clean, Contains, End, EndClean}
+use Imports.{entries_of, EntryGraph, false, is_some, IsHonestGraph, IsJudged, IsReadIn, List, list_any, LogRead, map}
+use Imports.{nodes_of, not, Ok, or_from, or_parts, parents_of, ragged_of, refl, Row, RuleTree, SealedEntry}
+use Imports.{standard_rules, sym, Three, three_in, true, true_from_ne_false, Verdict, World, ◌||◌, ◌∙◌, ◌≡◌, ◌≢◌}
 use Rattle.auditor.specs.Outcomes.{graph_has_finding, has_finding, has_some, is_broken, is_clean, is_unsettled}
 use Rattle.auditor.specs.Outcomes.{log_has_finding, outcome_by, outcome_of}
-use Rattle.auditor.specs.Report.{AuditReport}
-use Rattle.entry_format.specs.SealedEntry.{SealedEntry}
-use Rattle.entry_graph.specs.EntryGraph.{EntryGraph, parents_of, ragged_of}
-use Rattle.entry_order.specs.World.{World}
-use Rattle.entry_order.specs.declared.three.Three.{Three}
-use Rattle.evidence.specs.Graphs.{entries_of}
 use Rattle.honest_places.proofs.Lists.{none_of, none_passes, zip_more, zip_right}
-use Rattle.honest_places.specs.Agreement.{IsHonestGraph}
-use Rattle.honest_places.specs.ReportsKept.{EndClean}
-use Rattle.honest_places.specs.WhatIsLeft.{AreReadIn, IsReadIn}
-use Rattle.log_files.specs.declared.plain_log.End.{End}
-use Rattle.log_files.specs.declared.plain_log.End.TheVariants.{Clean}
-use Rattle.log_files.specs.Logs.{LogRead}
-use Rattle.rule_engine.specs.Verdicts.{IsJudged}
-use Rattle.rule_engine.specs.declared.verdict.Verdict.{Verdict}
-use Rattle.rule_language.specs.Standard.{standard_rules}
-use Rattle.rule_language.specs.Trees.{RuleTree}
-use Rattle.rule_language.specs.declared.row.Row.{Row}
-use Rattle.rule_meaning.specs.Values.{three_in}
-use Rattle.std.proofs.Common.{Bool, Contains, List, Ok, [], ap, false, is_some, map, not, refl, sym, true, ◌||◌, ◌∙◌}
-use Rattle.std.proofs.Common.{◌≡◌, ◌≢◌}
-use Rattle.std.proofs.lemmas.Bool.{false≢true, or_from, or_parts}
-use Rattle.std.proofs.lemmas.List.Elements.{All-contains}
-use Rattle.std.specs.List.{AllZip, list_any}
-use Rattle.std.proofs.lemmas.Slice.Zip.{AllZip-map}
 use Rattle.entry_order.specs.declared.three.Three.TheVariants as known
 use Rattle.rule_engine.specs.declared.verdict.Verdict.TheVariants as verdict
 use Rattle.auditor.specs.declared.outcome.Outcome.TheVariants as outcome
@@ -73,20 +53,19 @@ module _ (rows : List Row) (graph : EntryGraph SealedEntry) where
 
 -- ---- what a report comes to
 
--- where the report comes to Broken, some rule is
-broken_by : (broken unsettled found : Bool) → outcome_by broken unsettled found ≡ outcome.Broken → broken ≡ true
-broken_by true unsettled found is = refl
-broken_by false true found is = cc
-broken_by false false true is = cc
-broken_by false false false is = cc
+-- where no verdict is Broken, the report doesn't come to that
+not_broken : (unsettled found : Bool) → outcome_by false unsettled found ≢ outcome.Broken
+not_broken true found is = cc
+not_broken false true is = cc
+not_broken false false is = cc
 
 -- a report without a Broken verdict doesn't come to Broken
 pub outcome_not_broken : (report : AuditReport) →
     ((answer : Verdict) → Contains report.verdicts answer → is_broken answer ≡ false) →
     outcome_of report ≢ outcome.Broken
 outcome_not_broken report each same =
-    false≢true (sym (none_of is_broken report.verdicts each)
-    ∙ broken_by (list_any is_broken report.verdicts) (list_any is_unsettled report.verdicts) (has_finding report) same)
+    not_broken (list_any is_unsettled report.verdicts) (has_finding report)
+    (rw (none_of is_broken report.verdicts each) at same)
 
 -- an end that isn't found unclean is clean
 end_clean : (end : End) → not (is_clean end) ≡ false → end ≡ Clean
@@ -102,17 +81,13 @@ module _ (report : AuditReport) (kept : report.verdicts ≡ map (λ (rule : Rule
 
   -- a log whose end isn't clean is found
   pub torn_found : ¬ EndClean report.logs → outcome_of report ≡ outcome.Findings
-  torn_found torn = comes_by ∙ by (has_finding report) refl
-    where
-      -- the same by whether anything is found
-      by : (found : Bool) → has_finding report ≡ found → outcome_by false false found ≡ outcome.Findings
-      by true is = refl
-      by false is =
-          let logs = (or_parts (list_any log_has_finding report.logs) (graph_has_finding report.graph) is).0 in
-          absurd (torn (λ log inside.
-          let each = none_passes log_has_finding report.logs logs log inside in
-          let rest = (or_parts (has_some log.refused) (not (is_clean log.end) || is_some log.broke) each).1 in
-          end_clean log.end (or_parts (not (is_clean log.end)) (is_some log.broke) rest).0))
+  torn_found torn =
+      comes_by ∙ ap (outcome_by false false) (true_from_ne_false (has_finding report) (λ none.
+      let logs = (or_parts (list_any log_has_finding report.logs) (graph_has_finding report.graph) none).0 in
+      torn (λ log inside.
+      let each = none_passes log_has_finding report.logs logs log inside in
+      let rest = (or_parts (has_some log.refused) (not (is_clean log.end) || is_some log.broke) each).1 in
+      end_clean log.end (or_parts (not (is_clean log.end)) (is_some log.broke) rest).0)))
 
   -- where each log of an honest place ends clean, and there is no gap, nothing is found
   pub comes_to : (w : World SealedEntry) → AreReadIn w report.logs →

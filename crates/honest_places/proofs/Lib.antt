@@ -1,8 +1,8 @@
+pub mod Imports
 pub mod Lists
 pub mod Given
 pub mod ReadLogs
 pub mod LogScripts
-pub mod NamedOnce
 pub mod ShortLogs
 pub mod LeftFileFacts
 pub mod HonestFiles

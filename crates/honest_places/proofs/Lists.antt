@@ -1,12 +1,10 @@
 -- Lists in pairs, and lists of which members meet a test.
-use Rattle.entry_order.proofs.Lists.{Contains-cons_cases, Contains-head, Contains-later, list_any_of, list_any_some}
-use Rattle.std.proofs.Common.{Bool, Contains, List, Some, [], ap, arith, cond, count_by, false, get_or-take, inl, inr}
-use Rattle.std.proofs.Common.{length-take, slice_get, subst, sym, take, true, ℕ, ◌<◌, ◌∙◌, ◌∷◌, ◌≡◌}
+use Rattle.honest_places.proofs.Imports
+use Imports.{[], All-contains, All-contains_itself, All-take, AllZip, ap, arith, Bool, cond, Contains}
+use Imports.{Contains-cons_cases, Contains-head, Contains-later, count_by, false, get_or-le-sum_by, get_or-take}
+use Imports.{get_or_from_slice_get, inl, inr, length-take, List, list_any, list_any_of, list_any_some, slice_get}
+use Imports.{slice_get_within, Some, subst, sum_by_more_le, sym, take, true, ℕ, ◌<◌, ◌∙◌, ◌∷◌, ◌≡◌}
 use Rattle.std.proofs.lemmas.Bool.{false_from_ne_true, false≢true}
-use Rattle.std.proofs.lemmas.List.Elements.{All-contains, All-contains_itself, All-take}
-use Rattle.std.proofs.lemmas.List.Sums.{get_or-le-sum_by, sum_by_more_le}
-use Rattle.std.proofs.lemmas.Option.{get_or_from_slice_get, slice_get_within}
-use Rattle.std.specs.List.{AllZip, list_any}
 
 -- what is among the first is among all
 pub Contains-take : {X : Type 0} (xs : List X) (k : ℕ) (x : X) → Contains (take k xs) x → Contains xs x

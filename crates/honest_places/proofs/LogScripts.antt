@@ -1,60 +1,18 @@
 -- The machines of a script come to an honest world: the entries that they make are valid under its
 -- roster.
-use Rattle.canonical_sexp.specs.Text.{text_of}
-use Rattle.election_script.specs.Lawful.{IsCast, IsDeedAmong, IsLawful, max_actions}
-use Rattle.election_script.specs.declared.script.Cast0.{Cast0}
-use Rattle.election_script.specs.declared.script.Script.{Script}
-use Rattle.entry_format.proofs.Keys.{signature_small, signature_some}
-use Rattle.entry_format.proofs.Limits.{signed_fits}
-use Rattle.entry_format.specs.Deeds.{IsDeedOf}
-use Rattle.entry_format.specs.EntryText.{IsDeed, IsDeedIn, IsDigest, IsEntry, body_tree}
-use Rattle.entry_format.specs.Nodes.{node_of_sealed}
-use Rattle.entry_format.specs.SealedEntry.{SealedEntry}
-use Rattle.entry_format.specs.Unsealing.{IsValid, key_at}
-use Rattle.entry_format.specs.declared.deed.Deed.{Deed}
-use Rattle.entry_format.specs.declared.deed.Deed.TheVariants.{Activate, Authorise, Cancel, Cast, Challenge, Closed}
-use Rattle.entry_format.specs.declared.deed.Deed.TheVariants.{Commit, Opened, Override}
-use Rattle.entry_order.proofs.FewStamps.{stamps_are_few}
-use Rattle.entry_order.proofs.Frontiers.{frontier_entry}
-use Rattle.entry_order.proofs.Histories.{nth_split}
-use Rattle.entry_order.proofs.Machines.{length_play, length_start}
-use Rattle.entry_order.proofs.MadePlays.{plays_are_made}
-use Rattle.entry_order.proofs.Orders.{held_was_sent, next_of, was_sent}
-use Rattle.entry_order.proofs.Places.{all_at, all_from_places, element_at, member_at}
-use Rattle.entry_order.proofs.Plays.{IsOrderly-play, IsOrderly-start}
-use Rattle.entry_order.specs.Ascending.{IsAscending}
-use Rattle.entry_order.specs.Frontier.{frontier}
-use Rattle.entry_order.specs.HeldBefore.{WasSentAfter}
-use Rattle.entry_order.specs.History.{greatest_stamp, held, sent}
-use Rattle.entry_order.specs.Receipt.{IsOrderly}
-use Rattle.entry_order.specs.World.{IsLegalNext, Machine, World, history, history_of, sent_in, start}
-use Rattle.entry_order.specs.declared.event.Event.{Event}
-use Rattle.entry_order.specs.declared.event.Event.TheVariants.{Sent}
-use Rattle.entry_order.specs.declared.step.Step.{Step}
-use Rattle.honest_places.specs.HonestWorld.{IsHonestWorld}
-use Rattle.lms_sign.proofs.Heights.{leaves_of}
-use Rattle.lms_sign.proofs.Signatures.{index-signed, signed_signs}
-use Rattle.lms_sign.specs.Height.{IsHeight}
-use Rattle.lms_sign.specs.Secret.{public_of, signed_by}
-use Rattle.lms_sign.specs.Signs.{Signs}
-use Rattle.polling_world.proofs.Histories.{few_in_frontier, frontier_rises}
-use Rattle.polling_world.proofs.MadeEntries.{may_follow}
-use Rattle.polling_world.proofs.Rosters.{key_in_roster, length-id}
-use Rattle.polling_world.specs.Configs.{Config, config_of, script_configs}
-use Rattle.polling_world.specs.Keys.{post_of, roster_of}
-use Rattle.polling_world.specs.Making.{election_of, entry_with, made}
-use Rattle.polling_world.specs.Playing.{ComesTo}
-use Rattle.polling_world.specs.Sending.{MaySend}
-use Rattle.polling_world.specs.Worlds.{IsNextAt, IsNextOf, TellsNext}
-use Rattle.roster.specs.Machines.{max_machines}
-use Rattle.roster.specs.declared.post.Post.{Post}
-use Rattle.sha2.proofs.Facts256.{length-sha256}
-use Rattle.std.proofs.Common.{All, Contains, List, None, Option, Some, [], ap, arith, flat_map, length, length-append}
-use Rattle.std.proofs.Common.{map, option_map, refl, slice_get, subst, suc, sym, zero, ℕ, ◌++◌, ◌+◌, ◌<◌, ◌^◌, ◌∙◌, ◌∷◌}
-use Rattle.std.proofs.Common.{◌≡◌, ◌≤◌}
-use Rattle.std.proofs.lemmas.List.{length-map}
-use Rattle.std.proofs.lemmas.Option.{slice_get_within}
-use Rattle.std.specs.List.{enumerate_from}
+use Rattle.honest_places.proofs.Imports
+use Imports.{[], Activate, All, all_at, all_from_places, ap, arith, Authorise, body_tree, Cancel, Cast0, Closed}
+use Imports.{ComesTo, Config, config_of, Contains, Deed, election_of, element_at, entry_with, enumerate_from, Event}
+use Imports.{few_in_frontier, flat_map, frontier, frontier_entry, frontier_rises, greatest_stamp, held, held_was_sent}
+use Imports.{history, history_of, index-signed, IsAscending, IsCast, IsDeed, IsDeedAmong, IsDeedIn, IsDeedOf, IsDigest}
+use Imports.{IsEntry, IsHeight, IsHonestWorld, IsLawful, IsLegalNext, IsNextAt, IsNextOf, IsOrderly, IsOrderly-play}
+use Imports.{IsOrderly-start, IsValid, key_at, key_in_roster, leaves_of, length, length-append, length-id, length-map}
+use Imports.{length-sha256, length_play, length_start, List, Machine, made, map, max_actions, max_machines, may_follow}
+use Imports.{MaySend, member_at, next_of, node_of_sealed, None, nth_split, Opened, Option, option_map, Override}
+use Imports.{plays_are_made, Post, post_of, public_of, refl, roster_of, Script, script_configs, SealedEntry, Sent, sent}
+use Imports.{sent_in, signature_small, signature_some, signed_by, signed_fits, signed_signs, Signs, slice_get}
+use Imports.{slice_get_within, Some, stamps_are_few, start, Step, subst, suc, sym, TellsNext, text_of, was_sent}
+use Imports.{WasSentAfter, World, zero, ℕ, ◌++◌, ◌+◌, ◌<◌, ◌^◌, ◌∙◌, ◌∷◌, ◌≡◌, ◌≤◌}
 
 -- ---- entries that are made
 
@@ -67,10 +25,8 @@ deed_lawful machines (Authorise booth session) few ((cast, at, role), (least, mo
 deed_lawful machines (Override session how) few (least, most) = omega (arith, most)
 deed_lawful machines Closed few is = tt
 deed_lawful machines (Activate session) few (least, most) = omega (arith, most)
-deed_lawful machines (Commit session ballot) few ((least, most), digest, bytes) = (omega (arith, most), digest)
-deed_lawful machines (Cast session ballot) few ((least, most), digest, bytes) = (omega (arith, most), digest)
 deed_lawful machines (Cancel session) few (least, most) = omega (arith, most)
-deed_lawful machines (Challenge session ballot) few ((least, most), digest, bytes) = (omega (arith, most), digest)
+deed_lawful machines deed few is = (omega (arith, is.0.1), is.1)
 
 -- an election has the length of a digest
 length-election : (posts : List Post) → length (election_of posts) ≡ 32
@@ -98,6 +54,8 @@ module _ (config : Config) (k stamp : ℕ) (names : List (List ℕ)) (deed : Dee
       let signs : Signs public message signature =
       signed_signs config.key.kind config.key.height config.key.id config.key.seed k message height id unspent in
       let small = signature_small public message signature signs in
+      let index =
+      index-signed config.key.kind config.key.height config.key.id config.key.seed k message lawful.number in
       record {
         kept = record {
           spelt = record {
@@ -107,10 +65,7 @@ module _ (config : Config) (k stamp : ℕ) (names : List (List ℕ)) (deed : Dee
           };
           rising = rises;
           hashed = refl;
-          index = (
-            signature_some public message signature signs,
-            index-signed config.key.kind config.key.height config.key.id config.key.seed k message lawful.number,
-          );
+          index = (signature_some public message signature signs, index);
           signs = signs;
         };
         of_text = refl;
@@ -172,8 +127,7 @@ module _ (script : Script) (lawful : IsLawful script) (steps : List Step) (w : W
   -- its histories are legal, and what was got was sent
   orderly : IsOrderly node_of_sealed w
   orderly =
-      subst (IsOrderly node_of_sealed) (sym come.2)
-      (IsOrderly-play node_of_sealed come.0 script.log (next_lawful script come.0 come.1)
+      rw come.2 (IsOrderly-play node_of_sealed come.0 script.log (next_lawful script come.0 come.1)
       (start (length script.machines)) steps (IsOrderly-start node_of_sealed (length script.machines)))
 
   -- it has a machine for each of the script's
@@ -188,8 +142,7 @@ module _ (script : Script) (lawful : IsLawful script) (steps : List Step) (w : W
       history w m ≡ past ++ Sent e ∷ later → MaySendAt script m past e
   could_send m past e later is =
       may_at script come.0 come.1 m past e
-      (plays_are_made node_of_sealed come.0 script.log (length script.machines) steps m past e later
-      (sym (ap (λ (v : World SealedEntry). history v m) come.2) ∙ is))
+      (plays_are_made node_of_sealed come.0 script.log (length script.machines) steps m past e later (rw come.2 at is))
 
   -- a machine sent no more entries than it has actions
   few_by_one : (m : ℕ) (a : Machine SealedEntry) (cast : Cast0) → slice_get w m ≡ Some a →
@@ -266,8 +219,7 @@ module _ (script : Script) (lawful : IsLawful script) (steps : List Step) (w : W
       } in
       let some : length names ≤ 16384 =
       (let room = may.room in let least = lawful.log.1 in omega (arith, few_in_frontier past, room, least)) in
-      subst (λ (f : SealedEntry). IsValid (roster_of script) (election_of (roster_of script)) f.text f) (sym may.made)
-      (made_valid config k stamp names may.deed entry some (frontier_rises (held past)) lawful.height
+      rw may.made (made_valid config k stamp names may.deed entry some (frontier_rises (held past)) lawful.height
       (length-id script.seed cast.name) unspent (omega (arith, there, length-map script.machines (post_of script)))
       (key_in_roster script m cast at))
 

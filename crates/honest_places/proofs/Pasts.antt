@@ -1,40 +1,18 @@
 -- What machines of an honest polling place held when they sent, and what their rules then asked for.
+use Rattle.honest_places.proofs.Imports
+use Imports.{[], Any, ap, arith, ballot_of, Bool, Booth, booth_of, Contains, Contains-map, Contains-map_cases, Decides}
+use Imports.{Deed, Distinct, Ends, entries_in, Entry, entry_of, Err, Event, false, held, held_rises, held_was_sent}
+use Imports.{HeldBefore, history, HoldsOwn, HoldsSome, inl, inr, is_kind, IsDeedOf, IsFirstOf, IsHonest, IsNext, IsPath}
+use Imports.{IsTrue, IsWholeHistory, Kind, kind_of, List, MayAs, named_held, next_of, node_of_sealed, Ok, one_order}
+use Imports.{Post, Precedes, refl, Role, role_at, RoleRefuses, SealedEntry, Sent, sent_in, session_of, split_two, subst}
+use Imports.{Supervisor, sym, true, was_sent, WasSentAfter, whole_or_not, World, ℕ, ◌++◌, ◌<◌, ◌∙◌, ◌∷◌, ◌≡◌, ◌⊎◌}
 use Rattle.deed_history.proofs.Deciding.{holds_decides, own_decides}
-use Rattle.deed_history.specs.Deeds.{Ends}
-use Rattle.deed_history.specs.Held.{HoldsOwn, HoldsSome}
-use Rattle.entangled_log.proofs.Whole.{whole_or_not}
-use Rattle.entry_format.specs.Deeds.{IsDeedOf}
-use Rattle.entry_format.specs.Nodes.{node_of_sealed}
-use Rattle.entry_format.specs.SealedEntry.{SealedEntry}
-use Rattle.entry_format.specs.declared.deed.Deed.{Deed}
-use Rattle.entry_format.specs.declared.entry.Entry.{Entry}
-use Rattle.entry_order.proofs.Histories.{split_two}
-use Rattle.entry_order.proofs.Lists.{Contains-map, Contains-map_cases}
-use Rattle.entry_order.proofs.Orders.{along, held_rises, held_was_sent, named_held, next_of, one_order, was_sent}
-use Rattle.entry_order.specs.HeldBefore.{HeldBefore, WasSentAfter}
-use Rattle.entry_order.specs.History.{IsNext, entry_of, held}
-use Rattle.entry_order.specs.Naming.{Distinct}
-use Rattle.entry_order.specs.Precedes.{IsPath, Precedes}
-use Rattle.entry_order.specs.World.{World, history, sent_in}
-use Rattle.entry_order.specs.declared.event.Event.{Event}
-use Rattle.entry_order.specs.declared.event.Event.TheVariants.{Sent}
-use Rattle.honest_places.specs.Honest.{IsHonest, MayAs, role_at}
-use Rattle.item_list.specs.Causes.{IsFirstOf}
-use Rattle.polling_world.specs.Rules.{IsWholeHistory, RoleRefuses, entries_in}
-use Rattle.roster.specs.declared.post.Post.{Post}
-use Rattle.roster.specs.declared.post.Role.{Role}
-use Rattle.roster.specs.declared.post.Role.TheVariants.{Booth, Supervisor}
-use Rattle.rule_language.specs.declared.kind.Kind.{Kind}
-use Rattle.rule_meaning.specs.Tests.{is_kind}
-use Rattle.std.proofs.Common.{Any, Bool, Contains, Decides, Err, IsTrue, List, Ok, [], ap, arith, false, inl, inr, refl}
-use Rattle.std.proofs.Common.{subst, sym, true, ℕ, ◌++◌, ◌<◌, ◌∙◌, ◌∷◌, ◌≡◌, ◌⊎◌}
-use Rattle.survivor_rows.specs.Rows.{ballot_of, booth_of, kind_of, session_of}
+use Rattle.entry_order.specs.HeldBefore.{HeldBefore.itself}
 use Rattle.entry_format.specs.declared.deed.Deed.TheVariants as deed
 use Rattle.entry_format.specs.declared.deed.How.TheVariants as how
 use Rattle.rule_language.specs.declared.kind.Kind.TheVariants as kind
 use Rattle.supervisor_core.specs.Table as supervisor
 use Rattle.booth_core.specs.Table as booth
-use Rattle.entry_order.specs.HeldBefore.{HeldBefore.itself}
 
 -- ---- deeds and their kinds
 
@@ -55,31 +33,23 @@ deed_like kind.Challenge d = deed.Challenge (session_of d) (ballot_of d)
 -- a deed that a rule sees as of a kind is that one
 pub of_kind : (k : Kind) (d : Deed) → IsTrue (is_kind k (kind_of d)) → d ≡ deed_like k d
 of_kind kind.Any d h = refl
-of_kind kind.Opened deed.Opened h = refl
-of_kind kind.Authorise (deed.Authorise booth session) h = refl
-of_kind kind.Override (deed.Override session how.Cancel) h = refl
-of_kind kind.Forced (deed.Override session how.Cast) h = refl
-of_kind kind.Closed deed.Closed h = refl
-of_kind kind.Activate (deed.Activate session) h = refl
-of_kind kind.Commit (deed.Commit session ballot) h = refl
-of_kind kind.Cast (deed.Cast session ballot) h = refl
-of_kind kind.Cancel (deed.Cancel session) h = refl
-of_kind kind.Challenge (deed.Challenge session ballot) h = refl
 of_kind k (deed.Override session how.Cancel) h = cc
-of_kind k (deed.Override session how.Cast) h = cc
 of_kind k d h = cc
 
--- a deed of casting ends its session
-pub cast_ends : (d : Deed) → IsTrue (is_kind kind.Cast (kind_of d)) → Ends (session_of d) d
-cast_ends d h = inl (ballot_of d, of_kind kind.Cast d h)
+-- whether deeds of the kind end a session
+abbrev pub ends_session : Kind → Bool
+ends_session kind.Cast = true
+ends_session kind.Cancel = true
+ends_session kind.Challenge = true
+ends_session other = false
 
--- a deed of cancelling ends its session
-pub cancel_ends : (d : Deed) → IsTrue (is_kind kind.Cancel (kind_of d)) → Ends (session_of d) d
-cancel_ends d h = inr (inl (of_kind kind.Cancel d h))
-
--- a deed of challenging ends its session
-pub challenge_ends : (d : Deed) → IsTrue (is_kind kind.Challenge (kind_of d)) → Ends (session_of d) d
-challenge_ends d h = inr (inr (ballot_of d, of_kind kind.Challenge d h))
+-- a deed of such a kind ends its own
+pub kind_ends : (k : Kind) → IsTrue (ends_session k) → (d : Deed) → IsTrue (is_kind k (kind_of d)) →
+    Ends (session_of d) d
+kind_ends kind.Cast ends d h = inl (ballot_of d, of_kind kind.Cast d h)
+kind_ends kind.Cancel ends d h = inr (inl (of_kind kind.Cancel d h))
+kind_ends kind.Challenge ends d h = inr (inr (ballot_of d, of_kind kind.Challenge d h))
+kind_ends k ends d h = cc
 
 -- a deed is one of one role
 one_role : (role other : Role) (d : Deed) → IsDeedOf role d → IsDeedOf other d → role ≡ other
@@ -160,9 +130,8 @@ module _ {posts : List Post} {w : World SealedEntry} (honest : IsHonest posts w)
   allowed role e s d is of =
       let mine = role_at posts e.entry.maker in
       let m = may e s in
-      let same : mine ≡ role = one_role mine role d (subst (IsDeedOf mine) is m.of_role) of in
-      let free = subst (λ (c : Deed). RoleRefuses mine e.entry.maker s.past c (Ok tt)) is m.no_cause in
-      (same, subst (λ (r : Role). IsFree r e.entry.maker s.past d) same (is_free mine e.entry.maker s.past d free))
+      let same : mine ≡ role = one_role mine role d (rw is at m.of_role) of in
+      (same, is_free role e.entry.maker s.past d (rw (is, same) at m.no_cause))
 
   -- what its maker held was sent
   held_too : (e : SealedEntry) (s : SentBy w e) (f : SealedEntry) → Contains (held s.past) f → Contains (sent_in w) f
@@ -204,13 +173,6 @@ module _ {posts : List Post} {w : World SealedEntry} (honest : IsHonest posts w)
         Contains (held s.past) f → Precedes node_of_sealed (sent_in w) f e
     held_precedes e s f ce c =
         (one_order node_of_sealed w honest.orderly distinct f e (held_too e s f c) ce).1 (itself s.past (after e s) c)
-
-    -- what precedes an entry that precedes e precedes e
-    pub precedes_through : (f g e : SealedEntry) → Precedes node_of_sealed (sent_in w) f g →
-        Precedes node_of_sealed (sent_in w) g e → Precedes node_of_sealed (sent_in w) f e
-    precedes_through f g e p q =
-        (one_order node_of_sealed w honest.orderly distinct f e p.0 q.1).1
-        (along w f g e (ordered f g p) (ordered g e q))
 
     -- stamps rise from what precedes e to e
     pub before_lower : (f e : SealedEntry) → Precedes node_of_sealed (sent_in w) f e →

@@ -1,48 +1,18 @@
 -- What is left of a log is read as its events, in one way.
-use Rattle.canonical_sexp.proofs.Unique.{one_tree}
-use Rattle.canonical_sexp.specs.Text.{Fits, IsProperPrefixOfText, text_of}
-use Rattle.entry_format.proofs.Limits.{members_in}
-use Rattle.entry_format.specs.EntryText.{signed_tree}
-use Rattle.entry_format.specs.Nodes.{node_of_sealed}
-use Rattle.entry_format.specs.SealedEntry.{SealedEntry}
-use Rattle.entry_format.specs.Unsealing.{Unseals}
-use Rattle.entry_format.specs.declared.plain.EntryFault.{EntryFault}
-use Rattle.entry_order.proofs.Lists.{Contains-head, Contains-later}
-use Rattle.entry_order.proofs.Places.{all_from_places, member_at}
-use Rattle.entry_order.specs.History.{IsLegal, entry_of}
-use Rattle.entry_order.specs.World.{World, history}
-use Rattle.entry_order.specs.declared.event.Event.{Event}
-use Rattle.entry_order.specs.declared.event.Event.TheVariants.{Got, Sent}
-use Rattle.honest_places.proofs.Given.{event_was_sent}
-use Rattle.honest_places.proofs.Lists.{Contains-take}
-use Rattle.honest_places.specs.HonestWorld.{IsHonestWorld}
-use Rattle.honest_places.specs.WhatIsLeft.{AreLeftOf, AreReadIn, IsCutAt, IsLeftIn, IsLeftOf, IsPrefixRead, IsReadIn}
-use Rattle.honest_places.specs.WhatIsLeft.{IsUnbrokenLog, IsWholeRead, StandWhole, end_of}
-use Rattle.log_files.proofs.Headers.{header_fits}
-use Rattle.log_files.proofs.OneBreak.{breaks_once}
-use Rattle.log_files.proofs.OneLog.{one_said}
+use Rattle.honest_places.proofs.Imports
+use Imports.{[], All-from_recursion, All-get_or, AllByRecursion, ap, append-nil, append_assoc, AreLeftOf, AreLog}
+use Imports.{AreReadIn, arith, Bool, breaks_once, BreaksAt, cases_lt, Clean, Contains, Contains-head, Contains-later}
+use Imports.{drop, EachGives, election_of, End, end_of, entry_of, EntryFault, Event, event_of, false, Fits, flat_map}
+use Imports.{get_or, get_or_from_slice_get, Gives, Got, HasHeader, header_fits, header_tree, history, if◌then◌else◌}
+use Imports.{inl, inr, IsCutAt, IsEnd, IsHonestWorld, IsLeftIn, IsLeftOf, IsLegal, IsPrefixRead, IsProperPrefixOfText}
+use Imports.{IsReadSealed, IsUnbrokenLog, IsWholeRead, Kept, kept_of, kept_with, length, length-append, length-drop}
+use Imports.{length-flat_map, List, log_text, LogRead, Malformed, map, member_at, members_in, node_of_sealed, None, Ok}
+use Imports.{one_said, one_sealed, one_tree, Post, record_text, refl, refused_of, Result, SaysSealed, SealedEntry, Sent}
+use Imports.{signed_tree, slice_get, slice_get-get_or, slice_get_within, Some, StandWhole, subst, suc, sum_by-take-le}
+use Imports.{sym, take, take-append-add, take-append-drop, take-append-le, take-take, take_all, text_more, text_of}
+use Imports.{Torn, true, Unseals, World, zero, ℕ, ◌++◌, ◌+◌, ◌-◌, ◌<◌, ◌^◌, ◌∙◌, ◌∷◌, ◌≡◌, ◌≤◌, ◌⊎◌}
+use Rattle.honest_places.proofs.{Given.event_was_sent, Lists.Contains-take}
 use Rattle.log_files.proofs.RecordTexts.{records_fit, records_spelt, tree_of}
-use Rattle.log_files.proofs.SealedLogs.{kept_with, one_sealed}
-use Rattle.log_files.proofs.WrittenLogs.{text_more}
-use Rattle.log_files.specs.LogText.{AreLog, EachGives, Gives, HasHeader, IsEnd, header_tree, kept_of, refused_of}
-use Rattle.log_files.specs.SealedLog.{BreaksAt, IsReadSealed, SaysSealed, event_of}
-use Rattle.log_files.specs.Written.{log_text, record_text}
-use Rattle.log_files.specs.declared.plain_log.End.{End}
-use Rattle.log_files.specs.declared.plain_log.End.TheVariants.{Clean, Malformed, Torn}
-use Rattle.log_files.specs.declared.sealed_log.Kept.{Kept}
-use Rattle.log_files.specs.Logs.{LogRead}
-use Rattle.polling_world.specs.Making.{election_of}
-use Rattle.roster.specs.declared.post.Post.{Post}
-use Rattle.std.proofs.Common.{All, Bool, Contains, List, None, Ok, Result, Some, [], ap, append-nil, append_assoc}
-use Rattle.std.proofs.Common.{arith, drop, false, flat_map, get_or, if◌then◌else◌, inl, inr, length, length-append}
-use Rattle.std.proofs.Common.{length-drop, map, refl, slice_get, subst, suc, sym, take, take-append-drop, take-take}
-use Rattle.std.proofs.Common.{take_all, true, zero, ℕ, ◌++◌, ◌+◌, ◌-◌, ◌<◌, ◌^◌, ◌∙◌, ◌∷◌, ◌≡◌, ◌≤◌, ◌⊎◌}
-use Rattle.std.proofs.Math.Seq.{take-append-add}
-use Rattle.std.proofs.lemmas.Bool.{cases_lt}
-use Rattle.std.proofs.lemmas.Grind.{flat_map-append}
-use Rattle.std.proofs.lemmas.List.{take-append-le}
-use Rattle.std.proofs.lemmas.List.Elements.{All-get_or, All-map}
-use Rattle.std.proofs.lemmas.Option.{get_or_from_slice_get, slice_get-get_or, slice_get_within}
 
 -- ---- texts that are cut
 
@@ -74,28 +44,20 @@ module _ {X : Type 0} (text : X → List ℕ) where
       let none : take {A = ℕ} n [] ≡ [] = take_all n [] (omega arith) in
       record { count = 0; rest = []; some_of = omega arith; spelt = none; inside = inl (refl, refl) }
   cut_of (x ∷ xs) n =
+      let split = take-append-drop n (text x) in
       elim (cases_lt n (length (text x))) [
         | inl less ↦ record {
           count = 0;
           rest = take n (text x);
           some_of = omega arith;
           spelt = take-append-le n (text x) (flat_map text xs) (omega (arith, less));
-          inside = inr (
-            x,
-            refl,
-            (
-              drop n (text x),
-              omega (arith, less, length-drop n (text x)),
-              sym (take-append-drop n (text x)),
-            ),
-          );
+          inside = inr (x, refl, (drop n (text x), omega (arith, less, length-drop n (text x)), sym split));
         }
         | inr le ↦ (let c = cut_of xs (n - length (text x)) in record {
           count = suc c.count;
           rest = c.rest;
           some_of = omega (arith, c.some_of);
-          spelt = take_after (text x) (flat_map text xs) n le ∙ ap (λ (bs : List ℕ). text x ++ bs) c.spelt
-              ∙ sym (append_assoc (text x) (flat_map text (take c.count xs)) c.rest);
+          spelt = rw (take_after (text x) (flat_map text xs) n le, c.spelt, append_assoc) refl;
           inside = elim c.inside [ inl h ↦ inl (ap suc h.0, h.1) | inr h ↦ inr h ];
         })
       ]
@@ -106,22 +68,17 @@ module _ {X : Type 0} (text : X → List ℕ) where
 legal_prefix : (owner : ℕ) (h : List (Event SealedEntry)) (k : ℕ) → IsLegal node_of_sealed owner h →
     IsLegal node_of_sealed owner (take k h)
 legal_prefix owner h k legal before x later is =
-    legal before x (later ++ drop k h)
-    (sym (take-append-drop k h) ∙ ap (λ (p : List (Event SealedEntry)). p ++ drop k h) is
-    ∙ append_assoc before (x ∷ later) (drop k h))
+    legal before x (later ++ drop k h) (cc (take-append-drop k h, append_assoc before (x ∷ later) (drop k h)))
 
 -- the text of the first events is no longer than that of all
 end_within : (owner : ℕ) (events : List (Event SealedEntry)) (k : ℕ) →
     end_of owner events k ≤ length (log_text owner events)
 end_within owner events k =
     let front = text_of (header_tree owner) in
-    let first = flat_map record_text (take k events) in
-    let last = flat_map record_text (drop k events) in
-    let all : flat_map record_text events ≡ first ++ last =
-    ap (flat_map record_text) (sym (take-append-drop k events))
-    ∙ flat_map-append record_text (take k events) (drop k events) in
-    let long = length-append front (flat_map record_text events) in
-    omega (arith, ap length all, long, length-append front first, length-append first last)
+    let fewer = sum_by-take-le (λ (x : Event SealedEntry). length (record_text x)) events k in
+    let all = length-append front (flat_map record_text events) in
+    let some = length-append front (flat_map record_text (take k events)) in
+    omega (arith, fewer, all, some, length-flat_map record_text (take k events), length-flat_map record_text events)
 
 -- a whole log is what is left of it where nothing is gone
 pub whole_is_left : (owner : ℕ) (events : List (Event SealedEntry)) → IsLeftOf owner events (log_text owner events)
@@ -251,10 +208,6 @@ module _ (posts : List Post) where
   abbrev AreValid : List (Event SealedEntry) → Type 0
   AreValid events = (x : Event SealedEntry) → Contains events x → IsValidly (entry_of x)
 
-  -- the events after the first are valid
-  later_valid : (x : Event SealedEntry) (events : List (Event SealedEntry)) → AreValid (x ∷ events) → AreValid events
-  later_valid x events valid y c = valid y (Contains-later x events y c)
-
   -- the signed tree's text unseals to the entry
   unseals_tree : (e : SealedEntry) → IsValidly e →
       Unseals posts (election_of posts) (text_of (signed_tree e.entry e.signature)) (Ok e)
@@ -269,27 +222,17 @@ module _ (posts : List Post) where
   gives_kept place (Got e) valid =
       inl (members_in (signed_tree e.entry e.signature), false, refl, (refl, refl, unseals_tree e valid))
 
-  -- the trees of valid events are read as their records
-  all_given : (n : ℕ) (events : List (Event SealedEntry)) → AreValid events →
-      EachGives (IsReadSealed posts (election_of posts)) n (map tree_of events) (readings_of (kept_from n events))
-  all_given n [] valid = tt
-  all_given n (x ∷ events) valid =
-      (gives_kept n x (valid x (Contains-head x events)), all_given (n + 1) events (later_valid x events valid))
-
-  -- the records of valid events keep within the limits of trees
-  all_fit : (events : List (Event SealedEntry)) → AreValid events → All Fits (map tree_of events)
-  all_fit events valid =
-      All-map Fits tree_of events (all_from_places (λ x. Fits (tree_of x)) events (λ i x at.
-      records_fit x (valid x (member_at events i x at)).kept))
-
-  -- the texts of their trees are those of their records
-  all_spelt : (events : List (Event SealedEntry)) → AreValid events →
-      flat_map text_of (map tree_of events) ≡ flat_map record_text events
-  all_spelt [] valid = refl
-  all_spelt (x ∷ events) valid =
-      ap (λ (bs : List ℕ). bs ++ flat_map text_of (map tree_of events))
-      (records_spelt x (valid x (Contains-head x events)).kept)
-      ∙ ap (λ (bs : List ℕ). record_text x ++ bs) (all_spelt events (later_valid x events valid))
+  -- the trees of valid events' records are within the limits, spelt as the records and read as them
+  trees_right : (n : ℕ) (events : List (Event SealedEntry)) → AreValid events →
+      AllByRecursion Fits (map tree_of events)
+      × (flat_map text_of (map tree_of events) ≡ flat_map record_text events)
+      × EachGives (IsReadSealed posts (election_of posts)) n (map tree_of events) (readings_of (kept_from n events))
+  trees_right n [] valid = (tt, refl, tt)
+  trees_right n (x ∷ events) valid =
+      let here = valid x (Contains-head x events) in
+      let (fit, spelt, gives) = trees_right (n + 1) events (λ y c. valid y (Contains-later x events y c)) in
+      let first = records_spelt x here.kept in
+      ((records_fit x here.kept, fit), rw (first, spelt) refl, (gives_kept n x here, gives))
 
 -- ---- the logs of an honest world
 
@@ -335,13 +278,9 @@ module _ (posts : List Post) (w : World SealedEntry) (honest : IsHonestWorld pos
             | inr (x, at, (more, some, text)) ↦
                 (let there = event_was_sent w honest.orderly m x (member_at events cut.count x at) in
                 let kept = (honest.valid (entry_of x) there).kept in
-                inr (record {
-                  tree = tree_of x;
-                  rest = more;
-                  fits = records_fit x kept;
-                  goes_on = some;
-                  spelt = records_spelt x kept ∙ text;
-                }))
+                let fit = records_fit x kept in
+                let spelt = records_spelt x kept ∙ text in
+                inr (record { tree = tree_of x; rest = more; fits = fit; goes_on = some; spelt = spelt }))
           ]
 
       -- as many bytes follow the whole records as the rest has
@@ -349,17 +288,12 @@ module _ (posts : List Post) (w : World SealedEntry) (honest : IsHonestWorld pos
       size_is =
           let front = text_of (header_tree m) in
           let whole = flat_map record_text first in
-          omega (
-            arith,
-            ap length spelt,
-            length-append front (whole ++ cut.rest),
-            length-append whole cut.rest,
-            length-append front whole,
-          )
+          let all = length-append front (whole ++ cut.rest) in
+          omega (arith, ap length spelt, all, length-append whole cut.rest, length-append front whole)
 
       -- they say the records of the first events
       are_log : AreLog (IsReadSealed posts (election_of posts)) bytes m (kept_from 0 first) [] end
-      are_log = record {
+      are_log = let (fit, same, gives) = trees_right posts 0 first first_valid in record {
         following = flat_map record_text first ++ cut.rest;
         trees = map tree_of first;
         readings = readings_of (kept_from 0 first);
@@ -367,16 +301,13 @@ module _ (posts : List Post) (w : World SealedEntry) (honest : IsHonestWorld pos
         header = spelt;
         records = record {
           rest = cut.rest;
-          within = all_fit posts first first_valid;
-          spelt = ap (λ (bs : List ℕ). bs ++ cut.rest) (sym (all_spelt posts first first_valid));
+          within = All-from_recursion Fits (map tree_of first) fit;
+          spelt = rw same refl;
           ends = is_end (end_of m events cut.count) _ cut.rest
-              (omega (
-                arith,
-                ap length (all_spelt posts first first_valid),
-                length-append (text_of (header_tree m)) (flat_map record_text first),
-              )) rest_is;
+              (omega (arith, ap length same, length-append (text_of (header_tree m)) (flat_map record_text first)))
+              rest_is;
         };
-        gives = all_given posts 0 first first_valid;
+        gives = gives;
         keeps = sym (kept_readings (kept_from 0 first));
         refuses = sym (none_refused (kept_from 0 first) 0);
       }
@@ -390,22 +321,14 @@ module _ (posts : List Post) (w : World SealedEntry) (honest : IsHonestWorld pos
                 (let one = text_more (text_of (header_tree m)) (log_text m first) (log_text m first ++ record_text x)
                 events cut.count x (slice_get_within events cut.count x at)
                 (sym (get_or_from_slice_get events cut.count x x at)) refl refl in
-                omega (
-                  arith,
-                  size_is,
-                  some,
-                  ap length one,
-                  ap length text,
-                  length-append cut.rest more,
-                  length-append (log_text m first) (record_text x),
-                ))
+                let grown = length-append (log_text m first) (record_text x) in
+                omega (arith, size_is, some, ap length one, ap length text, length-append cut.rest more, grown))
           ]
 
       -- which break nowhere
       no_break : BreaksAt m (kept_from 0 first) None
       no_break =
-          subst (IsLegal node_of_sealed m) (sym (events_kept 0 first))
-          (legal_prefix m events cut.count (honest.orderly.legal m))
+          rw (events_kept 0 first) (legal_prefix m events cut.count (honest.orderly.legal m))
 
       -- what is left of a machine's log has the header
       pub header_in : HasHeader bytes
@@ -426,17 +349,10 @@ module _ (posts : List Post) (w : World SealedEntry) (honest : IsHonestWorld pos
             whole = record { some_of = cut.some_of; fit = omega (arith, size_is); no_more = no_more };
             of_owner = same.owners;
             kept = ap (map event_of) same.kept ∙ events_kept 0 first;
-            places = λ i k at. omega (
-              arith,
-              places_kept 0 first i k
-                  (ap (λ (ks : List Kept). slice_get ks i) (sym same.kept) ∙ at),
-            );
+            places = λ i k at. omega (arith, places_kept 0 first i k (rw same.kept at at));
             none_refused = same.refused;
-            ends = subst (IsCutAt (end_of m events cut.count) (length bytes)) (sym same.ends)
-                (is_cut_at (end_of m events cut.count) (length bytes) cut.rest size_is);
-            no_break = breaks_once m log.kept log.broke None
-                (subst (λ (o : ℕ). BreaksAt o log.kept log.broke) same.owners said.broke)
-                (subst (λ (ks : List Kept). BreaksAt m ks None) (sym same.kept) no_break);
+            ends = rw same.ends (is_cut_at (end_of m events cut.count) (length bytes) cut.rest size_is);
+            no_break = breaks_once m log.kept log.broke None (rw same.owners at said.broke) (rw same.kept no_break);
           }
 
     -- a whole log is read as all that its machine did
@@ -444,7 +360,9 @@ module _ (posts : List Post) (w : World SealedEntry) (honest : IsHonestWorld pos
         IsWholeRead m events log
     whole_in log said =
         let read = read_in (log_text m events) (whole_is_left m events) log said in
-        let all : length events ≤ read.count = all_of read.count read.whole.no_more in
+        let none : read.count < length events → ⊥ = λ less.
+        omega (arith, read.whole.no_more less, end_within m events (read.count + 1)) in
+        let all : length events ≤ read.count = omega (arith, none) in
         let kept : take read.count events ≡ events = take_all read.count events all in
         record {
           prefix = read;
@@ -452,21 +370,6 @@ module _ (posts : List Post) (w : World SealedEntry) (honest : IsHonestWorld pos
           ends = one_end (end_of m events read.count) (length (log_text m events)) log.end Clean read.ends
               (ap (λ (h : List (Event SealedEntry)). length (log_text m h)) (sym kept));
         }
-      where
-        -- where all bytes are there, all records are complete
-        all_of : (k : ℕ) → (k < length events → length (log_text m events) < end_of m events (k + 1)) →
-            length events ≤ k
-        all_of k none =
-            elim (cases_lt k (length events)) [
-              | inl less ↦ absurd (omega (arith, none less, end_within m events (k + 1)))
-              | inr le ↦ le
-            ]
-
-  -- what is left of some machine's log is read as a log of the world
-  left_in_is_read : (bytes : List ℕ) → IsLeftIn w bytes → (log : LogRead) →
-      SaysSealed posts (election_of posts) bytes log → IsReadIn w log
-  left_in_is_read bytes (m, below, left) log said =
-      record { machine = m; bytes = bytes; there = below; read = read_in m below bytes left log said }
 
   -- files that are left are read one by one as logs of the world
   pub all_read : (files : List (List ℕ)) → AreLeftOf w files → (logs : List LogRead) → length logs ≡ length files →
@@ -474,9 +377,11 @@ module _ (posts : List Post) (w : World SealedEntry) (honest : IsHonestWorld pos
       SaysSealed posts (election_of posts) bytes log) → AreReadIn w logs
   all_read files left logs count said i d within =
       let inside : i < length files = omega (arith, within, count) in
-      left_in_is_read (get_or files i []) (All-get_or (IsLeftIn w) files i [] inside left) (get_or logs i d)
-      (said i (get_or files i []) (get_or logs i d) (slice_get-get_or files i [] inside)
-      (slice_get-get_or logs i d within))
+      let bytes = get_or files i [] in
+      let log = get_or logs i d in
+      let (m, below, left) = All-get_or (IsLeftIn w) files i [] inside left in
+      let told = said i bytes log (slice_get-get_or files i [] inside) (slice_get-get_or logs i d within) in
+      record { machine = m; bytes = bytes; there = below; read = read_in m below bytes left log told }
 
 -- ---- one reading
 
@@ -492,18 +397,14 @@ module _ (owner : ℕ) (events : List (Event SealedEntry)) (size : ℕ) where
       let fit = two.fit in
       omega (arith, over, fit, long, end_within owner (take j events) (k + 1))
 
-  -- only one number of records is complete
-  one_count : (k j : ℕ) → StandWhole owner events size k → StandWhole owner events size j → k ≡ j
-  one_count k j one two =
-      let not_less : k < j → ⊥ = no_fewer k j one two in
-      let not_more : j < k → ⊥ = no_fewer j k two one in
-      omega (arith, not_less, not_more)
-
 module _ (owner : ℕ) (events : List (Event SealedEntry)) (bytes : List ℕ) (log other : LogRead)
     (one : IsPrefixRead owner events bytes log) (two : IsPrefixRead owner events bytes other) where
   -- two readings of the same bytes find the same number of whole records
   counts : one.count ≡ two.count
-  counts = one_count owner events (length bytes) one.count two.count one.whole two.whole
+  counts =
+      let not_less = no_fewer owner events (length bytes) one.count two.count one.whole two.whole in
+      let not_more = no_fewer owner events (length bytes) two.count one.count two.whole one.whole in
+      omega (arith, not_less, not_more)
 
   -- two readings of the same bytes have the same records
   pub same_kept : log.kept ≡ other.kept

@@ -1,13 +1,8 @@
 -- The file with the text of a script's roster gives the script's roster.
-use Rattle.election_script.specs.declared.script.Script.{Script}
-use Rattle.entry_format.specs.SealedEntry.{SealedEntry}
-use Rattle.entry_order.specs.World.{World}
-use Rattle.evidence.specs.Refusal.{Refusal}
-use Rattle.evidence.specs.RosterFile.{GivesRoster}
-use Rattle.evidence.specs.declared.roster_file.RosterRead.{RosterRead}
+use Rattle.honest_places.proofs.Imports
+use Imports.{Err, GivesRoster, IsRosterOf, List, Ok, Option, Refusal, Result, RosterRead, Script, SealedEntry, World, ℕ}
+use Imports.{◌≡◌}
 use Rattle.honest_places.proofs.RosterTexts.{read_of_script, script_roster_given}
-use Rattle.honest_places.specs.Places.{IsRosterOf}
-use Rattle.std.proofs.Common.{Err, List, Ok, Option, Result, subst, ℕ, ◌≡◌}
 
 module _ (script : Script) (w : World SealedEntry) (roster : Option (List ℕ)) (is : IsRosterOf script w roster)
     (name : List ℕ) where
@@ -15,8 +10,7 @@ module _ (script : Script) (w : World SealedEntry) (roster : Option (List ℕ)) 
   given : (answer : Result RosterRead Refusal) → GivesRoster name roster answer →
       answer ≡ Ok (read_of_script script is.lawful)
   given answer gives =
-      script_roster_given script is.lawful name answer
-      (subst (λ (file : Option (List ℕ)). GivesRoster name file answer) is.text gives)
+      script_roster_given script is.lawful name answer (rw is.text at gives)
 
   -- the file of a script's roster isn't refused
   pub roster_not_refused : (refusal : Refusal) → ¬ GivesRoster name roster (Err refusal)

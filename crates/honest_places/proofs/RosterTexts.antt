@@ -1,30 +1,11 @@
 -- The text of a script's roster is read as that roster.
-use Rattle.canonical_sexp.specs.Sexp.{forest_of}
-use Rattle.canonical_sexp.specs.Text.{atom_text, text_of, texts_of}
-use Rattle.election_script.specs.Lawful.{IsLawful}
-use Rattle.election_script.specs.declared.script.Script.{Script}
-use Rattle.entry_format.specs.SealedEntry.{SealedEntry}
-use Rattle.entry_order.specs.World.{World}
-use Rattle.entry_order.specs.declared.step.Step.{Step}
-use Rattle.evidence.specs.Refusal.{Refusal}
-use Rattle.evidence.specs.RosterFile.{GivesRoster, max_roster, roster_read}
-use Rattle.evidence.specs.declared.roster_file.RosterRead.{RosterRead}
+use Rattle.honest_places.proofs.Imports
+use Imports.{[], All, All-head, All-tail, ap, arith, atom_text, Booth, ComesTo, election_of, forest_of, GivesRoster}
+use Imports.{HasKey, HaveText, inl, inr, IsLawful, IsName, IsOfScript, IsOkAnd, length, length-append, List, map}
+use Imports.{max_machines, max_roster, Ok, one_reading, Post, post_tree, refl, Refusal, Result, Role, role_word}
+use Imports.{roster_fits, roster_has_text, roster_of, roster_read, roster_tree, RosterRead, Script, SealedEntry, Some}
+use Imports.{Step, Supervisor, text_of, texts_of, World, ℕ, ◌*◌, ◌∙◌, ◌∷◌, ◌≡◌, ◌≤◌}
 use Rattle.honest_places.proofs.ShortLogs.{atom}
-use Rattle.honest_places.specs.OfScript.{IsOfScript}
-use Rattle.polling_world.proofs.Rosters.{roster_has_text}
-use Rattle.polling_world.specs.Keys.{roster_of}
-use Rattle.polling_world.specs.Making.{election_of}
-use Rattle.polling_world.specs.Playing.{ComesTo}
-use Rattle.roster.proofs.Fits.{roster_fits}
-use Rattle.roster.proofs.One.{one_reading}
-use Rattle.roster.specs.Machines.{HaveText, IsName, max_machines}
-use Rattle.roster.specs.RosterText.{HasKey, post_tree, role_word, roster_tree}
-use Rattle.roster.specs.declared.post.Post.{Post}
-use Rattle.roster.specs.declared.post.Role.{Role}
-use Rattle.roster.specs.declared.post.Role.TheVariants.{Booth, Supervisor}
-use Rattle.std.proofs.Common.{All, IsOkAnd, List, Ok, Result, Some, [], ap, arith, codes, inl, inr, length}
-use Rattle.std.proofs.Common.{length-append, map, refl, subst, sym, ℕ, ◌*◌, ◌∙◌, ◌∷◌, ◌≡◌, ◌≤◌}
-use Rattle.std.proofs.lemmas.List.Elements.{All-head, All-tail}
 
 -- a machine's text has at most 200 bytes
 posts_short : (machines : List Post) → All (λ (post : Post). IsName post.name) machines → All HasKey machines →
@@ -35,21 +16,19 @@ posts_short (post ∷ machines) named keyed =
     let key : length post.key ≡ 56 = All-head HasKey post machines keyed in
     let rest = posts_short machines (All-tail (λ (post : Post). IsName post.name) post machines named)
     (All-tail HasKey post machines keyed) in
-    let first = atom post.name (omega (arith, name)) in
-    omega (arith, length-append {A = ℕ}, rest, name, key, first, word post.role, atom post.key (omega (arith, key)))
+    omega (arith, length-append {A = ℕ}, rest, name, key, word post.role, atom)
   where
     -- the word of a role
     word : (role : Role) → length (atom_text (role_word role)) ≤ 16
-    word Supervisor = omega (arith, atom (codes "supervisor") (omega arith))
-    word Booth = omega (arith, atom (codes "booth") (omega arith))
+    word Supervisor = omega (arith, atom)
+    word Booth = omega (arith, atom)
 
 -- so a roster's text is within the limit of its file
 roster_short : (machines : List Post) → HaveText machines → length (text_of (roster_tree machines)) ≤ max_roster
 roster_short machines have =
     let few : length machines ≤ max_machines = have.roster.few in
-    let word = atom (codes "roster") (omega arith) in
     let posts = posts_short machines have.roster.named have.keys in
-    omega (arith, few, length-append {A = ℕ}, word, atom (codes "1") (omega arith), posts)
+    omega (arith, few, length-append {A = ℕ}, atom, posts)
 
 module _ (script : Script) (lawful : IsLawful script) where
   -- the text of the script's roster
@@ -58,10 +37,8 @@ module _ (script : Script) (lawful : IsLawful script) where
 
   -- the script's roster, in its election
   abbrev pub read_of_script : RosterRead
-  read_of_script = record {
-    roster = record { machines = roster_of script };
-    election = election_of (roster_of script);
-  }
+  read_of_script =
+      record { roster = record { machines = roster_of script }; election = election_of (roster_of script) }
 
   -- the file of a script's roster gives that roster
   pub script_roster_given : (name : List ℕ) (answer : Result RosterRead Refusal) → GivesRoster name (Some text) answer →
@@ -79,18 +56,11 @@ module _ (script : Script) (lawful : IsLawful script) where
     -- under the script's roster, and in its election, the world is of the script
     pub world_of_script : IsOfScript (roster_of script) (election_of (roster_of script)) w
     unfolding election_of
-    world_of_script = record {
-      script = script;
-      steps = steps;
-      lawful = lawful;
-      comes = comes;
-      roster = refl;
-      in_election = refl;
-    }
+    world_of_script =
+        record { script = script; steps = steps; lawful = lawful; comes = comes; roster = refl; in_election = refl }
 
     -- the file of a script's roster gives that roster, and the world is of the script
     pub script_roster_is_read : (name : List ℕ) (answer : Result RosterRead Refusal) →
         GivesRoster name (Some text) answer → IsOkAnd answer (λ read. IsOfScript read.roster.machines read.election w)
     script_roster_is_read name answer gives =
-        subst (λ (a : Result RosterRead Refusal). IsOkAnd a (λ read. IsOfScript read.roster.machines read.election w))
-        (sym (script_roster_given name answer gives)) world_of_script
+        rw (script_roster_given name answer gives) world_of_script

@@ -1,41 +1,17 @@
 -- What is known of entries that an honest polling place sent, by themselves, and how wide rules are.
-use Rattle.election_script.specs.Lawful.{max_actions}
-use Rattle.entry_format.specs.Nodes.{node_of_sealed}
-use Rattle.entry_format.specs.SealedEntry.{SealedEntry}
-use Rattle.entry_order.proofs.Apart.{DigestsDiffer, few_among}
-use Rattle.entry_order.proofs.Honest.{honest_entries_agree_in_orderly_worlds}
-use Rattle.entry_order.proofs.Lists.{Contains-at, Contains-filter_cases, Contains-head, Contains-later}
-use Rattle.entry_order.proofs.Places.{place_of}
-use Rattle.entry_order.specs.Naming.{Distinct}
-use Rattle.entry_order.specs.World.{World, sent_in}
-use Rattle.entry_order.specs.declared.three.Three.{Three}
+use Rattle.honest_places.proofs.Imports
+use Imports.{[], ap, arith, Bool, cond, Contains, Contains-at, Contains-filter_cases, Contains-head, Contains-later}
+use Imports.{count_by-le-length, count_of_rows, DigestsDiffer, Distinct, false, few_among, filter, fold-map, has_kind}
+use Imports.{HasNoDouble, honest_entries_agree_in_orderly_worlds, is_too_wide, IsHonest, Kind, le-ltb, length}
+use Imports.{length-filter, length-map, List, list_any, ltb-false, map, max_actions, mul-le-mul_left, mul-le-mul_right}
+use Imports.{nat_lt, node_of_sealed, None, Option, or_from, or_parts, place_of, Post, quantified_kind, refl, Row}
+use Imports.{row_of, rules_are_settled, SealedEntry, sent_in, Some, standard_rules, suc, Three, three_in, true}
+use Imports.{unknown_only_by_gaps, WereSentIn, widens_by, World, zero, ℕ, ◌*◌, ◌+◌, ◌||◌, ◌∙◌, ◌∷◌, ◌≡◌, ◌≢◌, ◌≤◌}
 use Rattle.entry_order.specs.declared.three.Three.TheVariants.{False, True, Unknown}
-use Rattle.honest_places.proofs.Given.{apart_filter}
-use Rattle.honest_places.proofs.Lists.{none_passes}
 use Rattle.honest_places.proofs.Rules.{honest_entries_keep_the_rules, rule_p1}
-use Rattle.honest_places.specs.Honest.{IsHonest}
+use Rattle.honest_places.proofs.{Given.apart_filter, Lists.none_passes}
 use Rattle.honest_places.specs.RulesKept.{HonestAuditsNeverSayBroken, HonestAuditsSayKept, StandardRulesAreNarrow}
-use Rattle.honest_places.specs.RulesKept.{WereSentIn}
-use Rattle.roster.specs.declared.post.Post.{Post}
-use Rattle.rule_language.specs.Standard.{standard_rules}
-use Rattle.rule_language.specs.Trees.{RuleTree, Trees, no_trees, tree_then}
-use Rattle.rule_language.specs.declared.kind.Kind.{Kind}
-use Rattle.rule_language.specs.declared.row.Row.{Row}
-use Rattle.rule_meaning.proofs.Sounds.{rules_are_settled}
-use Rattle.rule_meaning.proofs.Unknowns.{unknown_only_by_gaps}
-use Rattle.rule_meaning.specs.Sound.{HasNoDouble}
-use Rattle.rule_meaning.specs.Tests.{has_kind}
-use Rattle.rule_meaning.specs.Values.{three_in}
-use Rattle.rule_meaning.specs.Widths.{count_of_rows, is_too_wide, quantified_kind, widens_by}
-use Rattle.std.proofs.Common.{Bool, Contains, List, None, Option, Some, [], ap, arith, cond, false, filter, le-ltb}
-use Rattle.std.proofs.Common.{length, ltb-false, map, mul-le-mul_left, mul-le-mul_right, nat_lt, refl, suc, true, zero}
-use Rattle.std.proofs.Common.{ℕ, ◌*◌, ◌+◌, ◌||◌, ◌∙◌, ◌∷◌, ◌≡◌, ◌≢◌, ◌≤◌}
-use Rattle.std.proofs.lemmas.Bool.{or_from, or_parts}
-use Rattle.std.proofs.lemmas.List.{length-map}
-use Rattle.std.proofs.lemmas.List.Sums.{count_by-le-length, length-filter}
-use Rattle.std.specs.List.{list_any}
-use Rattle.std.proofs.lemmas.List.Folds.{fold-map}
-use Rattle.survivor_rows.specs.Rows.{row_of}
+use Rattle.rule_language.specs.Trees.{no_trees, RuleTree, tree_then, Trees}
 use Rattle.rule_language.specs.declared.kind.Kind.TheVariants as kind
 
 -- ---- what is known
@@ -138,13 +114,11 @@ module _ (posts : List Post) (w : World SealedEntry) (honest : IsHonest posts w)
   -- of no kind there are more rows than the most: all closings are one
   few_of : (k : Kind) → count_of_rows (map (row_of posts) S) k ≤ most k
   few_of kind.Closed =
-      omega (
-        arith,
-        fold-map (λ a (row : Row). a + cond (has_kind kind.Closed (Some row)) 1 0) (row_of posts) 0 S,
-        length-filter (is_of kind.Closed) S,
-        one (filter (is_of kind.Closed) S) (apart_filter node_of_sealed (is_of kind.Closed) S differ)
-            (Contains-filter_cases (is_of kind.Closed) S),
-      )
+      let closed = is_of kind.Closed in
+      let rows = fold-map (λ a (row : Row). a + cond (has_kind kind.Closed (Some row)) 1 0) (row_of posts) 0 S in
+      let alone =
+      one (filter closed S) (apart_filter node_of_sealed closed S differ) (Contains-filter_cases closed S) in
+      omega (arith, rows, alone, length-filter closed S)
     where
       -- of closings with different digests there is one at most
       one : (es : List SealedEntry) → DigestsDiffer node_of_sealed es →

@@ -1,56 +1,24 @@
 -- Each standard rule holds of entries that an honest polling place sent.
-use Rattle.deed_history.proofs.Deciding.{activates_decides, authorises_booth_decides, authorises_decides}
-use Rattle.deed_history.proofs.Deciding.{commits_decides, commits_to_decides, ends_decides}
-use Rattle.deed_history.proofs.Deciding.{opened_decides}
+use Rattle.honest_places.proofs.Imports
+use Imports.{[], All-contains, All-from_recursion, AllByRecursion, and_from, ap, append_assoc, arith, Authorises}
+use Imports.{ballot_of, before_in_completion, Booth, booth_of, bytes_eq, bytes_eq-Decides, Contains, Contains-map}
+use Imports.{Contains-middle, Deed, Distinct, element_at, Ends, entries_in, entry_of, eq-eqb, eqb-true, Event, held}
+use Imports.{history, Holds, HoldsOwn, honest_entries_agree_in_orderly_worlds, HonestEntriesHaveNoEarlyEnd}
+use Imports.{HonestEntriesKeepTheRules, How, inl, inr, is_kind, is_role, is_supervisor, IsDeedOf, IsHonest, IsTrue}
+use Imports.{Kind, kind_of, length, List, next_of, no_fork, node_of_sealed, None, nth_split, Option, Overrides, Post}
+use Imports.{Precedes, precedes_over, refl, Role, role_at, role_in, row_of, rules, RuleTree, SealedEntry, Sent, sent}
+use Imports.{sent_in, session_of, slice_get, Some, SomeHolds, standard_rules, subst, suc, Supervisor, sym, Trees, true}
+use Imports.{WereSentIn, World, zero, ℕ, ◌&&◌, ◌++◌, ◌+◌, ◌<◌, ◌==◌, ◌∙◌, ◌∷◌, ◌≡◌, ◌⊎◌}
 use Rattle.booth_core.specs.Causes.{HasCommittedTo, IsAuthorised}
-use Rattle.deed_history.specs.Deeds.{Authorises, Ends, Overrides}
-use Rattle.deed_history.specs.Held.{HoldsOwn}
-use Rattle.entry_format.specs.Deeds.{IsDeedOf}
-use Rattle.entry_format.specs.Nodes.{node_of_sealed}
-use Rattle.entry_format.specs.SealedEntry.{SealedEntry}
-use Rattle.entry_format.specs.declared.deed.Deed.{Deed}
-use Rattle.entry_format.specs.declared.deed.How.{How}
-use Rattle.entry_order.proofs.Completions.{before_in_completion}
-use Rattle.entry_order.proofs.Histories.{nth_split}
-use Rattle.entry_order.proofs.Honest.{honest_entries_agree_in_orderly_worlds, no_fork}
-use Rattle.entry_order.proofs.Lists.{Contains-head, Contains-map}
-use Rattle.entry_order.proofs.Orders.{next_of}
-use Rattle.entry_order.proofs.Places.{element_at}
-use Rattle.entry_order.specs.History.{entry_of, held, sent}
-use Rattle.entry_order.specs.Naming.{Distinct}
-use Rattle.entry_order.specs.Precedes.{Precedes}
-use Rattle.entry_order.specs.World.{World, history, sent_in}
-use Rattle.entry_order.specs.declared.event.Event.{Event}
-use Rattle.entry_order.specs.declared.event.Event.TheVariants.{Sent}
-use Rattle.honest_places.proofs.Lists.{one_passes}
-use Rattle.honest_places.proofs.Pasts.{IsFree, SentBy, allowed, any_asked, before_lower, cancel_ends, cast_ends}
-use Rattle.honest_places.proofs.Pasts.{challenge_ends, deed_like, held_precedes, may, next_by, none_before_whole}
-use Rattle.honest_places.proofs.Pasts.{of_kind, one_alone, own_asked, own_was_held, precedes_through, sent_by}
-use Rattle.honest_places.specs.Honest.{IsHonest, role_at}
-use Rattle.honest_places.specs.RulesKept.{HonestEntriesHaveNoEarlyEnd, HonestEntriesKeepTheRules, WereSentIn}
-use Rattle.polling_world.specs.Rules.{entries_in}
-use Rattle.roster.specs.Machines.{is_supervisor}
-use Rattle.roster.specs.declared.post.Post.{Post}
-use Rattle.roster.specs.declared.post.Role.{Role}
-use Rattle.roster.specs.declared.post.Role.TheVariants.{Booth, Supervisor}
-use Rattle.rule_language.specs.Standard.{a1_body, a2_body, c1_body, c2_body, c3_body, c4_body, c5_body, c6_body}
-use Rattle.rule_language.specs.Standard.{c7_body, k1_body, k2_body, m1_body, o1_body, o2_body, p1_body, p2_body}
-use Rattle.rule_language.specs.Standard.{p3_body, p4_body, standard_rules, v1_body, v2_body, v3_body, v4_body}
-use Rattle.rule_language.specs.Trees.{RuleTree, Trees}
-use Rattle.rule_language.specs.declared.kind.Kind.{Kind}
-use Rattle.rule_meaning.specs.Meaning.{Holds, SomeHolds}
-use Rattle.rule_meaning.specs.Tests.{is_kind, is_role}
-use Rattle.std.proofs.Common.{Contains, IsTrue, List, None, Option, Some, [], ap, append_assoc, arith, bytes_eq, eq-eqb}
-use Rattle.std.proofs.Common.{eqb-true, inl, inr, length, refl, slice_get, subst, suc, sym, true, zero, ℕ, ◌&&◌, ◌++◌}
-use Rattle.std.proofs.Common.{◌+◌, ◌<◌, ◌==◌, ◌∙◌, ◌∷◌, ◌≡◌, ◌⊎◌}
-use Rattle.std.proofs.lemmas.Bool.{and_from}
-use Rattle.std.proofs.lemmas.List.Elements.{All-contains, All-from_recursion, Contains-append_right}
-use Rattle.std.specs.List.{AllByRecursion}
-use Rattle.std.proofs.lemmas.Slice.Eq.{bytes_eq-Decides}
-use Rattle.survivor_rows.specs.Rows.{ballot_of, booth_of, kind_of, role_in, row_of, session_of}
+use Rattle.deed_history.proofs.Deciding.{activates_decides, authorises_booth_decides, authorises_decides}
+use Rattle.deed_history.proofs.Deciding.{commits_decides, commits_to_decides, ends_decides, opened_decides}
+use Rattle.honest_places.proofs.Pasts.{allowed, any_asked, before_lower, deed_like, ends_session, held_precedes, IsFree}
+use Rattle.honest_places.proofs.Pasts.{kind_ends, may, next_by, none_before_whole, of_kind, one_alone, own_asked}
+use Rattle.honest_places.proofs.{Lists.one_passes, Pasts.own_was_held, Pasts.sent_by, Pasts.SentBy}
 use Rattle.entry_format.specs.declared.deed.Deed.TheVariants as deed
 use Rattle.entry_format.specs.declared.deed.How.TheVariants as how
 use Rattle.rule_language.specs.declared.kind.Kind.TheVariants as kind
+use Rattle.rule_language.specs.Standard as standard
 
 -- ---- one supervisor, and one end of a session
 
@@ -115,11 +83,9 @@ module _ {posts : List Post} {w : World SealedEntry} (honest : IsHonest posts w)
         let (authorising, first, names) =
         any_asked honest distinct (authorises_booth_decides activation.entry.maker n) activation s earlier.0
         (allowed honest Booth activation s (deed.Activate n) is refl).1.0 in
-        let later = precedes_through honest distinct activation commitment e earlier before in (
-          authorising,
-          precedes_through honest distinct authorising activation e first later,
-          names ∙ ap (λ m. deed.Authorise m n) (of_same ∙ of_maker),
-        )
+        let later = precedes_over node_of_sealed (sent_in w) activation commitment e earlier before in
+        let here = precedes_over node_of_sealed (sent_in w) authorising activation e first later in
+        (authorising, here, names ∙ ap (λ m. deed.Authorise m n) (of_same ∙ of_maker))
 
     -- so it was where it ended the session, which it had not ended before
     end_authorised : (e : SealedEntry) (s : SentBy w e) → Contains (sent_in w) e → (n : ℕ) → Ends n e.entry.deed →
@@ -156,7 +122,7 @@ module _ {posts : List Post} {w : World SealedEntry} (honest : IsHonest posts w)
         let same = one_authorisation n first x earlier.0 before.1 (z.entry.maker, names) (b, is) in
         let at : first.entry.stamp ≡ x.entry.stamp = ap (λ (u : SealedEntry). u.entry.stamp) same in
         let up : first.entry.stamp < x.entry.stamp =
-        before_lower honest distinct first x (precedes_through honest distinct first z x earlier before) in
+        before_lower honest distinct first x (precedes_over node_of_sealed (sent_in w) first z x earlier before) in
         omega (arith, at, up)
 
 -- ---- the rules
@@ -175,18 +141,8 @@ kind_by_role : (role : Role) (d : Deed) → IsDeedOf role d →
     ∷ IsOf kind.Override d ∷ IsOf kind.Forced d ∷ IsOf kind.Closed d ∷ []) × Unit {0}))
     ∷ (IsTrue (is_role Booth role) × (SomeHolds (IsOf kind.Activate d ∷ IsOf kind.Commit d ∷ IsOf kind.Cast d
     ∷ IsOf kind.Cancel d ∷ IsOf kind.Challenge d ∷ []) × Unit {0})) ∷ [])
-kind_by_role role deed.Opened of = inl (ap (is_role Supervisor) of, (inl refl, tt))
-kind_by_role role (deed.Authorise booth session) of = inl (ap (is_role Supervisor) of, (inr (inl refl), tt))
-kind_by_role role (deed.Override session how.Cancel) of = inl (ap (is_role Supervisor) of, (inr (inr (inl refl)), tt))
-kind_by_role role (deed.Override session how.Cast) of =
-    inl (ap (is_role Supervisor) of, (inr (inr (inr (inl refl))), tt))
-kind_by_role role deed.Closed of = inl (ap (is_role Supervisor) of, (inr (inr (inr (inr (inl refl)))), tt))
-kind_by_role role (deed.Activate session) of = inr (inl (ap (is_role Booth) of, (inl refl, tt)))
-kind_by_role role (deed.Commit session ballot) of = inr (inl (ap (is_role Booth) of, (inr (inl refl), tt)))
-kind_by_role role (deed.Cast session ballot) of = inr (inl (ap (is_role Booth) of, (inr (inr (inl refl)), tt)))
-kind_by_role role (deed.Cancel session) of = inr (inl (ap (is_role Booth) of, (inr (inr (inr (inl refl))), tt)))
-kind_by_role role (deed.Challenge session ballot) of =
-    inr (inl (ap (is_role Booth) of, (inr (inr (inr (inr (inl refl)))), tt)))
+kind_by_role role (deed.Override session how.Cancel) of = rw of (search rules)
+kind_by_role role d of = rw of (search rules)
 
 module _ {posts : List Post} {w : World SealedEntry} (honest : IsHonest posts w)
     (distinct : Distinct node_of_sealed (sent_in w)) (S : List SealedEntry) (were_sent : WereSentIn w S) where
@@ -209,75 +165,67 @@ module _ {posts : List Post} {w : World SealedEntry} (honest : IsHonest posts w)
   -- ---- rules of one entry alone
 
   -- one opening
-  rule_o1 : Rule o1_body
+  rule_o1 : Rule standard.o1_body
   rule_o1 e ce ke f cf kf =
       one_of honest (λ d. d ≡ deed.Opened)
       (λ u s is. let (role, (none, _)) = allowed honest Supervisor u s deed.Opened is refl in (role, none)) e f
       (were_sent e ce) (were_sent f cf) (of_kind kind.Opened e.entry.deed ke) (of_kind kind.Opened f.entry.deed kf)
 
   -- one closing
-  pub rule_p1 : Rule p1_body
+  pub rule_p1 : Rule standard.p1_body
   rule_p1 e ce ke f cf kf =
       one_of honest (λ d. d ≡ deed.Closed)
       (λ u s is. let (role, (_, (none, _))) = allowed honest Supervisor u s deed.Closed is refl in (role, none)) e f
       (were_sent e ce) (were_sent f cf) (of_kind kind.Closed e.entry.deed ke) (of_kind kind.Closed f.entry.deed kf)
 
   -- one authorising of each session
-  rule_a2 : Rule a2_body
+  rule_a2 : Rule standard.a2_body
   rule_a2 e ce ke f cf kf same =
       let sessions = eqb-true (session_of e.entry.deed) (session_of f.entry.deed) same in
-      one_authorisation honest (session_of f.entry.deed) e f (were_sent e ce) (were_sent f cf) (
-        booth_of e.entry.deed,
-        of_kind kind.Authorise e.entry.deed ke
-            ∙ ap (λ n. deed.Authorise (booth_of e.entry.deed) n) sessions,
-      )
-      (booth_of f.entry.deed, of_kind kind.Authorise f.entry.deed kf)
+      let booth = booth_of e.entry.deed in
+      let first = of_kind kind.Authorise e.entry.deed ke ∙ ap (λ n. deed.Authorise booth n) sessions in
+      one_authorisation honest (session_of f.entry.deed) e f (were_sent e ce) (were_sent f cf)
+      (booth, first) (booth_of f.entry.deed, of_kind kind.Authorise f.entry.deed kf)
 
-  -- two entries that end a session are one
-  ends_once : (e f : SealedEntry) → Contains S e → Contains S f → Ends (session_of e.entry.deed) e.entry.deed →
-      Ends (session_of f.entry.deed) f.entry.deed → IsTrue (session_of e.entry.deed == session_of f.entry.deed) → e ≡ f
-  ends_once e f ce cf ends ends' same =
+  -- two entries of kinds that end a session are one
+  ends_once : (k l : Kind) → IsTrue (ends_session k) → IsTrue (ends_session l) → (e : SealedEntry) → Contains S e →
+      IsOf k e.entry.deed → (f : SealedEntry) → Contains S f → IsOf l f.entry.deed →
+      IsTrue (session_of e.entry.deed == session_of f.entry.deed) → e ≡ f
+  ends_once k l one other e ce ke f cf kf same =
       let at = eqb-true (session_of e.entry.deed) (session_of f.entry.deed) same in
       one_end honest distinct (session_of f.entry.deed) e f (were_sent e ce) (were_sent f cf)
-      (subst (λ n. Ends n e.entry.deed) at ends) ends'
+      (subst (λ n. Ends n e.entry.deed) at (kind_ends k one e.entry.deed ke)) (kind_ends l other f.entry.deed kf)
+
+  -- so both are of one kind
+  one_kind : (k l : Kind) → IsTrue (ends_session k) → IsTrue (ends_session l) → (e : SealedEntry) → Contains S e →
+      IsOf k e.entry.deed → (f : SealedEntry) → Contains S f → IsOf l f.entry.deed →
+      IsTrue (session_of e.entry.deed == session_of f.entry.deed) → deed_like k e.entry.deed ≡ deed_like l f.entry.deed
+  one_kind k l one other e ce ke f cf kf same =
+      let deeds = ap (λ (u : SealedEntry). u.entry.deed) (ends_once k l one other e ce ke f cf kf same) in
+      cc (of_kind k e.entry.deed ke, of_kind l f.entry.deed kf, deeds)
 
   -- one ballot a session
-  rule_c3 : Rule c3_body
-  rule_c3 e ce ke f cf kf = ends_once e f ce cf (cast_ends e.entry.deed ke) (cast_ends f.entry.deed kf)
+  rule_c3 : Rule standard.c3_body
+  rule_c3 = ends_once kind.Cast kind.Cast refl refl
 
   -- a session with a ballot is neither cancelled nor challenged
-  rule_c4 : Rule c4_body
+  rule_c4 : Rule standard.c4_body
   rule_c4 e ce ke = (
-    λ f cf kf same.
-        let one = ap (λ (u : SealedEntry). u.entry.deed)
-        (ends_once e f ce cf (cast_ends e.entry.deed ke) (cancel_ends f.entry.deed kf) same) in
-        cc (of_kind kind.Cast e.entry.deed ke, of_kind kind.Cancel f.entry.deed kf, one),
-    (
-      λ f cf kf same.
-          let one = ap (λ (u : SealedEntry). u.entry.deed)
-          (ends_once e f ce cf (cast_ends e.entry.deed ke) (challenge_ends f.entry.deed kf) same) in
-          cc (of_kind kind.Cast e.entry.deed ke, of_kind kind.Challenge f.entry.deed kf, one),
-      tt,
-    ),
+    λ f cf kf same. let one = one_kind kind.Cast kind.Cancel refl refl e ce ke f cf kf same in cc,
+    (λ f cf kf same. let one = one_kind kind.Cast kind.Challenge refl refl e ce ke f cf kf same in cc, tt),
   )
 
   -- one challenge a session, which is not cancelled
-  rule_c7 : Rule c7_body
+  rule_c7 : Rule standard.c7_body
   rule_c7 e ce ke = (
-    λ f cf kf. ends_once e f ce cf (challenge_ends e.entry.deed ke) (challenge_ends f.entry.deed kf),
-    (
-      λ f cf kf same.
-          let one = ap (λ (u : SealedEntry). u.entry.deed)
-          (ends_once e f ce cf (challenge_ends e.entry.deed ke) (cancel_ends f.entry.deed kf) same) in
-          cc (of_kind kind.Challenge e.entry.deed ke, of_kind kind.Cancel f.entry.deed kf, one),
-      tt,
-    ),
+    ends_once kind.Challenge kind.Challenge refl refl e ce ke,
+    (λ f cf kf same. let one = one_kind kind.Challenge kind.Cancel refl refl e ce ke f cf kf same in cc, tt),
   )
 
   -- ---- rules that ask for an earlier entry
 
   -- an opening before each authorising
-  rule_o2 : Rule o2_body
+  rule_o2 : Rule standard.o2_body
   rule_o2 e ce ke =
       let (_, (opened, _)) = free Supervisor kind.Authorise e ce ke refl in
       let (f, before, (_, is)) = own_asked honest distinct opened_decides e (sent_of e ce) (were_sent e ce) opened in
@@ -298,15 +246,15 @@ module _ {posts : List Post} {w : World SealedEntry} (honest : IsHonest posts w)
       (f, ap (λ d. is_kind kind.Authorise (kind_of d)) is, before, (session, (booth, tt)))
 
   -- a booth activates what it is authorised for
-  rule_a1 : Rule a1_body
+  rule_a1 : Rule standard.a1_body
   rule_a1 e ce ke = after_authorising e ce (free Booth kind.Activate e ce ke refl).1.0
 
   -- a booth cancels what it is authorised for
-  rule_c5 : Rule c5_body
+  rule_c5 : Rule standard.c5_body
   rule_c5 e ce ke = after_authorising e ce (free Booth kind.Cancel e ce ke refl).1.0
 
   -- a booth commits in a session that it activated
-  rule_c1 : Rule c1_body
+  rule_c1 : Rule standard.c1_body
   rule_c1 e ce ke =
       let n = session_of e.entry.deed in
       let (f, before, (maker, is)) = activated honest distinct e (were_sent e ce) n (ballot_of e.entry.deed)
@@ -333,11 +281,11 @@ module _ {posts : List Post} {w : World SealedEntry} (honest : IsHonest posts w)
       (f, ap (λ d. is_kind kind.Commit (kind_of d)) is, before, (own, (session, (ballot, tt))))
 
   -- a booth casts what it committed to
-  rule_c2 : Rule c2_body
+  rule_c2 : Rule standard.c2_body
   rule_c2 e ce ke = after_commitment e ce (free Booth kind.Cast e ce ke refl).1.0
 
   -- a booth challenges what it committed to
-  rule_c6 : Rule c6_body
+  rule_c6 : Rule standard.c6_body
   rule_c6 e ce ke = after_commitment e ce (free Booth kind.Challenge e ce ke refl).1.0
 
   -- an authorising of the session precedes an override of it
@@ -354,23 +302,22 @@ module _ {posts : List Post} {w : World SealedEntry} (honest : IsHonest posts w)
       (f, ap (λ d. is_kind kind.Authorise (kind_of d)) of, before, session)
 
   -- an override that cancels is of an authorised session
-  rule_v1 : Rule v1_body
+  rule_v1 : Rule standard.v1_body
   rule_v1 e ce ke = authorised_before e ce how.Cancel (of_kind kind.Override e.entry.deed ke)
 
   -- an override that casts is of an authorised session with a commitment
-  rule_v4 : Rule v4_body
+  rule_v4 : Rule standard.v4_body
   rule_v4 e ce ke =
       let n = session_of e.entry.deed in
       let (_, (_, (_, (_, (committed, _))))) = free Supervisor kind.Forced e ce ke refl in
       let (f, before, (ballot, is)) = any_asked honest distinct (commits_decides n) e (sent_of e ce) (were_sent e ce)
       (λ none. committed (refl, none)) in
-      let session = eq-eqb (session_of f.entry.deed) n (ap session_of is) in (
-        authorised_before e ce how.Cast (of_kind kind.Forced e.entry.deed ke),
-        ((f, ap (λ d. is_kind kind.Commit (kind_of d)) is, before, session), tt),
-      )
+      let session = eq-eqb (session_of f.entry.deed) n (ap session_of is) in
+      let authorised = authorised_before e ce how.Cast (of_kind kind.Forced e.entry.deed ke) in
+      (authorised, ((f, ap (λ d. is_kind kind.Commit (kind_of d)) is, before, session), tt))
 
   -- a session that was authorised before a closing has ended before it
-  rule_p3 : Rule p3_body
+  rule_p3 : Rule standard.p3_body
   rule_p3 e ce ke f cf kf before =
       let n = session_of e.entry.deed in
       let (role, _) = free Supervisor kind.Authorise e ce ke refl in
@@ -392,7 +339,7 @@ module _ {posts : List Post} {w : World SealedEntry} (honest : IsHonest posts w)
   -- ---- rules that deny an earlier entry
 
   -- no authorising after a closing
-  rule_p2 : Rule p2_body
+  rule_p2 : Rule standard.p2_body
   rule_p2 e ce ke (f, kf, before, _) =
       let is = of_kind kind.Closed f.entry.deed kf in
       let t = sent_by honest f before.0 in
@@ -402,7 +349,7 @@ module _ {posts : List Post} {w : World SealedEntry} (honest : IsHonest posts w)
       (one_supervisor honest f.entry.maker e.entry.maker role' role) before is)
 
   -- no ballot after an override that cancels
-  rule_v2 : Rule v2_body
+  rule_v2 : Rule standard.v2_body
   rule_v2 e ce ke (f, kf, before, same) =
       let n = session_of e.entry.deed in
       let (_, (_, (_, (free_of, (_, (whole, _)))))) = free Booth kind.Cast e ce ke refl in
@@ -411,7 +358,7 @@ module _ {posts : List Post} {w : World SealedEntry} (honest : IsHonest posts w)
       ∙ ap (λ m. deed.Override m how.Cancel) (eqb-true (session_of f.entry.deed) n same))
 
   -- no ballot after a closing
-  rule_p4 : Rule p4_body
+  rule_p4 : Rule standard.p4_body
   rule_p4 e ce ke (f, kf, before, _) =
       let (_, (_, (_, (_, (unclosed, (whole, _)))))) = free Booth kind.Cast e ce ke refl in
       none_before_whole honest distinct (λ d. d ≡ deed.Closed) e (sent_of e ce) whole unclosed f before
@@ -427,7 +374,7 @@ module _ {posts : List Post} {w : World SealedEntry} (honest : IsHonest posts w)
       (h, is ∙ ap (λ m. deed.Override m h) (eqb-true (session_of f.entry.deed) (session_of e.entry.deed) same))
 
   -- no challenge after an override
-  rule_v3 : Rule v3_body
+  rule_v3 : Rule standard.v3_body
   rule_v3 e ce ke = (
     λ (f, kf, before, same). no_override e ce ke f before how.Cancel (of_kind kind.Override f.entry.deed kf) same,
     (λ (f, kf, before, same). no_override e ce ke f before how.Cast (of_kind kind.Forced f.entry.deed kf) same, tt),
@@ -436,12 +383,12 @@ module _ {posts : List Post} {w : World SealedEntry} (honest : IsHonest posts w)
   -- ---- rules of every entry
 
   -- each entry is a deed of its maker's role
-  rule_m1 : Rule m1_body
+  rule_m1 : Rule standard.m1_body
   rule_m1 e ce ke =
       kind_by_role (role_at posts e.entry.maker) e.entry.deed (may honest e (sent_of e ce)).of_role
 
   -- two entries of one maker with one number are one
-  rule_k1 : Rule k1_body
+  rule_k1 : Rule standard.k1_body
   rule_k1 e ce ke f cf kf same =
       no_fork node_of_sealed w honest.orderly e f (were_sent e ce) (were_sent f cf)
       (eqb-true e.entry.maker f.entry.maker same.0) (eqb-true e.entry.number f.entry.number same.1.0)
@@ -454,16 +401,14 @@ module _ {posts : List Post} {w : World SealedEntry} (honest : IsHonest posts w)
       let (f, at) = element_at (sent s.past) n (omega (arith, next, is)) in
       let (first, rest, split, count) = nth_split s.past n f at in
       let here : history w e.entry.maker ≡ first ++ Sent f ∷ (rest ++ Sent e ∷ s.later) =
-      s.is ∙ ap (λ (p : List (Event SealedEntry)). p ++ Sent e ∷ s.later) split
-      ∙ append_assoc first (Sent f ∷ rest) (Sent e ∷ s.later) in
+      cc (s.is, append_assoc first (Sent f ∷ rest) (Sent e ∷ s.later)) in
       let before = next_of node_of_sealed w honest.orderly first f (e.entry.maker, rest ++ Sent e ∷ s.later, here) in
-      let c : Contains s.past (Sent f) =
-      subst (λ (p : List (Event SealedEntry)). Contains p (Sent f)) (sym split)
-      (Contains-append_right first (Sent f ∷ rest) (Sent f) (Contains-head (Sent f) rest)) in
+      let c = subst (λ (p : List (Event SealedEntry)). Contains p (Sent f)) (sym split)
+      (Contains-middle first (Sent f) rest) in
       (f, Contains-map entry_of s.past (Sent f) c, before.maker, before.number ∙ count)
 
   -- each entry of a maker but its first comes after that maker's entry with the number one less
-  rule_k2 : Rule k2_body
+  rule_k2 : Rule standard.k2_body
   rule_k2 e ce ke = by e.entry.number refl
     where
       -- the same by the entry's number: it is 0, or some entry comes before
@@ -476,12 +421,9 @@ module _ {posts : List Post} {w : World SealedEntry} (honest : IsHonest posts w)
           let (f, was_held, maker, number) = sent_before e (sent_of e ce) n is in
           let own = eq-eqb f.entry.maker e.entry.maker maker in
           let next = eq-eqb (f.entry.number + 1) e.entry.number (omega (arith, number, is)) in
-          inr (inl (
-            f,
-            refl,
-            held_precedes honest distinct e (sent_of e ce) f (were_sent e ce) was_held,
-            and_from (f.entry.maker == e.entry.maker) (f.entry.number + 1 == e.entry.number) own next,
-          ))
+          let earlier = held_precedes honest distinct e (sent_of e ce) f (were_sent e ce) was_held in
+          let both = and_from (f.entry.maker == e.entry.maker) (f.entry.number + 1 == e.entry.number) own next in
+          inr (inl (f, refl, earlier, both))
 
   -- each standard rule holds
   all_rules : AllByRecursion (λ (rule : RuleTree). Rule rule.body) standard_rules
@@ -511,7 +453,7 @@ honest_entries_have_no_early_end posts w honest distinct S were_sent x z authori
     λ ends. no_early_end honest distinct x z earlier (booth_of x.entry.deed) (session_of x.entry.deed)
     (of_kind kind.Authorise x.entry.deed (ap (is_kind kind.Authorise) authorises))
     (subst (λ n. Ends n d) same ends) in (
-      λ is. never (cast_ends d (ap (is_kind kind.Cast) is)),
-      λ is. never (cancel_ends d (ap (is_kind kind.Cancel) is)),
-      λ is. never (challenge_ends d (ap (is_kind kind.Challenge) is)),
+      λ is. never (kind_ends kind.Cast refl d (ap (is_kind kind.Cast) is)),
+      λ is. never (kind_ends kind.Cancel refl d (ap (is_kind kind.Cancel) is)),
+      λ is. never (kind_ends kind.Challenge refl d (ap (is_kind kind.Challenge) is)),
     )

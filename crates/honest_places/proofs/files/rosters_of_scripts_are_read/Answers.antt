@@ -1,5 +1,4 @@
-use Rattle.honest_places.proofs.RosterTexts.{script_roster_is_read}
 use Rattle.honest_places.proofs.files.rosters_of_scripts_are_read.Goals as goal
 
 pub returns : goal.returns
-returns c = script_roster_is_read
+returns c = Rattle.honest_places.proofs.RosterTexts.script_roster_is_read

@@ -1,5 +1,4 @@
-use Rattle.honest_places.proofs.HonestFiles.{graph_shows_distinct}
 use Rattle.honest_places.proofs.files.whole_logs_show_distinct.Goals as goal
 
 pub returns : goal.returns
-returns c = graph_shows_distinct
+returns c = Rattle.honest_places.proofs.HonestFiles.graph_shows_distinct

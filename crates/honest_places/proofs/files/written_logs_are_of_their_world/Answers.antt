@@ -1,5 +1,4 @@
-use Rattle.honest_places.proofs.PlayedFiles.{written_are_all}
 use Rattle.honest_places.proofs.files.written_logs_are_of_their_world.Goals as goal
 
 pub returns-clause-all : goal.returns-clause-all
-returns-clause-all c = written_are_all
+returns-clause-all c = Rattle.honest_places.proofs.PlayedFiles.written_are_all

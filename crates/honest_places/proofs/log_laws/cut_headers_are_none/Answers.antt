@@ -1,5 +1,4 @@
-use Rattle.honest_places.proofs.ReadLogs.{cut_has_no_header}
 use Rattle.honest_places.proofs.log_laws.cut_headers_are_none.Goals as goal
 
 pub returns : goal.returns
-returns c = cut_has_no_header
+returns c = Rattle.honest_places.proofs.ReadLogs.cut_has_no_header

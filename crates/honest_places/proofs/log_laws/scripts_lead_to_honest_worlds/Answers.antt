@@ -1,5 +1,4 @@
-use Rattle.honest_places.proofs.LogScripts.{scripts_are_honest}
 use Rattle.honest_places.proofs.log_laws.scripts_lead_to_honest_worlds.Goals as goal
 
 pub returns : goal.returns
-returns c = scripts_are_honest
+returns c = Rattle.honest_places.proofs.LogScripts.scripts_are_honest

@@ -1,5 +1,4 @@
-use Rattle.honest_places.proofs.Given.{left_agrees}
 use Rattle.honest_places.proofs.log_laws.what_is_left_agrees.Goals as goal
 
 pub returns : goal.returns
-returns c = left_agrees
+returns c = Rattle.honest_places.proofs.Given.left_agrees

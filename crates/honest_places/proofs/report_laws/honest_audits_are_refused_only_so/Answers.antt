@@ -1,5 +1,4 @@
-use Rattle.honest_places.proofs.AuditLaws.{audits_are_refused_only_so}
 use Rattle.honest_places.proofs.report_laws.honest_audits_are_refused_only_so.Goals as goal
 
 pub returns : goal.returns
-returns c = audits_are_refused_only_so
+returns c = Rattle.honest_places.proofs.AuditLaws.audits_are_refused_only_so

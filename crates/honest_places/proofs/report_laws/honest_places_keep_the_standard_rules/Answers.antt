@@ -1,8 +1,7 @@
-use Rattle.honest_places.proofs.AuditLaws.{reports_say_none_broken, whole_reports_say_all_kept}
 use Rattle.honest_places.proofs.report_laws.honest_places_keep_the_standard_rules.Goals as goal
 
 pub returns-clause-never_broken : goal.returns-clause-never_broken
-returns-clause-never_broken c = reports_say_none_broken
+returns-clause-never_broken c = Rattle.honest_places.proofs.AuditLaws.reports_say_none_broken
 
 pub returns-clause-kept : goal.returns-clause-kept
-returns-clause-kept c = whole_reports_say_all_kept
+returns-clause-kept c = Rattle.honest_places.proofs.AuditLaws.whole_reports_say_all_kept

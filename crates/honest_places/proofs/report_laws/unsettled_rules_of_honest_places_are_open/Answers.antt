@@ -1,5 +1,4 @@
-use Rattle.honest_places.proofs.AuditLaws.{reports_leave_rules_open}
 use Rattle.honest_places.proofs.report_laws.unsettled_rules_of_honest_places_are_open.Goals as goal
 
 pub returns : goal.returns
-returns c = reports_leave_rules_open
+returns c = Rattle.honest_places.proofs.AuditLaws.reports_leave_rules_open

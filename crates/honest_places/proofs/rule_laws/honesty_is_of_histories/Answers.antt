@@ -1,5 +1,4 @@
-use Rattle.honest_places.proofs.RuleScripts.{honesty_is_of_histories}
 use Rattle.honest_places.proofs.rule_laws.honesty_is_of_histories.Goals as goal
 
 pub returns : goal.returns
-returns c = honesty_is_of_histories
+returns c = Rattle.honest_places.proofs.RuleScripts.honesty_is_of_histories
