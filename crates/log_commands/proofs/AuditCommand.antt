@@ -1,12 +1,11 @@
 -- The command `audit`.
-use Rattle.log_commands.proofs.Imports
-use Imports.{[], Answer, audit_parts, AuditReport, carried_out_as, contains_as, Err, FilesGiveOneReport, GiveReport}
-use Imports.{HasOneAnswer, HasStatuses, inl, inr, IsAuditOver, IsCarriedOut, IsCompleted, List, of_read, Ok, Option}
-use Imports.{outcome_of, report_answer, report_statuses, same_or, SameReport, source_named, status_by, sym, ℕ, ◌∙◌, ◌≡◌}
+use Rattle.log_commands.proofs.Imports.{[], Answer, audit_parts, AuditReport, carried_out_as, contains_as, Err}
+use Rattle.log_commands.proofs.Imports.{FilesGiveOneReport, GiveReport, GivesReport, HasOneAnswer, HasStatuses, inl}
+use Rattle.log_commands.proofs.Imports.{inr, IsAuditOf, IsAuditOver, IsCarriedOut, IsCompleted, List, of_read, Ok}
+use Rattle.log_commands.proofs.Imports.{Option, outcome_of, report_answer, report_statuses, same_or, SameReport}
+use Rattle.log_commands.proofs.Imports.{source_named, status_by, sym, ℕ, ◌∙◌, ◌≡◌}
 use Rattle.log_commands.proofs.ReportCommands.{absent_status, outcome_done, outcome_status, refused_status}
 use Rattle.log_commands.proofs.ReportCommands.{report_statuses_some}
-use Rattle.log_commands.specs.Audit.{IsAuditOf}
-use Rattle.auditor.specs.Audits.{GivesReport}
 
 -- a report has one answer
 pub same_told : (report other : AuditReport) → SameReport report other → report_answer report ≡ report_answer other

@@ -4,15 +4,14 @@ use Imports.{[], absent, Answer, ap, AreChecked, AreJudged, AuditReport, AuditVe
 use Imports.{CheckReport, ChecksAgreeWithAudits, ChecksFiles, ChecksLogs, entries_of, EntryGraph, Err, files_read}
 use Imports.{full_proofs_say_all, GivesCheck, GivesGraph, GivesMade, GivesReport, inl, inr, IsCanonicalProof}
 use Imports.{IsCanonicalText, IsCheckAnswer, IsCheckOver, IsJudged, length, length-map, Line, List, LogRead, map}
-use Imports.{max_proof, nodes_of, Ok, Option, parents_of, Post, ProofMade, ProvesFiles, ragged_of, refl, Refusal}
-use Imports.{refusal_answer, refused, RosterRead, Row, row_of, RuleSource, RuleTree}
-use Imports.{SealedEntry, Some, source_named, subst, sym, three_by, three_in, verdict_of, WithGraph, without_entries}
-use Imports.{WithRules, ℕ, ◌++◌, ◌∙◌, ◌∷◌, ◌≡◌, ◌≤◌}
-use Rattle.log_commands.proofs.FilesBegun.{begun_by, same_found, whole_by}
-use Rattle.log_commands.proofs.OneProof.{one_check, ProofOne}
-use Rattle.log_commands.proofs.{OneOrderAnswer.OrderOne, SoundReports.given_is_sound}
+use Imports.{max_proof, nodes_of, Ok, Option, parents_of, Post, proof_answer, ProofMade, ProvesFiles, ragged_of, refl}
+use Imports.{Refusal, refusal_answer, refused, RosterRead, Row, row_of, RuleSource, RuleTree, SealedEntry, Some}
+use Imports.{source_named, subst, sym, three_by, three_in, verdict_of, WithGraph, without_entries, WithRules, ℕ, ◌++◌}
+use Imports.{◌∙◌, ◌∷◌, ◌≡◌, ◌≤◌}
+use Rattle.log_commands.proofs.{FilesBegun.begun_by, FilesBegun.found_then, FilesBegun.same_found, FilesBegun.whole_by}
+use Rattle.log_commands.proofs.{OneOrderAnswer.OrderOne, OneProof.one_check, OneProof.ProofOne}
+use Rattle.log_commands.proofs.{SoundReports.given_is_sound}
 use Rattle.rule_engine.specs.declared.verdict.Verdict.TheVariants as audited
-use Rattle.log_commands.specs.Prove.{proof_answer}
 
 -- ---- a rule's verdict
 
@@ -37,9 +36,8 @@ module _ (rows : List Row) (graph : EntryGraph SealedEntry) (lines : List Line) 
   all_checked : (rules : List RuleTree) (vs : List AuditVerdict) → AreJudged rows (nodes_of graph) rules vs →
       AreChecked rows (nodes_of graph) lines rules (map without_entries vs)
   all_checked [] [] judged = tt
-  all_checked [] (v ∷ vs) judged = absurd judged
-  all_checked (r ∷ rules) [] judged = absurd judged
   all_checked (r ∷ rules) (v ∷ vs) judged = (checked_as r v judged.0, all_checked rules vs judged.1)
+  all_checked rules vs judged = absurd judged
 
 -- ---- what the files give a check
 
@@ -60,34 +58,28 @@ module _ (order : OrderOne) (one : ProofOne) (proof : List ℕ) (names : List (L
       IsCanonicalText (nodes_of graph) made.text → length made.text ≤ max_proof →
       WithGraph machines source rules names logs graph (Ok report) →
       ChecksLogs machines source rules proof (Some made.text) logs (Ok (check_of report))
-  graph_gives machines source rules logs graph gives (lines, canonical, text) fits (inl (vs, judged, e)) =
+  graph_gives machines source rules logs graph gives (lines, canonical, text) fits audits =
+      let (vs, judged, e) = found_then audits in
       let checked = all_checked _ graph lines (length-map graph.survivors (row_of machines)) (entries_of logs) gives
       canonical rules vs judged in
-      subst (λ r. ChecksLogs machines source rules proof (Some made.text) logs (Ok (check_of r)))
-      (sym (same_found report _ e))
+      subst (λ r. ChecksLogs machines source rules proof (Some made.text) logs (Ok (check_of r))) (sym (same_found e))
       (inl (graph, gives, inl (lines, (fits, (text, canonical.proof)), inl (map without_entries vs, checked, refl))))
-  graph_gives machines source rules logs graph gives canonical fits (inr (r, bad, e)) = cc
 
   -- by the files of logs, under one roster
   files_give : (read : RosterRead) (source : RuleSource) (rules : List RuleTree) (files : List (Option (List ℕ))) →
       ProvesFiles read proof names files (Ok made) → WithRules read source rules names files (Ok report) →
       ChecksFiles read source rules proof names (files ++ Some made.text ∷ []) (Ok (check_of report))
-  files_give read source rules files (inl (found, keep, inl (graph, gives, (count, canonical, fits))))
-      (inl (logs, also, inl (other, graphed, with))) =
+  files_give read source rules files proves audits =
+      let (found, keep, by_found) = found_then proves in
+      let (graph, gives, (count, canonical, fits)) = found_then by_found in
+      let (logs, also, by_logs) = found_then audits in
+      let (other, graphed, with) = found_then by_logs in
       let alike = order.logs read.roster.machines read.election names files (Ok found) (Ok logs) keep also in
-      let one_read : found ≡ logs = same_found found logs alike in
-      let moved = subst (λ ls. GivesGraph (entries_of ls) (Ok graph)) one_read gives in
-      let same = same_found graph other (order.graph (entries_of logs) (Ok graph) (Ok other) moved graphed) in
-      let text = subst (λ g. IsCanonicalText (nodes_of g) made.text) same canonical in (
-        files,
-        Some made.text,
-        refl,
-        inl (logs, also, graph_gives read.roster.machines source rules logs other graphed text fits with),
-      )
-  files_give read source rules files (inl (found, keep, inl made_of)) (inl (logs, also, inr (r, bad, e))) = cc
-  files_give read source rules files (inl (found, keep, inl made_of)) (inr (r, bad, e)) = cc
-  files_give read source rules files (inl (found, keep, inr (r, bad, e))) with = cc
-  files_give read source rules files (inr (r, bad, e)) with = cc
+      let moved = subst (λ ls. GivesGraph (entries_of ls) (Ok graph)) (same_found alike) gives in
+      let same = same_found (order.graph (entries_of logs) (Ok graph) (Ok other) moved graphed) in
+      let text = subst (λ g. IsCanonicalText (nodes_of g) made.text) same canonical in
+      let checks = graph_gives read.roster.machines source rules logs other graphed text fits with in
+      (files, Some made.text, refl, inl (logs, also, checks))
 
   -- by all files
   all_give : (roster : List ℕ) (source : RuleSource) (roster_file rules_file : Option (List ℕ))
@@ -95,16 +87,15 @@ module _ (order : OrderOne) (one : ProofOne) (proof : List ℕ) (names : List (L
       GivesReport roster source names (files_read roster_file source rules_file files) (Ok report) →
       GivesCheck roster source proof names (files_read roster_file source rules_file (files ++ Some made.text ∷ []))
       (Ok (check_of report))
-  all_give roster source roster_file rules_file files (inl (read, found, proves)) audits =
+  all_give roster source roster_file rules_file files makes audits =
+      let (read, found, proves) = found_then makes in
       let (b, with) = begun_by (λ read rules rest. WithRules read source rules names rest) roster roster_file rules_file
       files source report audits in
-      let same : Ok read ≡ Ok b.read = order.roster roster roster_file (Ok read) (Ok b.read) found b.given in
-      let reads : read ≡ b.read = cc in
+      let reads = same_found (order.roster roster roster_file (Ok read) (Ok b.read) found b.given) in
       whole_by (λ read rules rest. ChecksFiles read source rules proof names rest) roster roster_file rules_file
       (files ++ Some made.text ∷ []) source b (Ok (check_of report))
       (files_give b.read source b.rules files
       (subst (λ (r : RosterRead). ProvesFiles r proof names files (Ok made)) reads proves) with)
-  all_give roster source roster_file rules_file files (inr (r, bad, e)) audits = cc
 
 -- ---- the law
 

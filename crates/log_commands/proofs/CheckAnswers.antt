@@ -3,17 +3,16 @@ use Rattle.log_commands.proofs.Imports
 use Imports.{[], and_refused, and_then, AndThen, ap, Bool, bytes_eq, bytes_eq-Decides, Checked, ChecksFiles}
 use Imports.{ChecksLines, ChecksLogs, ChecksProof, codes, cond, entries_of, EntryGraph, Err, false, GivesGraph}
 use Imports.{GivesLogs, GivesProof, Graph, IfErr, IfOk, IfSome, in_file, inl, InputFault, inr, IsAbsent, IsFaultOf}
-use Imports.{IsFileRefused, IsProofOf, IsReadFrom, IsReadFromFile, IsUnchecked, Line, List, LogRead, map, max_proof}
-use Imports.{nodes_of, None, of_one, of_refusal, Ok, on_one, on_refusal, OnOneFile, Option, Post, read_ends, read_then}
-use Imports.{refl, Refusal, refusal_of, refused, report_by, Result, RosterRead, row_of, RuleSource, RuleTree}
+use Imports.{IsFileRefused, IsProofOf, IsReadFrom, IsReadFromFile, IsUnchecked, length, Line, List, LogRead, map}
+use Imports.{max_proof, nodes_of, None, of_one, of_refusal, Ok, on_one, on_refusal, OnOneFile, Option, Post, read_ends}
+use Imports.{read_then, refl, Refusal, refusal_of, refused, report_by, Result, RosterRead, row_of, RuleSource, RuleTree}
 use Imports.{SealedEntry, Some, some_as_read, source_named, source_word, standard, StoreGhosts, sym, too_long, true}
 use Imports.{Unchecked, ℕ, ◌++◌, ◌∙◌, ◌∷◌, ◌≡◌, ◌≢◌}
-use Rattle.evidence.specs.declared.fault.InputFault.TheVariants.{ReadFault}
 use Rattle.log_commands.proofs.{CheckSound.proof_of, ProveAnswers.graph_not_absent, ReadSteps.read_as}
 use Rattle.log_commands.proofs.{ReadSteps.refused_unread}
+use Rattle.evidence.specs.declared.fault.InputFault.TheVariants.{ReadFault}
 use Rattle.log_commands.specs.declared.check.Unchecked.TheVariants.{TooWide}
 use Rattle.hall_outside.specs.declared.reading.FileFault.TheVariants as file
-use Rattle.std.proofs.Common.{length}
 
 -- a proof's file that is too long is refused as too long
 pub long_proof : (name : List ℕ) (graph : Graph) (this : Option (List ℕ)) →
@@ -49,11 +48,9 @@ in_one : {A B : Type 0} (First : Option (List ℕ) → Result A Refusal → Type
     (files : List (Option (List ℕ))) (answer : Result B Refusal) →
     AndThen (λ found. OnOneFile (λ file. First file found) files) Next answer →
     OnOneFile (λ file. AndThen (First file) Next answer) files
-in_one First Next [] answer (inl (found, gives, is)) = absurd gives
-in_one First Next [] answer (inr (refusal, gives, is)) = absurd gives
 in_one First Next (file ∷ []) answer is = is
-in_one First Next (file ∷ other ∷ files) answer (inl (found, gives, is)) = absurd gives
-in_one First Next (file ∷ other ∷ files) answer (inr (refusal, gives, is)) = absurd gives
+in_one First Next files answer (inl (found, gives, is)) = absurd gives
+in_one First Next files answer (inr (refusal, gives, is)) = absurd gives
 
 module _ {S P : Type 0} (of : StoreGhosts S) (proof : List ℕ) (lines_of : P → List Line)
     (graph : EntryGraph SealedEntry) (old new : S) where

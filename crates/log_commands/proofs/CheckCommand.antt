@@ -1,15 +1,12 @@
 -- The command `check`.
-use Rattle.log_commands.proofs.Imports.{[], All-from_recursion, arith, Broken, carried_out_as, check_answer}
+use Rattle.log_commands.proofs.Imports.{[], All-from_recursion, ap, arith, Broken, carried_out_as, check_answer}
 use Rattle.log_commands.proofs.Imports.{check_parts, checked_status, CheckReport, Contains, contains_as, Err}
-use Rattle.log_commands.proofs.Imports.{HasOneAnswer, HasStatuses, inl, inr, IsCarriedOut, IsCompleted, IsOfCommands}
-use Rattle.log_commands.proofs.Imports.{List, of_read, Ok, refl, same_or, source_named, Status, sym, Unsettled}
-use Rattle.log_commands.proofs.Imports.{ap, verdict_on_all, ℕ, ◌∙◌, ◌∷◌, ◌≡◌, ◌≢◌}
+use Rattle.log_commands.proofs.Imports.{GivesCheck, HasOneAnswer, HasStatuses, inl, inr, IsCarriedOut, IsCheckOf}
+use Rattle.log_commands.proofs.Imports.{IsCompleted, IsOfCommands, List, of_read, Ok, refl, same_or, source_named}
+use Rattle.log_commands.proofs.Imports.{Status, sym, Unsettled, verdict_on_all, ℕ, ◌∙◌, ◌∷◌, ◌≡◌}
+use Rattle.log_commands.proofs.{OneOrderAnswer.OrderOne, OneProof.one_check, OneProof.ProofOne}
 use Rattle.audit_proof.specs.{declared.fault.Verdict.Verdict, declared.fault.Verdict.TheVariants.Kept}
-use Rattle.log_commands.proofs.OneProof.{one_check, ProofOne}
-use Rattle.log_commands.proofs.{OneOrderAnswer.OrderOne}
 use Rattle.command_line.specs.declared.status.Status.TheVariants as status
-use Rattle.log_commands.specs.Check.{IsCheckOf}
-use Rattle.log_commands.specs.Check.{GivesCheck}
 
 -- over files it has one answer
 pub check_one : OrderOne → ProofOne → (roster rules proof : List ℕ) (logs : List (List ℕ)) →
@@ -52,9 +49,3 @@ check_has_statuses roster rules proof logs = record {
       (verdict_has (verdict_on_all report.verdicts))) is;
   some = All-from_recursion IsOfCommands own_statuses (tt, (tt, (tt, (tt, (tt, tt)))));
 }
-
--- the status of a verdict isn't that of an absent file
-pub verdict_not_absent : (verdict : Verdict) → checked_status verdict ≢ status.Absent
-verdict_not_absent Kept e = cc
-verdict_not_absent Broken e = cc
-verdict_not_absent Unsettled e = cc

@@ -4,25 +4,22 @@ use Imports.{[], AllZip, AndThen, ap, AreChecked, AreJudged, AuditReport, AuditV
 use Imports.{CheckReport, ChecksFiles, ChecksLogs, ChecksSayNoMore, Descends, entries_of, EntryGraph, files_read}
 use Imports.{GivesCheck, GivesGraph, GivesLogs, GivesReport, inl, inr, is_whole, IsCheckAnswer, IsJudged, IsLessKnown}
 use Imports.{IsOfReport, IsProofOf, IsVerdict, length, length-map, Line, List, LogRead, map, nodes_of, Ok, Option}
-use Imports.{parents_of, Post, proofs_say_no_more, ragged_of, refl, refusal_answer, RosterRead, Row}
-use Imports.{row_of, RulesAreReadInOneWay, RuleSource, RuleTree}
-use Imports.{SaysNoMore, SealedEntry, source_named, status_is, subst, sym, Three, three, three_by, Trees, verdict_of}
-use Imports.{WithGraph, WithRules, ℕ, ◌++◌, ◌∙◌, ◌∷◌, ◌≡◌}
+use Imports.{parents_of, Post, proofs_say_no_more, ragged_of, refl, refusal_answer, RosterRead, Row, row_of}
+use Imports.{RulesAreReadInOneWay, RuleSource, RuleTree, SaysNoMore, SealedEntry, source_named, status_is, subst, sym}
+use Imports.{Three, three, three_by, Trees, verdict_of, WithGraph, WithRules, ℕ, ◌++◌, ◌∙◌, ◌∷◌, ◌≡◌}
+use Rattle.log_commands.proofs.{CheckSound.proof_of, FilesBegun.begun_by, FilesBegun.found_then, FilesBegun.one_begun}
+use Rattle.log_commands.proofs.{FilesBegun.same_found, HonestAudits.no_report, OneOrderAnswer.OrderOne}
+use Rattle.log_commands.proofs.{OneProof.ones_of, OneProof.same_ends}
 use Rattle.audit_proof.specs.declared.fault.Verdict.{Verdict}
-use Rattle.log_commands.proofs.FilesBegun.{begun_by, one_begun, same_found}
-use Rattle.log_commands.proofs.{CheckSound.proof_of, OneOrderAnswer.OrderOne, OneProof.ones_of, OneProof.same_ends}
-use Rattle.log_commands.proofs.{HonestAudits.no_report}
 use Rattle.rule_engine.specs.declared.verdict.Verdict.TheVariants as audited
 
 -- where a value is the one of which an audit has its verdict, or unknown, a check says no more
 less_said : (rows : List Row) (order : ℕ → ℕ → Three) (wholes : ℕ → Bool) (tree : Trees) (v : AuditVerdict)
     (value : Three) → IsLessKnown value (three rows order wholes tree) → IsVerdict rows order wholes tree v →
     SaysNoMore v (verdict_of value)
-less_said rows order wholes tree audited.Kept value (inl unknown) is = inl (ap verdict_of unknown)
+less_said rows order wholes tree v value (inl unknown) is = inl (ap verdict_of unknown)
 less_said rows order wholes tree audited.Kept value (inr same) is = inr (ap verdict_of (same ∙ is))
-less_said rows order wholes tree (audited.Broken places) value (inl unknown) is = inl (ap verdict_of unknown)
 less_said rows order wholes tree (audited.Broken places) value (inr same) (is, _) = inr (ap verdict_of (same ∙ is))
-less_said rows order wholes tree audited.Unsettled value (inl unknown) is = inl (ap verdict_of unknown)
 less_said rows order wholes tree audited.Unsettled value (inr same) is = inr (ap verdict_of (same ∙ is))
 
 module _ (rows : List Row) (graph : EntryGraph SealedEntry) (down : Descends (parents_of graph.links))
@@ -42,11 +39,10 @@ module _ (rows : List Row) (graph : EntryGraph SealedEntry) (down : Descends (pa
       AreJudged rows (nodes_of graph) rules vs → AreChecked rows (nodes_of graph) lines rules cs →
       AllZip SaysNoMore vs cs
   all_no_more [] [] [] a b = tt
-  all_no_more [] [] (c ∷ cs) a b = absurd b
-  all_no_more [] (v ∷ vs) cs a b = absurd a
-  all_no_more (r ∷ rules) [] cs a b = absurd a
-  all_no_more (r ∷ rules) (v ∷ vs) [] a b = absurd b
   all_no_more (r ∷ rules) (v ∷ vs) (c ∷ cs) a b = (no_more r v c a.0 b.0, all_no_more rules vs cs a.1 b.1)
+  all_no_more [] [] cs a b = absurd b
+  all_no_more (r ∷ rules) (v ∷ vs) cs a b = absurd b
+  all_no_more rules vs cs a b = absurd a
 
 -- a check has the report's rules, and of each says no more
 record IsNoMoreThan (report : AuditReport) (checked : CheckReport) : Type 0 where
@@ -60,32 +56,30 @@ module _ (order : OrderOne) (rules_one : RulesAreReadInOneWay) (proof : List ℕ
       (logs : List LogRead) →
       AndThen (GivesGraph (entries_of logs)) (WithGraph machines source rules names logs) (Ok report) →
       ChecksLogs machines source rules proof file logs (Ok checked) → IsNoMoreThan report checked
-  by_logs machines source rules file logs (inl (graph, gives, inl (vs, judged, e)))
-      (inl (other, graphed, inl (lines, read, inl (cs, are, f)))) =
-      let same = same_found graph other (order.graph (entries_of logs) (Ok graph) (Ok other) gives graphed) in
+  by_logs machines source rules file logs audits checks =
+      let (graph, gives, by_rules) = found_then audits in
+      let (vs, judged, e) = found_then by_rules in
+      let (other, graphed, by_graph) = found_then checks in
+      let (lines, read, by_lines) = found_then by_graph in
+      let (cs, are, f) = found_then by_lines in
+      let same = same_found (order.graph (entries_of logs) (Ok graph) (Ok other) gives graphed) in
       let here = subst (λ g. AreJudged (map (row_of machines) g.survivors) (nodes_of g) rules vs) same judged in
       let less = all_no_more (map (row_of machines) other.survivors) other graphed.2.kept.linked.arrows.descends
       (length-map other.survivors (row_of machines)) lines (proof_of proof other file lines read) rules vs cs here are in
-      coe 1 0 (i. IsNoMoreThan (same_found report _ e i) (same_found checked _ f i)) (record { rules = refl; less = less })
-  by_logs machines source rules file logs (inl (graph, gives, inr (r, bad, e))) checks = cc
-  by_logs machines source rules file logs (inr (r, bad, e)) checks = cc
-  by_logs machines source rules file logs x (inl (other, graphed, inl (lines, read, inr (r, bad, e)))) = cc
-  by_logs machines source rules file logs x (inl (other, graphed, inr (r, bad, e))) = cc
-  by_logs machines source rules file logs x (inr (r, bad, e)) = cc
+      coe 1 0 (i. IsNoMoreThan (same_found e i) (same_found f i)) (record { rules = refl; less = less })
 
   -- by the files of logs, under one roster
   by_files : (read : RosterRead) (source : RuleSource) (rules : List RuleTree) (files : List (Option (List ℕ)))
       (last : Option (List ℕ)) → WithRules read source rules names files (Ok report) →
       ChecksFiles read source rules proof names (files ++ last ∷ []) (Ok checked) → IsNoMoreThan report checked
-  by_files read source rules files last (inl (logs, keep, with)) (others, end, e, inl (found, also, checks)) =
+  by_files read source rules files last audits (others, end, e, checks) =
+      let (logs, keep, with) = found_then audits in
+      let (found, also, by_found) = found_then checks in
       let (front, ends) = same_ends files others last end e in
       let here = subst (λ fs. GivesLogs read.roster.machines read.election names fs (Ok found)) (sym front) also in
       let alike = order.logs read.roster.machines read.election names files (Ok found) (Ok logs) here keep in
       by_logs read.roster.machines source rules end logs with
-      (subst (λ ls. ChecksLogs read.roster.machines source rules proof end ls (Ok checked))
-      (same_found found logs alike) checks)
-  by_files read source rules files last (inl (logs, keep, with)) (others, end, e, inr (r, bad, f)) = cc
-  by_files read source rules files last (inr (r, bad, f)) checks = cc
+      (subst (λ ls. ChecksLogs read.roster.machines source rules proof end ls (Ok checked)) (same_found alike) by_found)
 
   -- by all files
   by_all : (roster : List ℕ) (source : RuleSource) (roster_file rules_file : Option (List ℕ))

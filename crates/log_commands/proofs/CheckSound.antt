@@ -1,19 +1,14 @@
 -- What a check says holds, whoever made the proof.
-use Rattle.log_commands.proofs.Imports
-use Imports.{AllZip-long, Answer, AreChecked, Broken, check_answer, CheckReport, ChecksFiles, Completes, entries_of}
-use Imports.{EntryGraph, False, GivesCheck, GivesGraph, GivesProof, HaveMakers, HoldsOf, inl, inr, IsCheckAnswer}
-use Imports.{IsCheckOf, IsLessKnown, IsProofOf, length, length-map, Line, List, logs_have_makers, map, nodes_of, None}
-use Imports.{Ok, Option, parents_of, Plain, plain_rules, ProofsSayNoMore, ragged_of, refl, RosterRead, row_of, row_said}
-use Imports.{RuleSource, RuleTree, SealedEntry, Some, subst, survivors_have_makers, sym, Three, True, Unknown}
-use Imports.{verdict_of, ℕ, ◌∙◌, ◌≡◌}
+use Rattle.log_commands.proofs.Imports.{AllZip-long, Answer, AreChecked, Broken, check_answer, CheckReport, ChecksFiles}
+use Rattle.log_commands.proofs.Imports.{Completes, entries_of, EntryGraph, False, GivesCheck, GivesGraph, GivesProof}
+use Rattle.log_commands.proofs.Imports.{HaveMakers, HoldsOf, inl, inr, IsCheckAnswer, IsCheckOf, IsLessKnown, IsProofOf}
+use Rattle.log_commands.proofs.Imports.{length, length-map, Line, List, logs_have_makers, map, nodes_of, None, Ok}
+use Rattle.log_commands.proofs.Imports.{Option, parents_of, Plain, plain_rules, ProofsSayNoMore, ragged_of, refl}
+use Rattle.log_commands.proofs.Imports.{row_of, row_said, RuleSource, RuleTree, SealedEntry, Some, subst}
+use Rattle.log_commands.proofs.Imports.{survivors_have_makers, sym, Three, True, Unknown, verdict_of, ℕ, ◌∙◌, ◌≡◌}
+use Rattle.log_commands.proofs.{FilesBegun.found_then, FilesBegun.opened, FilesBegun.same_found}
+use Rattle.log_commands.proofs.{PlainSurvivors.some_completion, Zips.zip_weaker}
 use Rattle.audit_proof.specs.{declared.fault.Verdict.Verdict, declared.fault.Verdict.TheVariants.Kept}
-use Rattle.log_commands.proofs.{FilesBegun.opened, FilesBegun.same_found, PlainSurvivors.some_completion}
-use Rattle.log_commands.proofs.{Zips.zip_weaker}
-use Rattle.std.specs.Prelude.{Result}
-use Rattle.evidence.specs.Refusal.{Refusal}
-use Rattle.roster.specs.declared.post.Post.{Post}
-use Rattle.log_commands.specs.inside.Checking.{ChecksLines, ChecksProof}
-use Rattle.std.specs.Prelude.{Err}
 
 -- what a verdict says of a value that is known, is known of one of which more is known
 told : (x y : Three) → IsLessKnown x y → (verdict_of x ≡ Kept → y ≡ True) × (verdict_of x ≡ Broken → y ≡ False)
@@ -42,66 +37,30 @@ pub record IsFound (report : CheckReport) : Type 0 where
       report.verdicts
   pub survivors : graph.survivors ≡ report.survivors
 
--- the report of these
-abbrev found_of : List Post → EntryGraph SealedEntry → List RuleTree → List Verdict → CheckReport
-found_of machines graph rules vs = record {
-  machines = machines;
-  survivors = graph.survivors;
-  rules = rules;
-  verdicts = vs;
-}
-
 module _ (report : CheckReport) where
-  -- what is found isn't refused
-  not_refused : (r : Refusal) → (let found : Result CheckReport Refusal = Ok report in found) ≡ Err r → ⊥
-  not_refused r e = cc
-
-  -- by the lines of a proof
-  lines_found : (machines : List Post) (source : RuleSource) (rules : List RuleTree) (given : List SealedEntry)
-      (graph : EntryGraph SealedEntry) (lines : List Line) → GivesGraph given (Ok graph) →
-      HaveMakers machines graph.survivors → IsProofOf (nodes_of graph) lines →
-      ChecksLines machines source rules graph lines (Ok report) → IsFound report
-  lines_found machines source rules given graph lines gives makers is (inl (vs, are, e)) =
-      subst IsFound (sym (same_found report (found_of machines graph rules vs) e)) (record {
-        given = given;
-        graph = graph;
-        lines = lines;
-        gives = gives;
-        makers = makers;
-        proof = is;
-        checked = are;
-        survivors = refl;
-      })
-  lines_found machines source rules given graph lines gives makers is (inr (r, bad, e)) = absurd (not_refused r e)
-
-  -- of what a proof's file gives
-  proof_found : (machines : List Post) (source : RuleSource) (rules : List RuleTree) (proof : List ℕ)
-      (file : Option (List ℕ)) (given : List SealedEntry) (graph : EntryGraph SealedEntry) →
-      GivesGraph given (Ok graph) → HaveMakers machines graph.survivors →
-      ChecksProof machines source rules proof file graph (Ok report) → IsFound report
-  proof_found machines source rules proof file given graph gives makers (inl (lines, read, with)) =
-      lines_found machines source rules given graph lines gives makers (proof_of proof graph file lines read) with
-  proof_found machines source rules proof file given graph gives makers (inr (r, bad, e)) = absurd (not_refused r e)
-
-  -- of what the files of logs and of a proof give
-  files_found : (read : RosterRead) (source : RuleSource) (rules : List RuleTree) (proof : List ℕ)
-      (names : List (List ℕ)) (files : List (Option (List ℕ))) →
-      ChecksFiles read source rules proof names files (Ok report) → IsFound report
-  files_found read source rules proof names files (fs, last, e, inl (logs, gives, inl (graph, graphed, with))) =
-      proof_found read.roster.machines source rules proof last (entries_of logs) graph graphed
-      (survivors_have_makers read.roster.machines (entries_of logs) graph
-      (logs_have_makers read.roster.machines read.election names fs logs gives) graphed) with
-  files_found read source rules proof names files (fs, last, e, inl (logs, gives, inr (r, bad, f))) =
-      absurd (not_refused r f)
-  files_found read source rules proof names files (fs, last, e, inr (r, bad, f)) = absurd (not_refused r f)
-
   -- a report that files give is found by their roster, logs, proof and rules
   pub check_found : (roster : List ℕ) (source : RuleSource) (proof : List ℕ) (names : List (List ℕ))
       (files : List (Option (List ℕ))) → GivesCheck roster source proof names files (Ok report) → IsFound report
   check_found roster source proof names files gives =
       let o = opened (λ read rules rest. ChecksFiles read source rules proof names rest) roster source files report
       gives in
-      files_found o.begun.read source o.begun.rules proof names o.rest o.next
+      let machines = o.begun.read.roster.machines in
+      let (fs, last, cut, by_files) = o.next in
+      let (logs, keep, by_logs) = found_then by_files in
+      let (graph, graphed, by_graph) = found_then by_logs in
+      let (lines, read, by_lines) = found_then by_graph in
+      let (verdicts, checked, e) = found_then by_lines in
+      subst IsFound (sym (same_found e)) (record {
+        given = entries_of logs;
+        graph = graph;
+        lines = lines;
+        gives = graphed;
+        makers = survivors_have_makers machines (entries_of logs) graph
+            (logs_have_makers machines o.begun.read.election names fs logs keep) graphed;
+        proof = proof_of proof graph last lines read;
+        checked = checked;
+        survivors = refl;
+      })
 
   -- a report that was found has a verdict for each rule
   pub a_verdict_each : IsFound report → length report.rules ≡ length report.verdicts
@@ -133,17 +92,12 @@ module _ (report : CheckReport) where
 
     -- so the answer says of the rules what holds
     pub check_right : (answer : Answer) → answer ≡ check_answer report.rules report.verdicts → IsCheckOf report answer
-    check_right answer answered =
-        let P : List SealedEntry → Type 0 = λ S. IsCheckOf (record {
-          machines = report.machines;
-          survivors = S;
-          rules = report.rules;
-          verdicts = report.verdicts;
-        }) answer in
-        subst P found.survivors (record {
-          kept = zip_weaker _ _ (λ rule v checked. (sound rule v checked).0) report.rules report.verdicts found.checked;
-          broken = zip_weaker _ _ (λ rule v checked. (sound rule v checked).1) report.rules report.verdicts
-              found.checked;
-          some = some_completion report.machines found.given found.graph found.makers found.gives;
-          told = answered;
-        })
+    check_right answer answered = record {
+      kept = rw (← found.survivors)
+          (zip_weaker _ _ (λ rule v checked. (sound rule v checked).0) report.rules report.verdicts found.checked);
+      broken = rw (← found.survivors)
+          (zip_weaker _ _ (λ rule v checked. (sound rule v checked).1) report.rules report.verdicts found.checked);
+      some = rw (← found.survivors)
+          (some_completion report.machines found.given found.graph found.makers found.gives);
+      told = answered;
+    }

@@ -1,18 +1,16 @@
 -- Rules checked one after another.
-use Rattle.log_commands.proofs.Imports.{[], all_zipped_more, ap, AreChecked, arith, CheckFault, Err, get_or, Graph}
-use Rattle.log_commands.proofs.Imports.{IsCheckAnswer, IsFirstTooWide, length, Line, List, map, map-append, Ok}
-use Rattle.log_commands.proofs.Imports.{option_map, Row, Rule, rule_tree, RuleTree, slice_get, slice_get-get_or}
-use Rattle.log_commands.proofs.Imports.{slice_get-map, Some, subst, suc, sym, take, take_more, zero, ℕ, ◌++◌, ◌+◌, ◌<◌}
-use Rattle.log_commands.proofs.Imports.{◌∙◌, ◌∷◌, ◌≡◌}
-use Rattle.audit_proof.specs.{declared.fault.CheckFault.TheVariants.TooWide, declared.fault.Verdict.Verdict}
+use Rattle.log_commands.proofs.Imports
+use Imports.{[], all_zipped_more, ap, AreChecked, CheckFault, Err, get_or, Graph, IsCheckAnswer, IsFirstTooWide, length}
+use Imports.{Line, List, map, map_more, Ok, option_map, Row, Rule, rule_tree, slice_get, slice_get-get_or}
+use Imports.{slice_get-map, slice_get_take, Some, subst, sym, take, take-map, ℕ, ◌++◌, ◌+◌, ◌<◌, ◌∙◌, ◌∷◌, ◌≡◌}
 use Rattle.log_commands.proofs.OneProof.{checked_is_narrow}
+use Rattle.audit_proof.specs.{declared.fault.CheckFault.TheVariants.TooWide, declared.fault.Verdict.Verdict}
 
 -- the first rules and one more
 trees_more : (rules : List Rule) (i : ℕ) (rule : Rule) → i < length rules → rule ≡ get_or rules i rule →
     map rule_tree (take i rules) ++ rule_tree rule ∷ [] ≡ map rule_tree (take (i + 1) rules)
 trees_more rules i rule within is =
-    sym (ap (map rule_tree) (take_more rules i rule within)
-    ∙ map-append rule_tree (take i rules) (get_or rules i rule ∷ [])
+    sym (map_more rule_tree rules i rule within
     ∙ ap (λ (r : Rule). map rule_tree (take i rules) ++ rule_tree r ∷ []) (sym is))
 
 module _ (rows : List Row) (graph : Graph) (lines : List Line) (rules : List Rule) (i : ℕ) (rule : Rule)
@@ -37,14 +35,6 @@ module _ (rows : List Row) (graph : Graph) (lines : List Line) (rules : List Rul
     too_wide = subst (λ (f : CheckFault). IsCheckAnswer rows graph.ragged lines (rule_tree rule).body (Err f)) at answer;
     first = λ k tree below there.
         checked_is_narrow rows graph lines (map rule_tree (take i rules)) verdicts k tree so_far
-        (early rules i k tree below there);
+        (ap (λ trees. slice_get trees k) (sym (take-map rule_tree i rules))
+        ∙ slice_get_take i (map rule_tree rules) k below ∙ there);
   }
-    where
-      -- a rule at a place below i is one of the first i
-      early : (list : List Rule) (n k : ℕ) (tree : RuleTree) → k < n → slice_get (map rule_tree list) k ≡ Some tree →
-          slice_get (map rule_tree (take n list)) k ≡ Some tree
-      early [] zero k tree below there = absurd (omega arith)
-      early [] (suc n) k tree below there = there
-      early (r ∷ list) zero k tree below there = absurd (omega arith)
-      early (r ∷ list) (suc n) zero tree below there = there
-      early (r ∷ list) (suc n) (suc k) tree below there = early list n k tree (omega arith) there

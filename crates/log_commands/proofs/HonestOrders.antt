@@ -8,8 +8,8 @@ use Imports.{one_order, Option, OrRefused, Post, read_of_script, read_same, Refu
 use Imports.{roster_not_refused, roster_of, RosterRead, Script, script_distinct, script_given, script_not_refused}
 use Imports.{script_read, scripts_are_honest, SealedEntry, sent_in, stamps_rise, subst, survivors_have_makers, sym}
 use Imports.{World, world_of_script, ℕ, ◌∙◌, ◌≡◌, ◌≢◌}
-use Rattle.log_commands.proofs.HonestWords.{word_exact, word_in, word_known}
-use Rattle.log_commands.proofs.{EntryTexts.named_has, OrderWords.word_is_settled, PlainSurvivors.is_exact}
+use Rattle.log_commands.proofs.{EntryTexts.named_has, HonestWords.word_exact, HonestWords.word_in}
+use Rattle.log_commands.proofs.{HonestWords.word_known, OrderWords.word_is_settled, PlainSurvivors.is_exact}
 use Rattle.command_line.specs.declared.status.Status.TheVariants as status
 
 -- no refusal has the status of a word

@@ -12,8 +12,8 @@ use Imports.{RosterRead, row_of, RuleTree, Script, script_given, script_not_refu
 use Imports.{scripts_are_never_too_wide, scripts_lead_to_honest_places, SealedEntry, sent_in, slice_get-get_or}
 use Imports.{standard, standard_rules, status_is, subst, Summary, sym, take, take-append-drop, three_in, Watches}
 use Imports.{WereSentIn, World, world_of_script, ℕ, ◌+◌, ◌∙◌, ◌∷◌, ◌≡◌, ◌≢◌, ◌⊎◌}
-use Rattle.log_commands.proofs.{FilesBegun.same_found, HonestAudits.only_broken, OneWatch.report_by}
-use Rattle.log_commands.proofs.{WatchCommand.report_in, WatchCommand.told_of}
+use Rattle.log_commands.proofs.{FilesBegun.found_then, FilesBegun.same_found, HonestAudits.only_broken}
+use Rattle.log_commands.proofs.{OneWatch.report_by, WatchCommand.report_in, WatchCommand.told_of}
 use Rattle.entry_order.specs.declared.three.Three.TheVariants as three
 
 -- what no member is leaves none
@@ -163,18 +163,16 @@ module _ (script : Script) (w : World SealedEntry) (roster : Option (List ℕ)) 
     -- so it is over whatever was read: the script's roster, the standard rules and the logs
     said_of : (found : Evidence) → Gives (Ok found) → (watched : Answer) →
         OrRefused (Watches standard names found) (λ told other. other ≡ told) watched → IsSaid watched
-    said_of found (inl (read, given, inl (logs, gives, e))) watched right =
+    said_of found reads watched right =
+        let (read, given, by_roster) = found_then reads in
+        let (logs, gives, e) = found_then by_roster in
         let own = read_same script w roster place.roster name read given in
         let is : found ≡ evidence logs =
-        same_found found _ e
+        same_found e
         ∙ ap (λ (r : RosterRead). record { machines = r.roster.machines; rules = standard_rules; logs = logs }) own in
-        said_over logs (subst (λ (ev : Evidence). Gives (Ok ev)) is (inl (read, given, inl (logs, gives, e))))
+        said_over logs (subst (λ (ev : Evidence). Gives (Ok ev)) is reads)
         (subst (λ (r : RosterRead). GivesLogs r.roster.machines r.election names files (Ok logs)) own gives) watched
         (subst (λ (ev : Evidence). OrRefused (Watches standard names ev) (λ told other. other ≡ told) watched) is right)
-    said_of found (inl (read, given, inr (refusal, gives, e))) watched right =
-        absurd (let no : ⊥ = cc in no)
-    said_of found (inr (refusal, gives, e)) watched right =
-        absurd (let no : ⊥ = cc in no)
 
 -- over what is left of an honest place `watch` says of no standard rule that it is broken
 pub watches_break_none : HonestWatchesBreakNoRule
@@ -182,6 +180,6 @@ watches_break_none roster logs script w place apart name names watched (inl (ref
     absurd (always_read script w roster logs place apart name names other gives)
 watches_break_none roster logs script w place apart name names watched (inl (refusal, inl (found, given, watches), e)) =
     said_of script w roster logs place apart name names found given watched (inl (refusal, watches, e))
-watches_break_none roster logs script w place apart name names watched (inr (told, inr (other, gives, same), e)) = cc
-watches_break_none roster logs script w place apart name names watched (inr (told, inl (found, given, watches), e)) =
+watches_break_none roster logs script w place apart name names watched (inr (told, gives, e)) =
+    let (found, given, watches) = found_then gives in
     said_of script w roster logs place apart name names found given watched (inr (told, watches, e))

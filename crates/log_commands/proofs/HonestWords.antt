@@ -68,24 +68,21 @@ module _ (w : World SealedEntry) (e f : SealedEntry) where
       -- of the words that are known one alone is right
       one : (word other : OrderWord) → word ≢ says.Unknown → other ≢ says.Unknown → IsWordIn w e f word →
           IsWordIn w e f other → word ≡ other
+      one says.Unknown other known named is holds = absurd (known refl)
+      one word says.Unknown known named is holds = absurd (named refl)
       one says.Same says.Same known named is holds = refl
       one says.Same says.Before known named is holds = absurd ((none_of_itself acyclic is).0 holds)
       one says.Same says.After known named is holds = absurd ((none_of_itself acyclic is).1 holds)
       one says.Same says.Apart known named is (differ, not_before, not_after) = absurd (differ is)
-      one says.Same says.Unknown known named is holds = absurd (named refl)
       one says.Before says.Same known named is holds = absurd ((none_of_itself acyclic holds).0 is)
       one says.Before says.Before known named is holds = refl
       one says.Before says.After known named is holds = absurd (acyclic e f is holds)
       one says.Before says.Apart known named is (differ, not_before, not_after) = absurd (not_before is)
-      one says.Before says.Unknown known named is holds = absurd (named refl)
       one says.After says.Same known named is holds = absurd ((none_of_itself acyclic holds).1 is)
       one says.After says.Before known named is holds = absurd (acyclic e f holds is)
       one says.After says.After known named is holds = refl
       one says.After says.Apart known named is (differ, not_before, not_after) = absurd (not_after is)
-      one says.After says.Unknown known named is holds = absurd (named refl)
       one says.Apart says.Same known named (differ, not_before, not_after) holds = absurd (differ holds)
       one says.Apart says.Before known named (differ, not_before, not_after) holds = absurd (not_before holds)
       one says.Apart says.After known named (differ, not_before, not_after) holds = absurd (not_after holds)
       one says.Apart says.Apart known named is holds = refl
-      one says.Apart says.Unknown known named is holds = absurd (named refl)
-      one says.Unknown other known named is holds = absurd (known refl)

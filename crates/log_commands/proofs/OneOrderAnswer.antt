@@ -1,16 +1,13 @@
 -- Files have at most one answer to `order`.
 use Rattle.log_commands.proofs.Imports
-use Imports.{[], Answer, ap, by_digest, by_number, Contains, Distinct, Done, entries_of}
-use Imports.{EntriesGiveOneGraph, EntryName, Equal, exact_bytes, Greater, inl, inr, IsBefore, IsNamedBy, IsOrderAmong}
-use Imports.{IsOrderAnswer, IsOrderOver, IsOrderUnder, IsPath, IsWordOf, Less, line_answer, List, LogFilesGiveOneAnswer}
-use Imports.{MeansEntry, nat_cmp, nat_list_cmp_total, node_of_sealed, NoSurvivorPrecedesItself, Option, order_word}
-use Imports.{Ordering, ordering_reverse, OrderWord, Post, Precedes, refl, RosterFilesGiveOneAnswer, RosterRead}
-use Imports.{one_or, SealedEntry, slice_cmp, subst, SurvivorsAreDistinct, sym, ℕ}
-use Imports.{◌++◌, ◌∙◌, ◌∷◌, ◌≡◌, ◌≢◌}
+use Imports.{Answer, ap, by_digest, by_number, Distinct, Done, entries_of, EntriesGiveOneGraph, EntryGraph, EntryName}
+use Imports.{Equal, exact_bytes, Greater, inl, inr, IsBefore, IsNamedBy, IsOrderAmong, IsOrderAnswer, IsOrderOver}
+use Imports.{IsOrderUnder, IsWordOf, Less, line_answer, List, LogFilesGiveOneAnswer, LogRead, MeansEntry, nat_cmp}
+use Imports.{nat_list_cmp_total, node_of_sealed, NoSurvivorPrecedesItself, one_or, Option, order_word, Ordering}
+use Imports.{ordering_reverse, OrderWord, Post, Precedes, precedes_over, refl, RosterFilesGiveOneAnswer, RosterRead}
+use Imports.{SealedEntry, slice_cmp, subst, SurvivorsAreDistinct, sym, ℕ, ◌∙◌, ◌≡◌, ◌≢◌}
 use Rattle.log_commands.proofs.EntryTexts.{one_name}
 use Rattle.log_commands.specs.declared.order_word.OrderWord.TheVariants as says
-use Rattle.entry_graph.specs.EntryGraph.{EntryGraph}
-use Rattle.log_files.specs.Logs.{LogRead}
 
 -- files give one roster and one list of logs, entries give one graph, and its survivors are sound
 pub record OrderOne : Type 0 where
@@ -24,13 +21,6 @@ pub record OrderOne : Type 0 where
   pub digests : SurvivorsAreDistinct
   -- and none precedes itself
   pub no_cycle : NoSurvivorPrecedesItself
-
--- a path goes on
-path_on : (S : List SealedEntry) (f : SealedEntry) (bs : List SealedEntry) (g : SealedEntry) (cs : List SealedEntry)
-    (e : SealedEntry) → IsPath node_of_sealed S f bs g → Contains S g → IsPath node_of_sealed S g cs e →
-    IsPath node_of_sealed S f (bs ++ g ∷ cs) e
-path_on S f [] g cs e names has rest = (has, names, rest)
-path_on S f (b ∷ bs) g cs e (there, named, path) has rest = (there, named, path_on S b bs g cs e path has rest)
 
 -- neither of two digests is lower only where they are one
 same_digest : (d c : List ℕ) → slice_cmp nat_cmp d c ≢ Less → slice_cmp nat_cmp c d ≢ Less → d ≡ c
@@ -59,8 +49,7 @@ module _ (machines : List Post) (S : List SealedEntry) (digests : Distinct node_
 module _ (S : List SealedEntry) (no_cycle : (e : SealedEntry) → ¬ Precedes node_of_sealed S e e) where
   -- no two entries are before each other
   not_both : (e f : SealedEntry) → IsBefore S e f → IsBefore S f e → ⊥
-  not_both e f (has_e, has_f, bs, path) (also_f, also_e, cs, rest) =
-      no_cycle e (has_e, has_e, bs ++ f ∷ cs, path_on S e bs f cs e path has_f rest)
+  not_both e f before after = no_cycle e (precedes_over node_of_sealed S e f e before after)
 
   -- where both are one entry, it isn't before itself
   not_itself : (e f : SealedEntry) → e ≡ f → IsBefore S e f → ⊥
@@ -75,28 +64,22 @@ module _ (S : List SealedEntry) (no_cycle : (e : SealedEntry) → ¬ Precedes no
   same_word e f says.Same says.Same x y = refl
   same_word e f says.Same says.Before x y = absurd (not_itself e f x y)
   same_word e f says.Same says.After x y = absurd (not_itself_after e f x y)
-  same_word e f says.Same says.Apart x (apart, _) = absurd (apart.differ x)
-  same_word e f says.Same says.Unknown x (apart, _) = absurd (apart.differ x)
+  same_word e f says.Same other x y = absurd (y.0.differ x)
   same_word e f says.Before says.Same x y = absurd (not_itself e f y x)
   same_word e f says.Before says.Before x y = refl
   same_word e f says.Before says.After x y = absurd (not_both e f x y)
-  same_word e f says.Before says.Apart x (apart, _) = absurd (apart.not_before x)
-  same_word e f says.Before says.Unknown x (apart, _) = absurd (apart.not_before x)
+  same_word e f says.Before other x y = absurd (y.0.not_before x)
   same_word e f says.After says.Same x y = absurd (not_itself_after e f y x)
   same_word e f says.After says.Before x y = absurd (not_both e f y x)
   same_word e f says.After says.After x y = refl
-  same_word e f says.After says.Apart x (apart, _) = absurd (apart.not_after x)
-  same_word e f says.After says.Unknown x (apart, _) = absurd (apart.not_after x)
-  same_word e f says.Apart says.Same (apart, _) y = absurd (apart.differ y)
-  same_word e f says.Apart says.Before (apart, _) y = absurd (apart.not_before y)
-  same_word e f says.Apart says.After (apart, _) y = absurd (apart.not_after y)
+  same_word e f says.After other x y = absurd (y.0.not_after x)
   same_word e f says.Apart says.Apart x y = refl
-  same_word e f says.Apart says.Unknown (_, whole) (_, not_whole) = absurd (not_whole whole)
-  same_word e f says.Unknown says.Same (apart, _) y = absurd (apart.differ y)
-  same_word e f says.Unknown says.Before (apart, _) y = absurd (apart.not_before y)
-  same_word e f says.Unknown says.After (apart, _) y = absurd (apart.not_after y)
-  same_word e f says.Unknown says.Apart (_, not_whole) (_, whole) = absurd (not_whole whole)
+  same_word e f says.Apart says.Unknown x y = absurd (y.1 x.1)
+  same_word e f says.Unknown says.Apart x y = absurd (x.1 y.1)
   same_word e f says.Unknown says.Unknown x y = refl
+  same_word e f word says.Same x y = absurd (x.0.differ y)
+  same_word e f word says.Before x y = absurd (x.0.not_before y)
+  same_word e f word says.After x y = absurd (x.0.not_after y)
 
   -- so of two words for entries one answer is right
   same_among : (machines : List Post) (u v : List ℕ) (a b : Answer) → Distinct node_of_sealed S →
@@ -105,10 +88,8 @@ module _ (S : List SealedEntry) (no_cycle : (e : SealedEntry) → ¬ Precedes no
   same_among machines u v a b digests (inl (none, e)) (inr (entry, means, is)) = absurd (none entry means)
   same_among machines u v a b digests (inr (entry, means, is)) (inl (none, e)) = absurd (none entry means)
   same_among machines u v a b digests (inr (e, means, inl (none, p))) (inr (f, means', inl (none', q))) = p ∙ sym q
-  same_among machines u v a b digests (inr (e, means, inl (none, p))) (inr (f, means', inr (g, meant, q))) =
-      absurd (none g meant)
-  same_among machines u v a b digests (inr (e, means, inr (g, meant, p))) (inr (f, means', inl (none, q))) =
-      absurd (none g meant)
+  same_among machines u v a b digests (inr (e, _, inl (none, p))) (inr (f, _, inr (g, meant, q))) = absurd (none g meant)
+  same_among machines u v a b digests (inr (e, _, inr (g, meant, p))) (inr (f, _, inl (none, q))) = absurd (none g meant)
   same_among machines u v a b digests (inr (e, means, inr (g, meant, p))) (inr (f, means', inr (h, meant', q))) =
       let first : f ≡ e = same_meant machines S digests u f e means' means in
       let second : h ≡ g = same_meant machines S digests v h g meant' meant in

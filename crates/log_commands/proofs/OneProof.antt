@@ -1,16 +1,16 @@
 -- Files give at most one proof to write, and at most one report of a check.
 use Rattle.log_commands.proofs.Imports
-use Imports.{[], absent, Agree, agree_equal, AllZip-map, AndThen, ap, AreChecked, arith, At, CheckReport, ChecksFiles}
-use Imports.{ChecksLines, ChecksLogs, ChecksProof, ChecksRules, codes, entries_of, EntryGraph, Err, false, false≢true}
-use Imports.{first_then_one, GivesCheck, GivesChecked, GivesGraph, GivesLogs, GivesMade, GivesProof, GivesText, Graph}
-use Imports.{graph_then_one, inl, inr, is_too_wide, IsCanonicalText, IsOne, IsReadAnswer, length, Line, List, LogRead}
-use Imports.{logs_then_one, map, max_proof, nodes_of, None, Ok, one_place, Ones, OneTextIsCanonical, Option, Post}
-use Imports.{proof_why_word, ProofFault, ProofMade, ProvesFiles, ProvesLogs, refl, Refusal, refused, Result}
-use Imports.{roster_then_one, RosterRead, Row, row_of, rules_then_one, RulesAreReadInOneWay, RuleSource, RuleTree}
-use Imports.{same_Some, SealedEntry, slice_get, Some, source_word, subst, suc, sym, TextsAreReadInOneWay, too_long, zero}
-use Imports.{ℕ, ◌++◌, ◌<◌, ◌∙◌, ◌∷◌, ◌≡◌, ◌≢◌, ◌≤◌, ◌⊎◌}
-use Rattle.audit_proof.specs.{declared.fault.ProofFault.TheVariants.Memory, declared.fault.Verdict.Verdict}
+use Imports.{[], absent, Agree, agree_equal, AllZip-map, AndThen, ap, append_cancel_right, AreChecked, arith, At}
+use Imports.{CheckReport, ChecksFiles, ChecksLines, ChecksLogs, ChecksProof, ChecksRules, codes, entries_of, EntryGraph}
+use Imports.{Err, false, false≢true, first_then_one, GivesCheck, GivesChecked, GivesGraph, GivesLogs, GivesMade}
+use Imports.{GivesProof, GivesText, Graph, graph_then_one, inl, inr, is_too_wide, IsCanonicalText, IsOne, IsReadAnswer}
+use Imports.{last_at, length, length-append, Line, List, LogRead, logs_then_one, map, max_proof, nodes_of, None, Ok}
+use Imports.{one_place, Ones, OneTextIsCanonical, Option, Post, proof_why_word, ProofFault, ProofMade, ProvesFiles}
+use Imports.{ProvesLogs, refl, Refusal, refused, Result, roster_then_one, RosterRead, Row, row_of, rules_then_one}
+use Imports.{RulesAreReadInOneWay, RuleSource, RuleTree, same_Some, SealedEntry, slice_get, Some, source_word, subst}
+use Imports.{suc, sym, TextsAreReadInOneWay, too_long, zero, ℕ, ◌++◌, ◌<◌, ◌∙◌, ◌∷◌, ◌≡◌, ◌≢◌, ◌≤◌, ◌⊎◌}
 use Rattle.log_commands.proofs.{OneOrderAnswer.OrderOne, Zips.zip_weaker}
+use Rattle.audit_proof.specs.{declared.fault.ProofFault.TheVariants.Memory, declared.fault.Verdict.Verdict}
 
 -- a proof is written and read in one way
 pub record ProofOne : Type 0 where
@@ -144,16 +144,11 @@ module _ (ones : Ones) (one : ProofOne) (machines : List Post) (source : RuleSou
 
 -- lists with one more at the end are one where both parts are
 pub same_ends : {X : Type 0} (xs ys : List X) (x y : X) → xs ++ x ∷ [] ≡ ys ++ y ∷ [] → (xs ≡ ys) × (x ≡ y)
-same_ends [] [] x y e = (refl, cc)
-same_ends [] (z ∷ []) x y e = cc
-same_ends [] (z ∷ w ∷ ys) x y e = cc
-same_ends (z ∷ []) [] x y e = cc
-same_ends (z ∷ w ∷ xs) [] x y e = cc
-same_ends (z ∷ xs) (w ∷ ys) x y e =
-    let rest : xs ++ x ∷ [] ≡ ys ++ y ∷ [] = cc in
-    let first : z ≡ w = cc in
-    let (front, last) = same_ends xs ys x y rest in
-    (ap (λ v. v ∷ xs) first ∙ ap (λ vs. w ∷ vs) front, last)
+same_ends xs ys x y e =
+    let long : length xs ≡ length ys =
+    omega (arith, ap length e, length-append xs (x ∷ []), length-append ys (y ∷ [])) in
+    let last : x ≡ y = same_Some x y (sym (last_at xs x) ∙ (λ i. slice_get (e i) (long i)) ∙ last_at ys y) in
+    (append_cancel_right xs ys (y ∷ []) (ap (λ z. xs ++ z ∷ []) (sym last) ∙ e), last)
 
 -- by the files of logs and of a proof
 one_by_files : Ones → ProofOne → (read : RosterRead) (source : RuleSource) (rules : List RuleTree)

@@ -1,11 +1,11 @@
 -- Files give at most one answer to `watch`.
 use Rattle.log_commands.proofs.Imports
 use Imports.{[], Agree, agree_equal, Answer, ap, AuditReport, entries_of, Evidence, FilesGiveOneReport, first_then_one}
-use Imports.{GivesEvidence, GivesGraph, GivesReport, GivesWatch, inl, inr, IsOne, List, LogRead, logs_then_one, Ok, Ones}
+use Imports.{GivesEvidence, GivesGraph, GivesReport, GivesWatch, inl, IsOne, List, LogRead, logs_then_one, Ok, Ones}
 use Imports.{Option, outcome_of, ReadsLogs, ReadsRules, Refusal, Result, roster_then_one, RosterRead, rules_then_one}
 use Imports.{RulesAreReadInOneWay, RuleSource, RuleTree, SameReport, status_by, steps_agree, subst, Summary, sym}
 use Imports.{watch_answer, watch_lines, Watches, WithLogs, WithRules, ℕ, ◌∙◌, ◌≡◌}
-use Rattle.log_commands.proofs.FilesBegun.{opened, same_found, whole_by}
+use Rattle.log_commands.proofs.{FilesBegun.found_then, FilesBegun.opened, FilesBegun.same_found, FilesBegun.whole_by}
 use Rattle.log_commands.proofs.{OneOrderAnswer.OrderOne, OneProof.ones_of, Summaries.summaries_agree}
 
 -- ---- the evidence
@@ -27,20 +27,6 @@ one_evidence ones names roster source =
 -- ---- the report
 
 module _ (names : List (List ℕ)) where
-  -- what logs give with what was read before them
-  report_by_logs : (read : RosterRead) (source : RuleSource) (rules : List RuleTree) (files : List (Option (List ℕ)))
-      (found : Evidence) (answer : Result AuditReport Refusal) → ReadsLogs read rules names files (Ok found) →
-      WithLogs found.machines source found.rules names found.logs answer →
-      WithRules read source rules names files answer
-  report_by_logs read source rules files found answer (inl (logs, gives, e)) with =
-      inl (
-        logs,
-        gives,
-        subst (λ (ev : Evidence). WithLogs ev.machines source ev.rules names ev.logs answer)
-            (same_found found (these read rules logs) e) with,
-      )
-  report_by_logs read source rules files found answer (inr (refusal, gives, e)) with = cc
-
   -- what the evidence gives an audit, the files give it
   pub report_by : (roster : List ℕ) (source : RuleSource) (files : List (Option (List ℕ))) (found : Evidence)
       (answer : Result AuditReport Refusal) → GivesEvidence roster source names files (Ok found) →
@@ -48,9 +34,15 @@ module _ (names : List (List ℕ)) where
       GivesReport roster source names files answer
   report_by roster source files found answer reads with =
       let o = opened (λ read rules rest. ReadsLogs read rules names rest) roster source files found reads in
+      let (logs, gives, e) = found_then o.next in
       subst (λ fs. GivesReport roster source names fs answer) (sym o.cut)
       (whole_by (λ read rules rest. WithRules read source rules names rest) roster o.first o.second o.rest source o.begun
-      answer (report_by_logs o.begun.read source o.begun.rules o.rest found answer o.next with))
+      answer (inl (
+        logs,
+        gives,
+        subst (λ (ev : Evidence). WithLogs ev.machines source ev.rules names ev.logs answer)
+            (same_found e) with,
+      )))
 
 -- ---- the answer
 
@@ -68,7 +60,7 @@ module _ (order : OrderOne) (reports : FilesGiveOneReport) (roster : List ℕ) (
   one_watched =
       first_then_one (λ x y. x ≡ y) (GivesGraph (entries_of a.logs)) _ (order.graph (entries_of a.logs))
       (λ g left. steps_agree _ _ _ _ (λ ss ts. watch_lines 1 ss ≡ watch_lines 1 ts) (λ x y. x ≡ y)
-      (summaries_agree order.graph a.machines source a.rules (entries_of a.logs))
+      (summaries_agree order.graph a.machines a.rules (entries_of a.logs) source)
       (λ ss ts of_a of_b lines. steps_agree _ _ _ _ SameReport (λ x y. x ≡ y)
       (λ r s one other. reports roster source names files r s
       (report_by names roster source files a r is (inl (g, left, one)))

@@ -1,9 +1,10 @@
 -- The answers of `order`.
 use Rattle.log_commands.proofs.Imports.{[], Answer, ap, entries_of, Err, GivesLogs, GivesPlace, GivesRoster, inl, inr}
 use Rattle.log_commands.proofs.Imports.{IsOrderOver, IsPlaceOf, List, LogRead, MeansEntry, MeansNone, None, Ok, Option}
-use Rattle.log_commands.proofs.Imports.{order_parts, Post, Refusal, refusal_answer, RosterRead, SealedEntry, subst, ℕ}
-use Rattle.log_commands.proofs.Imports.{◌∷◌, ◌≡◌}
-use Rattle.log_commands.proofs.{EntryTexts.named_has, HonestOrders.order_right}
+use Rattle.log_commands.proofs.Imports.{order_parts, Post, Refusal, refusal_answer, RosterRead, SealedEntry, subst, sym}
+use Rattle.log_commands.proofs.Imports.{ℕ, ◌∷◌, ◌≡◌}
+use Rattle.log_commands.proofs.{EntryTexts.named_has, FilesBegun.found_then, FilesBegun.same_found}
+use Rattle.log_commands.proofs.{HonestOrders.order_right}
 
 -- where no entry of S is what a word means, it means none
 pub means_none : (machines : List Post) (S : List SealedEntry) (word : List ℕ) →
@@ -15,8 +16,7 @@ module _ (roster x y : List ℕ) (logs : List (List ℕ)) where
   pub order_refused : (files : List (Option (List ℕ))) (refusal : Refusal) → GivesPlace roster logs files (Err refusal)
       → (order_parts roster x y logs).IsAnswer files (refusal_answer refusal)
   order_refused [] refusal gives = absurd gives
-  order_refused (file ∷ files) refusal (inl (read, gives, inl (found, also, e))) =
-      absurd (let no : ⊥ = cc in no)
+  order_refused (file ∷ files) refusal (inl (read, gives, inl (found, also, e))) = absurd (let no : ⊥ = cc in no)
   order_refused (file ∷ files) refusal (inl (read, gives, inr (why, also, e))) =
       let same : refusal ≡ why = cc in
       order_right roster x y logs file files (refusal_answer refusal)
@@ -31,12 +31,10 @@ module _ (roster x y : List ℕ) (logs : List (List ℕ)) where
       → (files : List (Option (List ℕ))) → GivesPlace roster logs files (Ok (read, found))
       → (order_parts roster x y logs).IsAnswer files answer
   order_answered read found answer over [] gives = absurd gives
-  order_answered read found answer over (file ∷ files) (inl (other, gives, inl (logs_found, also, e))) =
+  order_answered read found answer over (file ∷ files) gives =
+      let (other, of_roster, by_roster) = found_then gives in
+      let (logs_found, of_logs, e) = found_then by_roster in
       let P : RosterRead × List LogRead → Type 0 = λ both. GivesRoster roster file (Ok both.0)
       × GivesLogs both.0.roster.machines both.0.election logs files (Ok both.1) in
-      let same : (other, logs_found) ≡ (read, found) = cc in
-      let (its_roster, its_logs) = subst P same (gives, also) in
+      let (its_roster, its_logs) = subst P (sym (same_found e)) (of_roster, of_logs) in
       order_right roster x y logs file files answer (inr (read, its_roster, inr (found, its_logs, over)))
-  order_answered read found answer over (file ∷ files) (inl (other, gives, inr (why, also, e))) =
-      absurd (let no : ⊥ = cc in no)
-  order_answered read found answer over (file ∷ files) (inr (why, gives, e)) = absurd (let no : ⊥ = cc in no)

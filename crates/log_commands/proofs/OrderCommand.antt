@@ -1,60 +1,52 @@
 -- The command `order`.
 use Rattle.log_commands.proofs.Imports.{[], All-from_recursion, Answer, arith, carried_out_as, Contains, contains_as}
-use Rattle.log_commands.proofs.Imports.{entries_of, EntryGraph, Err, GiveEntries, GivesRoster, HasOneAnswer}
-use Rattle.log_commands.proofs.Imports.{HasStatuses, inl, inr, IsCarriedOut, IsCompleted, IsOfCommands, IsOrderAmong}
-use Rattle.log_commands.proofs.Imports.{IsOrderOver, IsOrderOverLogs, IsOrderUnder, line_answer, List, LogRead}
-use Rattle.log_commands.proofs.Imports.{MeansEntry, no_entry, of_read, Ok, Option, order_parts, order_word, OrRefused}
-use Rattle.log_commands.proofs.Imports.{Post, refl, RosterRead, SealedEntry, Status, subst, ℕ, ◌∷◌, ◌≡◌}
-use Rattle.log_commands.proofs.OneOrderAnswer.{OrderOne, same_order}
+use Rattle.log_commands.proofs.Imports.{entries_of, EntryGraph, Err, GiveEntries, GivesGraph, GivesLogs, GivesRoster}
+use Rattle.log_commands.proofs.Imports.{HasOneAnswer, HasStatuses, inl, inr, IsCarriedOut, IsCompleted, IsOfCommands}
+use Rattle.log_commands.proofs.Imports.{IsOrderAmong, IsOrderOver, IsOrderUnder, line_answer, List, LogRead, MeansEntry}
+use Rattle.log_commands.proofs.Imports.{no_entry, of_read, Ok, Option, order_parts, order_word, OrRefused, Post, refl}
+use Rattle.log_commands.proofs.Imports.{Refusal, Result, RosterRead, SealedEntry, Status, subst, ℕ, ◌∷◌, ◌≡◌}
+use Rattle.log_commands.proofs.{FilesBegun.same_found, OneOrderAnswer.OrderOne, OneOrderAnswer.same_order}
 use Rattle.command_line.specs.declared.status.Status.TheVariants as status
-use Rattle.evidence.specs.Graphs.{GivesGraph, entries_of}
-use Rattle.evidence.specs.Logs.{GivesLogs}
-use Rattle.evidence.specs.RosterFile.{GivesRoster}
 
 -- over files it has one answer
 pub order_one : OrderOne → (roster x y : List ℕ) (logs : List (List ℕ)) → HasOneAnswer (order_parts roster x y logs)
 order_one one roster x y logs (file ∷ files) a b p q = same_order one roster x y logs file files a b p q
 order_one one roster x y logs [] a b p q = absurd p
 
-module _ (one : OrderOne) (x y : List ℕ) (answer : Answer) where
-  -- two words that mean survivors have a word of order
-  among_complete : (machines : List Post) (S : List SealedEntry) (e f : SealedEntry) → MeansEntry machines S x e →
-      MeansEntry machines S y f → IsOrderAmong machines S x y answer → IsCarriedOut answer.status
-  among_complete machines S e f first second (inl (none, p)) = absurd (none e first)
-  among_complete machines S e f first second (inr (g, means, inl (none, p))) = absurd (none f second)
-  among_complete machines S e f first second (inr (g, means, inr (h, meant, is))) =
-      carried_out_as answer (line_answer status.Done (order_word is.word)) is.told tt
+-- two words that mean survivors have a word of order
+among_complete : (x y : List ℕ) (answer : Answer) (machines : List Post) (S : List SealedEntry) (e f : SealedEntry) →
+    MeansEntry machines S x e → MeansEntry machines S y f → IsOrderAmong machines S x y answer →
+    IsCarriedOut answer.status
+among_complete x y answer machines S e f first second (inl (none, p)) = absurd (none e first)
+among_complete x y answer machines S e f first second (inr (g, means, inl (none, p))) = absurd (none f second)
+among_complete x y answer machines S e f first second (inr (g, means, inr (h, meant, is))) =
+    carried_out_as answer (line_answer status.Done (order_word is.word)) is.told tt
 
-  -- `order` is carried out over a roster and logs
-  order_complete : (roster : List ℕ) (logs : List (List ℕ)) (file : Option (List ℕ)) (files : List (Option (List ℕ))) →
-      GiveEntries roster x y logs file files →
-      OrRefused (GivesRoster roster file) (λ (read : RosterRead). IsOrderUnder read x y logs files) answer →
-      IsCarriedOut answer.status
-  order_complete roster logs file files given (inl (refusal, gives, e)) =
-      let same = one.roster roster file (Err refusal) (Ok given.read) gives given.of_roster in cc
-  order_complete roster logs file files given (inr (read, gives, is)) =
-      let same : Ok read ≡ Ok given.read = one.roster roster file _ _ gives given.of_roster in
-      let read_is : read ≡ given.read = cc in
-      over_logs (subst (λ r. IsOrderOverLogs r x y logs files answer) read_is is.right)
-    where
-      -- over the entries of the logs, which have a graph
-      over : IsOrderOver given.read.roster.machines x y (entries_of given.found) answer → IsCarriedOut answer.status
-      over (inl (refusal, gives, e)) =
-          let same = one.graph _ (Err refusal) (Ok given.graph) gives given.of_entries in cc
-      over (inr (graph, gives, is)) =
-          let same : Ok graph ≡ Ok given.graph = one.graph _ (Ok graph) (Ok given.graph) gives given.of_entries in
-          let graph_is : graph ≡ given.graph = cc in
-          among_complete _ given.graph.survivors given.e given.f given.first given.second
-          (subst (λ g. IsOrderAmong given.read.roster.machines g.survivors x y answer) graph_is is)
+-- what is found or refused is found where something is
+or_found : {T : Type 0} (Gives : Result T Refusal → Type 0) (IsFor : T → Answer → Type 0) (answer : Answer) (found : T) →
+    ((p q : Result T Refusal) → Gives p → Gives q → p ≡ q) → Gives (Ok found) → OrRefused Gives IsFor answer →
+    IsFor found answer
+or_found Gives IsFor answer found one is (inl (refusal, gives, e)) =
+    let no = one (Err refusal) (Ok found) gives is in cc
+or_found Gives IsFor answer found one is (inr (other, gives, holds)) =
+    subst (λ f. IsFor f answer) (same_found (one (Ok other) (Ok found) gives is)) holds
 
-      -- over the logs, of which none is refused
-      over_logs : IsOrderOverLogs given.read x y logs files answer → IsCarriedOut answer.status
-      over_logs (inl (refusal, gives, e)) =
-          let same = one.logs _ _ logs files (Err refusal) (Ok given.found) gives given.of_logs in cc
-      over_logs (inr (found, gives, is)) =
-          let same : Ok found ≡ Ok given.found = one.logs _ _ logs files _ _ gives given.of_logs in
-          let found_is : found ≡ given.found = cc in
-          over (subst (λ ls. IsOrderOver given.read.roster.machines x y (entries_of ls) answer) found_is is)
+-- `order` is carried out over a roster and logs
+order_complete : OrderOne → (x y : List ℕ) (answer : Answer) (roster : List ℕ) (logs : List (List ℕ))
+    (file : Option (List ℕ)) (files : List (Option (List ℕ))) → GiveEntries roster x y logs file files →
+    OrRefused (GivesRoster roster file) (λ (read : RosterRead). IsOrderUnder read x y logs files) answer →
+    IsCarriedOut answer.status
+order_complete one x y answer roster logs file files given right =
+    let machines = given.read.roster.machines in
+    let under = or_found (GivesRoster roster file) (λ (read : RosterRead). IsOrderUnder read x y logs files) answer
+    given.read (one.roster roster file) given.of_roster right in
+    let over = or_found (GivesLogs machines given.read.election logs files)
+    (λ (found : List LogRead). IsOrderOver machines x y (entries_of found)) answer given.found
+    (one.logs machines given.read.election logs files) given.of_logs under.right in
+    among_complete x y answer machines given.graph.survivors given.e given.f given.first given.second
+    (or_found (GivesGraph (entries_of given.found))
+    (λ (graph : EntryGraph SealedEntry). IsOrderAmong machines graph.survivors x y) answer given.graph
+    (one.graph (entries_of given.found)) given.of_entries over)
 
 pub order_completed : OrderOne → (roster x y : List ℕ) (logs : List (List ℕ)) →
     IsCompleted (order_parts roster x y logs)

@@ -30,16 +30,13 @@ graph_says exact S parents ragged graph y x e f at_y at_x =
 pub word_is_right : (S : List SealedEntry) (e f : SealedEntry) (this that : Three) → e ≢ f → SaysBefore S e f this →
     SaysBefore S f e that → IsWordOf S e f (word_by this that)
 word_is_right S e f True that differ here there = here
-word_is_right S e f False True differ here there = there
-word_is_right S e f Unknown True differ here there = there
+word_is_right S e f this True differ here there = there
 word_is_right S e f False False differ (not_before, f_whole) (not_after, e_whole) =
     (record { differ = differ; not_before = not_before; not_after = not_after }, (e_whole, f_whole))
 word_is_right S e f False Unknown differ (not_before, _) (not_after, e_lacks) =
     (record { differ = differ; not_before = not_before; not_after = not_after }, λ (e_whole, _). e_lacks e_whole)
-word_is_right S e f Unknown False differ (not_before, f_lacks) (not_after, _) =
-    (record { differ = differ; not_before = not_before; not_after = not_after }, λ (_, f_whole). f_lacks f_whole)
-word_is_right S e f Unknown Unknown differ (not_before, f_lacks) (not_after, _) =
-    (record { differ = differ; not_before = not_before; not_after = not_after }, λ (_, f_whole). f_lacks f_whole)
+word_is_right S e f Unknown that differ here there =
+    (record { differ = differ; not_before = here.0; not_after = there.0 }, λ (_, f_whole). here.1 f_whole)
 
 -- What the word promises of all that the entries may have been of which S survives: `before` and
 -- `after` hold in each completion, of `apart` neither holds in any, and `unknown` is printed only

@@ -1,11 +1,10 @@
 -- The command `prove`.
 use Rattle.log_commands.proofs.Imports.{[], All-from_recursion, Answer, ap, arith, carried_out_as, contains_as, Err}
-use Rattle.log_commands.proofs.Imports.{HasOneAnswer, HasStatuses, inl, inr, IsCompleted, IsOfCommands, List, of_read}
-use Rattle.log_commands.proofs.Imports.{Ok, proof_answer, ProofMade, prove_parts, refl, same_or, Status, status_is, sym}
-use Rattle.log_commands.proofs.Imports.{ℕ, ◌∙◌, ◌∷◌, ◌≡◌, ◌≢◌}
+use Rattle.log_commands.proofs.Imports.{GivesMade, HasOneAnswer, HasStatuses, inl, inr, IsCompleted, IsOfCommands, List}
+use Rattle.log_commands.proofs.Imports.{of_read, Ok, proof_answer, ProofMade, prove_parts, refl, same_or, Status}
+use Rattle.log_commands.proofs.Imports.{status_is, sym, ℕ, ◌∙◌, ◌∷◌, ◌≡◌, ◌≢◌}
 use Rattle.log_commands.proofs.{OneOrderAnswer.OrderOne, OneProof.one_made, OneProof.ProofOne}
 use Rattle.command_line.specs.declared.status.Status.TheVariants as status
-use Rattle.log_commands.specs.Prove.{GivesMade}
 
 -- over files it has one answer
 pub prove_one : OrderOne → ProofOne → (roster proof : List ℕ) (logs : List (List ℕ)) →

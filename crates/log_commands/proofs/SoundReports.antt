@@ -44,8 +44,7 @@ given_is_sound roster source names files report gives = record {
     broken : (rule : RuleTree) (v : Verdict) → Judged rule v → IsTrue (is_broken v) → (G : List Plain) →
         Completes report.machines report.graph.survivors G → ¬ HoldsOf report.machines report.graph.survivors G rule
     broken rule (verdict.Broken places) judged e G whole = (means G whole rule).1 judged.1.0
-    broken rule verdict.Kept judged e G whole = cc
-    broken rule verdict.Unsettled judged e G whole = cc
+    broken rule v judged e G whole = cc
 
     unsettled : (rule : RuleTree) (v : Verdict) → Judged rule v → v ≡ verdict.Unsettled → report.graph.gaps ≢ []
     unsettled rule v judged e none =

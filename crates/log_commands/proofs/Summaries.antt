@@ -1,14 +1,13 @@
 -- What is said of entries, one after another.
 use Rattle.log_commands.proofs.Imports
-use Imports.{[], After, Agree, AllZip, ap, append-nil, append_assoc, AreJudged, AreSummaries, arith, cases_lt}
-use Imports.{cases_order, codes, element_at, EntriesGiveOneGraph, Err, GivesSummaries, inl, inr, is_broken, is_kept}
-use Imports.{is_too_wide, is_unsettled, IsFirstTooWide, IsNarrowOver, IsTooWideAfter, IsTooWideOver, judged_is_narrow}
-use Imports.{last_at, length, length-append, length-take-le, List, map, nodes_of, Ok, one_count, one_place}
-use Imports.{Post, push_before, refl, Refusal, refused, Result, row_of, RuleSource, RuleTree, same_count, same_Some}
-use Imports.{EntryGraph, SameVerdict, SealedEntry, slice_get, slice_get_within, Some, source_word, standard, subst, suc}
-use Imports.{Summary, sym, take, take-take, true, verdicts_agree, watch_line, watch_lines, ℕ, ◌++◌, ◌+◌, ◌<◌, ◌∙◌, ◌∷◌}
-use Imports.{◌≡◌, ◌≤◌, ◌⊎◌}
-use Rattle.std.proofs.lemmas.Bool.{false≢true}
+use Imports.{[], After, Agree, AllZip, ap, append-nil, append_assoc, AreJudged, AreSummaries, arith, at_cases}
+use Imports.{cases_order, codes, element_at, EntriesGiveOneGraph, Err, false≢true, GivesSummaries, inl, inr, is_broken}
+use Imports.{is_kept, is_unsettled, IsFirstTooWide, IsNarrowOver, IsTooWideAfter, IsTooWideOver, judged_is_narrow}
+use Imports.{length, length-append, length-take-le, List, map, nodes_of, Ok, one_count, one_place, Post, refl, Refusal}
+use Imports.{refused, Result, row_of, RuleSource, RuleTree, same_count, SameVerdict, SealedEntry, slice_get}
+use Imports.{slice_get_within, Some, source_word, standard, subst, suc, Summary, sym, take, take-take, verdicts_agree}
+use Imports.{watch_line, watch_lines, ℕ, ◌++◌, ◌+◌, ◌<◌, ◌∙◌, ◌∷◌, ◌≡◌, ◌≤◌}
+use Rattle.log_commands.proofs.FilesBegun.{same_found}
 
 -- ---- one more
 
@@ -36,31 +35,24 @@ module _ (machines : List Post) (rules : List RuleTree) (entries : List SealedEn
 
     -- the summary at a place is of the entries up to there
     placed : (n : ℕ) (t : Summary) → slice_get (ss ++ s ∷ []) n ≡ Some t →
-        (n < k) ⊎ (k ≤ n) → After machines rules (take (n + 1) (take (k + 1) entries)) t
-    placed n t at (inl early) =
-        let (u, there) = element_at ss n (omega (arith, many, early)) in
-        let same : u ≡ t = same_Some u t (sym (push_before ss s n u there) ∙ at) in
-        subst (λ es. After machines rules es t)
-        (take-take (n + 1) k entries (omega (arith, early))
-        ∙ sym (take-take (n + 1) (k + 1) entries (omega (arith, early))))
-        (subst (λ (v : Summary). After machines rules (take (n + 1) (take k entries)) v) same
-        (so_far.each n u there))
-    placed n t at (inr late) =
-        let inside = slice_get_within (ss ++ s ∷ []) n t at in
-        let last : n ≡ length ss = omega (arith, late, inside, many, length-append ss (s ∷ [])) in
-        let same : s ≡ t =
-        same_Some s t (sym (last_at ss s) ∙ sym (ap (slice_get (ss ++ s ∷ [])) last) ∙ at) in
-        let is : n + 1 ≡ k + 1 = omega (arith, last, many) in
-        subst (λ es. After machines rules es t)
-        (ap (λ m. take m entries) (sym is) ∙ sym (take-take (n + 1) (k + 1) entries (omega (arith, is))))
-        (subst (λ (v : Summary). After machines rules (take (k + 1) entries) v) same next)
+        After machines rules (take (n + 1) (take (k + 1) entries)) t
+    placed n t at = elim (at_cases ss s n t at) [
+      | inl (low, there) ↦
+          subst (λ es. After machines rules es t)
+          (take-take (n + 1) k entries (omega (arith, many, low))
+          ∙ sym (take-take (n + 1) (k + 1) entries (omega (arith, many, low)))) (so_far.each n t there)
+      | inr (last, is) ↦
+          (let here : n ≡ k = last ∙ many in
+          let up_to = take-take (n + 1) (k + 1) entries (omega (arith, here)) in
+          coe 1 0 (i. After machines rules ((up_to ∙ ap (λ m. take (m + 1) entries) here) i) (is i)) next)
+    ]
 
     -- one entry more is said
     pub said_more : AreSummaries machines rules (take (k + 1) entries) (ss ++ s ∷ [])
     said_more = record {
       one_each = (let count = length-take-le (k + 1) entries (omega (arith, within)) in
           omega (arith, length-append ss (s ∷ []), many, count));
-      each = λ n t at. placed n t at (cases_lt n k);
+      each = placed;
     }
 
 -- ---- at most one answer
@@ -74,16 +66,12 @@ same_line n s t survivors gaps verdicts =
     let unsettled = same_count is_unsettled (λ v w same. (one_count v w same).unsettled) s.verdicts t.verdicts verdicts in
     rw (survivors, gaps, kept, broken, unsettled) refl
 
--- two graphs that are found are one where the answers are
-pub one_found : {g h : EntryGraph SealedEntry} → ◌≡◌ {A = Result (EntryGraph SealedEntry) Refusal} (Ok g) (Ok h) → g ≡ h
-one_found e = cc
-
 module _ (graphs : EntriesGiveOneGraph) (machines : List Post) (rules : List RuleTree) (entries : List SealedEntry) where
   -- entries are said in one way
   pub one_line : (s t : Summary) → After machines rules entries s → After machines rules entries t → (n : ℕ) →
       watch_line n s ≡ watch_line n t
   one_line s t a b n =
-      let same = one_found (graphs entries (Ok a.graph) (Ok b.graph) a.graphed b.graphed) in
+      let same = same_found (graphs entries (Ok a.graph) (Ok b.graph) a.graphed b.graphed) in
       same_line n s t (a.survivors ∙ ap (λ g. length g.survivors) same ∙ sym b.survivors)
       (a.gaps ∙ ap (λ g. g.gaps) same ∙ sym b.gaps)
       (verdicts_agree (map (row_of machines) a.graph.survivors) (nodes_of a.graph) standard rules (Ok s.verdicts)
@@ -94,19 +82,26 @@ module _ (graphs : EntriesGiveOneGraph) (machines : List Post) (rules : List Rul
   said_is_narrow : (s : Summary) → After machines rules entries s → (place : ℕ) →
       IsTooWideOver machines rules entries place → ⊥
   said_is_narrow s a place (graph, graphed, first) =
-      let same = one_found (graphs entries (Ok a.graph) (Ok graph) a.graphed graphed) in
-      let narrow = judged_is_narrow (map (row_of machines) a.graph.survivors) (nodes_of a.graph) rules s.verdicts place
-      first.rule a.judged first.stands in
-      let wide = subst (λ g. is_too_wide (map (row_of machines) g.survivors) first.rule.body 1 ≡ true) (sym same)
-      first.too_wide in
-      false≢true (sym narrow ∙ wide)
+      let same = same_found (graphs entries (Ok graph) (Ok a.graph) graphed a.graphed) in
+      false≢true (sym (judged_is_narrow (map (row_of machines) a.graph.survivors) (nodes_of a.graph) rules s.verdicts
+      place first.rule a.judged first.stands) ∙ (rw same at first.too_wide))
 
   -- the first rule that is too wide has one place
   one_wide : (p q : ℕ) → IsTooWideOver machines rules entries p → IsTooWideOver machines rules entries q → p ≡ q
   one_wide p q (graph, graphed, first) (other, also, second) =
-      let same = one_found (graphs entries (Ok graph) (Ok other) graphed also) in
+      let same = same_found (graphs entries (Ok graph) (Ok other) graphed also) in
       one_place (map (row_of machines) graph.survivors) rules p q first
       (subst (λ g. IsFirstTooWide (map (row_of machines) g.survivors) rules q) (sym same) second)
+
+-- summaries that have the same line at each place have the same lines
+same_lines : (ss ts : List Summary) → length ss ≡ length ts →
+    ((n : ℕ) (s t : Summary) → slice_get ss n ≡ Some s → slice_get ts n ≡ Some t → (k : ℕ) →
+    watch_line k s ≡ watch_line k t) →
+    (k : ℕ) → watch_lines k ss ≡ watch_lines k ts
+same_lines [] [] long each k = refl
+same_lines (s ∷ ss) (t ∷ ts) long each k =
+    λ i. each 0 s t refl refl k i ++ same_lines ss ts (omega (arith, long)) (λ n. each (suc n)) (k + 1) i
+same_lines ss ts long each k = absurd (omega (arith, long))
 
 module _ (graphs : EntriesGiveOneGraph) (machines : List Post) (rules : List RuleTree)
     (entries : List SealedEntry) where
@@ -124,19 +119,6 @@ module _ (graphs : EntriesGiveOneGraph) (machines : List Post) (rules : List Rul
         narrow = said_is_narrow graphs machines rules (take (n + 1) entries) s a;
       }
 
--- summaries that have the same line at each place have the same lines
-same_lines : (ss ts : List Summary) → length ss ≡ length ts →
-    ((n : ℕ) (s t : Summary) → slice_get ss n ≡ Some s → slice_get ts n ≡ Some t → (k : ℕ) →
-    watch_line k s ≡ watch_line k t) →
-    (k : ℕ) → watch_lines k ss ≡ watch_lines k ts
-same_lines [] [] long each k = refl
-same_lines [] (t ∷ ts) long each k = absurd (omega (arith, long))
-same_lines (s ∷ ss) [] long each k = absurd (omega (arith, long))
-same_lines (s ∷ ss) (t ∷ ts) long each k =
-    λ i. each 0 s t refl refl k i ++ same_lines ss ts (omega (arith, long)) (λ n. each (suc n)) (k + 1) i
-
-module _ (graphs : EntriesGiveOneGraph) (machines : List Post) (source : RuleSource) (rules : List RuleTree)
-    (entries : List SealedEntry) where
   -- entries that are all said aren't too wide after one of them
   all_narrow : (ss : List Summary) → AreSummaries machines rules entries ss → (place : ℕ) →
       IsTooWideAfter machines rules entries place → ⊥
@@ -145,35 +127,28 @@ module _ (graphs : EntriesGiveOneGraph) (machines : List Post) (source : RuleSou
       said_is_narrow graphs machines rules (take (late.before + 1) entries) s (said.each late.before s at) place
       late.too_wide
 
-  -- nor are they after one before the first
-  none_earlier : (p q : ℕ) (one : IsTooWideAfter machines rules entries p)
-      (other : IsTooWideAfter machines rules entries q) → one.before < other.before → ⊥
-  none_earlier p q one other less = (other.earlier one.before less).narrow p one.too_wide
-
-  -- so the first that is too wide has one place
+  -- the first that is too wide has one place, as entries are narrow after one before it
   one_late : (p q : ℕ) → IsTooWideAfter machines rules entries p → IsTooWideAfter machines rules entries q → p ≡ q
-  one_late p q one other = by (cases_order one.before other.before)
-    where
-      -- by which comes first
-      by : (one.before ≡ other.before) ⊎ ((one.before < other.before) ⊎ (other.before < one.before)) → p ≡ q
-      by (inl same) =
-          one_wide graphs machines rules (take (one.before + 1) entries) p q one.too_wide
-          (subst (λ n. IsTooWideOver machines rules (take (n + 1) entries) q) (sym same) other.too_wide)
-      by (inr (inl less)) = absurd (none_earlier p q one other less)
-      by (inr (inr more)) = absurd (none_earlier q p other one more)
+  one_late p q one other = elim (cases_order one.before other.before) [
+    | inl same ↦ one_wide graphs machines rules (take (one.before + 1) entries) p q one.too_wide
+        (subst (λ n. IsTooWideOver machines rules (take (n + 1) entries) q) (sym same) other.too_wide)
+    | inr (inl less) ↦ absurd ((other.earlier one.before less).narrow p one.too_wide)
+    | inr (inr more) ↦ absurd ((one.earlier other.before more).narrow q other.too_wide)
+  ]
 
   -- entries give one answer
-  pub summaries_agree : (p q : Result (List Summary) Refusal) → GivesSummaries machines source rules entries p →
-      GivesSummaries machines source rules entries q → Agree (λ ss ts. watch_lines 1 ss ≡ watch_lines 1 ts) p q
-  summaries_agree (Ok ss) (Ok ts) (few, a) (_, b) =
+  pub summaries_agree : (source : RuleSource) (p q : Result (List Summary) Refusal) →
+      GivesSummaries machines source rules entries p → GivesSummaries machines source rules entries q →
+      Agree (λ ss ts. watch_lines 1 ss ≡ watch_lines 1 ts) p q
+  summaries_agree source (Ok ss) (Ok ts) (few, a) (_, b) =
       same_lines ss ts (a.one_each ∙ sym b.one_each)
       (λ n s t at also. one_line graphs machines rules (take (n + 1) entries) s t (a.each n s at) (b.each n t also)) 1
-  summaries_agree (Ok ss) (Err r) (few, a) (inl (too, e)) = absurd (too few)
-  summaries_agree (Ok ss) (Err r) (few, a) (inr (_, (place, late, e))) = absurd (all_narrow ss a place late)
-  summaries_agree (Err r) (Ok ts) (inl (too, e)) (few, b) = absurd (too few)
-  summaries_agree (Err r) (Ok ts) (inr (_, (place, late, e))) (few, b) = absurd (all_narrow ts b place late)
-  summaries_agree (Err r) (Err s) (inl (too, e)) (inl (_, f)) = e ∙ sym f
-  summaries_agree (Err r) (Err s) (inl (too, e)) (inr (few, _)) = absurd (too few)
-  summaries_agree (Err r) (Err s) (inr (few, _)) (inl (too, f)) = absurd (too few)
-  summaries_agree (Err r) (Err s) (inr (_, (p, one, e))) (inr (_, (q, other, f))) =
+  summaries_agree source (Ok ss) (Err r) (few, a) (inl (too, e)) = absurd (too few)
+  summaries_agree source (Ok ss) (Err r) (few, a) (inr (_, (place, late, e))) = absurd (all_narrow ss a place late)
+  summaries_agree source (Err r) (Ok ts) (inl (too, e)) (few, b) = absurd (too few)
+  summaries_agree source (Err r) (Ok ts) (inr (_, (place, late, e))) (few, b) = absurd (all_narrow ts b place late)
+  summaries_agree source (Err r) (Err s) (inl (too, e)) (inl (_, f)) = e ∙ sym f
+  summaries_agree source (Err r) (Err s) (inl (too, e)) (inr (few, _)) = absurd (too few)
+  summaries_agree source (Err r) (Err s) (inr (few, _)) (inl (too, f)) = absurd (too few)
+  summaries_agree source (Err r) (Err s) (inr (_, (p, one, e))) (inr (_, (q, other, f))) =
       e ∙ ap (λ n. refused (source_word source) n (codes "TooWide")) (one_late p q one other) ∙ sym f

@@ -2,13 +2,12 @@
 use Rattle.log_commands.proofs.Imports
 use Imports.{[], After, AgreesWithAudit, Answer, ap, arith, entries_of, EntriesGiveOneGraph, Err, Evidence}
 use Imports.{FilesGiveOneReport, GivesEvidence, GivesReport, inl, inr, IsAuditOver, IsOfReport, IsWatchOver, last_at}
-use Imports.{length, length-append, List, nil_from_length, Ok, Option, PrintsLast, refl, refusal_answer}
-use Imports.{report_answer, RuleSource, slice_get, Some, source_named, status_is, subst, summary_of, sym}
-use Imports.{take_all, watch_line, watch_lines, WatchesAgreeWithAudits, ℕ, ◌++◌, ◌+◌, ◌∙◌, ◌∷◌, ◌≡◌, ◌≢◌}
-use Rattle.log_commands.proofs.WatchCommand.{IsToldOf, report_in, told_of}
-use Rattle.log_commands.proofs.{AuditCommand.same_told, OneWatch.report_by, SoundReports.given_is_sound}
-use Rattle.log_commands.proofs.{Summaries.lines_more, Summaries.one_line}
-use Rattle.log_commands.proofs.HonestAudits.{no_report}
+use Imports.{length, length-append, List, nil_from_length, Ok, Option, PrintsLast, refl, refusal_answer, report_answer}
+use Imports.{RuleSource, slice_get, Some, source_named, status_is, subst, summary_of, sym, take_all, watch_line}
+use Imports.{watch_lines, WatchesAgreeWithAudits, ℕ, ◌++◌, ◌+◌, ◌∙◌, ◌∷◌, ◌≡◌, ◌≢◌}
+use Rattle.log_commands.proofs.{AuditCommand.same_told, FilesBegun.found_then, HonestAudits.no_report}
+use Rattle.log_commands.proofs.{OneWatch.report_by, SoundReports.given_is_sound, Summaries.lines_more}
+use Rattle.log_commands.proofs.{Summaries.one_line, WatchCommand.IsToldOf, WatchCommand.report_in, WatchCommand.told_of}
 
 -- what an answer without a refusal is made of
 pub record IsMadeOf (roster : List ℕ) (source : RuleSource) (names : List (List ℕ)) (files : List (Option (List ℕ)))
@@ -22,13 +21,10 @@ pub made_of : (roster rules : List ℕ) (names : List (List ℕ)) (files : List 
     IsMadeOf roster (source_named rules) names files answer
 made_of roster rules names files answer (inl (refusal, gives, e)) is =
     absurd (no_report refusal (subst IsOfReport (status_is answer (refusal_answer refusal) e) is))
-made_of roster rules names files answer (inr (told, inl (found, read, watches), e)) is = record {
-  found = found;
-  gives = read;
-  of = subst (IsToldOf names found) (sym e) (told_of (source_named rules) names found told watches);
-}
-made_of roster rules names files answer (inr (told, inr (refusal, gives, differs), e)) is =
-    absurd (let no : ⊥ = cc in no)
+made_of roster rules names files answer (inr (told, gives, e)) is =
+    let (found, read, watches) = found_then gives in
+    let of = subst (IsToldOf names found) (sym e) (told_of (source_named rules) names found told watches) in
+    record { found = found; gives = read; of = of }
 
 -- the files give an audit its report
 pub report_made : (roster : List ℕ) (source : RuleSource) (names : List (List ℕ)) (files : List (Option (List ℕ)))

@@ -5,10 +5,11 @@ use Imports.{EntryGraph, Err, Evidence, FilesGiveOneReport, GivesGraph, GivesWat
 use Imports.{IsCarriedOut, IsCompleted, List, map, nodes_of, Ok, Option, Outcome, outcome_of, report_on}
 use Imports.{report_statuses, row_of, RulesAreReadInOneWay, RuleSource, same_or, SealedEntry, source_named, Status}
 use Imports.{status_by, status_is, subst, Summary, sym, watch_answer, watch_parts, Watches, ℕ, ◌∙◌, ◌≡◌}
+use Rattle.log_commands.proofs.{FilesBegun.found_then, FilesBegun.same_found, OneOrderAnswer.OrderOne}
+use Rattle.log_commands.proofs.{OneWatch.one_watch, ReportCommands.absent_status, ReportCommands.outcome_done}
+use Rattle.log_commands.proofs.{ReportCommands.outcome_status, ReportCommands.refused_status}
+use Rattle.log_commands.proofs.{ReportCommands.report_statuses_some}
 use Rattle.command_line.proofs.CommandProofs.{of_refusal}
-use Rattle.log_commands.proofs.ReportCommands.{absent_status, outcome_done, outcome_status, refused_status}
-use Rattle.log_commands.proofs.ReportCommands.{report_statuses_some}
-use Rattle.log_commands.proofs.{FilesBegun.same_found, OneOrderAnswer.OrderOne, OneWatch.one_watch}
 use Rattle.rule_engine.specs.declared.verdict.Verdict.{Verdict}
 
 -- over files it has one answer
@@ -37,33 +38,29 @@ report_in {names} {evidence} of =
 
 pub told_of : (source : RuleSource) (names : List (List ℕ)) (evidence : Evidence) (told : Answer) →
     Watches source names evidence (Ok told) → IsToldOf names evidence told
-told_of source names evidence told
-    (inl (graph, graphed, inl (summaries, (_, said), inl (report, inl (verdicts, judged, f), e)))) = record {
+told_of source names evidence told watches =
+    let (graph, graphed, by_graph) = found_then watches in
+    let (summaries, (few, said), by_lines) = found_then by_graph in
+    let (report, reports, e) = found_then by_lines in
+    let (verdicts, judged, f) = found_then reports in
+    record {
       graph = graph;
       graphed = graphed;
       summaries = summaries;
       said = said;
       verdicts = verdicts;
       judged = judged;
-      is = same_found told _ e ∙ ap (watch_answer summaries) (same_found report _ f);
+      is = same_found e ∙ ap (watch_answer summaries) (same_found f);
     }
-told_of source names evidence told (inl (graph, graphed, inl (summaries, said, inl (report, inr (r, bad, f), e)))) =
-    absurd (let no : ⊥ = cc in no)
-told_of source names evidence told (inl (graph, graphed, inl (summaries, said, inr (refusal, gives, e)))) =
-    absurd (let no : ⊥ = cc in no)
-told_of source names evidence told (inl (graph, graphed, inr (refusal, gives, e))) =
-    absurd (let no : ⊥ = cc in no)
-told_of source names evidence told (inr (refusal, gives, e)) =
-    absurd (let no : ⊥ = cc in no)
 
 -- what holds of each status of a report holds of that of the answer
 of_status : (roster : List ℕ) (source : RuleSource) (names : List (List ℕ)) (files : List (Option (List ℕ)))
     (told : Answer) → GivesWatch roster source names files (Ok told) → (P : Status → Type 0) →
     ((came : Outcome) → P (status_by came)) → P told.status
-of_status roster source names files told (inl (found, gives, watched)) P each =
+of_status roster source names files told gives P each =
+    let (found, read, watched) = found_then gives in
     let of = told_of source names found told watched in
     subst P (sym (status_is told _ of.is)) (each (outcome_of (report_in of)))
-of_status roster source names files told (inr (refusal, gives, e)) P each = cc
 
 -- `watch` is carried out over files that give its answer
 pub watch_completed : OrderOne → RulesAreReadInOneWay → FilesGiveOneReport → (roster rules : List ℕ)

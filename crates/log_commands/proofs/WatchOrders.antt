@@ -9,14 +9,14 @@ use Imports.{IsPermutation-keeps, IsPermutation-map, IsPermutation-refl, IsPermu
 use Imports.{IsPermutation-trans, IsSealedGraph, IsSealedLogOf, IsValid, length, length-flat_map, length-map, List}
 use Imports.{list_any, list_any-IsPermutation, log_has_finding, LogRead, map, map-set, NamedLog, nil_from_length}
 use Imports.{node_of_sealed, Ok, Option, OrdersOfLogsEndAlike, outcome_by, outcome_of, Post, PrintsLast, ReadsLogs}
-use Imports.{refl, report_on, RosterRead, RulesAreReadInOneWay, RuleSource, RuleTree, same_text}
-use Imports.{SameReport, SealedEntry, set, source_named, status_by, status_is, subst, sum_by-IsPermutation, summary_of}
-use Imports.{swap, sym, text_of_sealed, watch_line, watch_lines, ℕ, ◌++◌, ◌<◌, ◌||◌, ◌↔◌, ◌∙◌, ◌∷◌, ◌≡◌, ◌≢◌, ◌≤◌}
-use Rattle.log_commands.proofs.FilesBegun.{begun_by, same_found, whole_by}
-use Rattle.log_commands.proofs.WatchAgreement.{IsMadeOf, last_line, made_of, report_made}
+use Imports.{refl, report_on, RulesAreReadInOneWay, RuleSource, same_text, SameReport, SealedEntry, set, source_named}
+use Imports.{status_by, status_is, subst, sum_by-IsPermutation, summary_of, swap, sym, text_of_sealed, watch_line}
+use Imports.{watch_lines, ℕ, ◌++◌, ◌<◌, ◌||◌, ◌↔◌, ◌∙◌, ◌∷◌, ◌≡◌, ◌≢◌, ◌≤◌}
+use Rattle.log_commands.proofs.{FilesBegun.begun_by, FilesBegun.found_then, FilesBegun.same_found, FilesBegun.whole_by}
 use Rattle.log_commands.proofs.{OneOrderAnswer.OrderOne, OneProof.ones_of, OneWatch.one_evidence, OneWatch.report_by}
-use Rattle.log_commands.proofs.{Summaries.same_line, WatchCommand.report_in, WatchReads.IsValidEntry}
-use Rattle.log_commands.proofs.{WatchReads.logs_are_valid}
+use Rattle.log_commands.proofs.{Summaries.same_line, WatchAgreement.IsMadeOf, WatchAgreement.last_line}
+use Rattle.log_commands.proofs.{WatchAgreement.made_of, WatchAgreement.report_made, WatchCommand.report_in}
+use Rattle.log_commands.proofs.{WatchReads.IsValidEntry, WatchReads.logs_are_valid}
 use lib.ListN.{get_or-map}
 
 -- ---- members that change places
@@ -68,8 +68,6 @@ module _ (machines : List Post) (election : List ℕ) where
       (zs : List (NamedLog × LogRead)) × (map (λ (z : NamedLog × LogRead). z.0) zs ≡ files)
       × (map (λ (z : NamedLog × LogRead). z.1) zs ≡ logs) × ((z : NamedLog × LogRead) → Contains zs z → IsReadAs z)
   beside [] [] gives = ([], refl, refl, λ z has. absurd (Contains-none z has))
-  beside [] (log ∷ logs) gives = absurd gives
-  beside (file ∷ files) [] gives = absurd gives
   beside (file ∷ files) (log ∷ logs) (says, rest) =
       let (zs, named, same, read) = beside files logs rest in (
         (file, log) ∷ zs,
@@ -80,6 +78,7 @@ module _ (machines : List Post) (election : List ℕ) where
           | inr later ↦ read z later
         ],
       )
+  beside files logs gives = absurd gives
 
   -- and files give the logs that stand beside them
   given : (zs : List (NamedLog × LogRead)) → ((z : NamedLog × LogRead) → Contains zs z → IsReadAs z) →
@@ -182,51 +181,31 @@ record Moved (found : Evidence) (Gives : Evidence → Type 0) : Type 0 where
   election : List ℕ
   valid : All (IsValidEntry found.machines election) (entries_of found.logs)
 
-moved_so : (found : Evidence) (Gives Other : Evidence → Type 0) → ((ev : Evidence) → Gives ev → Other ev) →
-    Moved found Gives → Moved found Other
-moved_so found Gives Other more moved = record {
-  logs = moved.logs;
-  same = moved.same;
-  gives = more (record { machines = found.machines; rules = found.rules; logs = moved.logs }) moved.gives;
-  election = moved.election;
-  valid = moved.valid;
-}
-
-module _ (files others : List NamedLog) (same : IsPermutation files others) (found : Evidence) where
-  -- with the roster and the rules
-  read_moved : (read : RosterRead) (rules : List RuleTree) →
-      ReadsLogs read rules (names_of files) (bytes_of files) (Ok found) →
-      Moved found (λ ev. ReadsLogs read rules (names_of others) (bytes_of others) (Ok ev))
-  read_moved read rules (inl (logs, gives, e)) =
-      let these : Evidence = record { machines = read.roster.machines; rules = rules; logs = logs } in
-      let is : found ≡ these = same_found found these e in
-      let (moved, order, again) = in_order read.roster.machines read.election files others logs same gives in
-      record {
-        logs = moved;
-        same = subst (λ (ev : Evidence). IsPermutation ev.logs moved) (sym is) order;
-        gives = inl (
-          moved,
-          again,
-          ap (λ (ev : Evidence). Ok (record { machines = ev.machines; rules = ev.rules; logs = moved })) is,
-        );
-        election = read.election;
-        valid = subst (λ (ev : Evidence). All (IsValidEntry ev.machines read.election) (entries_of ev.logs)) (sym is)
-            (logs_are_valid read.roster.machines read.election (names_of files) (bytes_of files) logs gives);
-      }
-  read_moved read rules (inr (refusal, gives, e)) = absurd (let no : ⊥ = cc in no)
-
-  -- so with their files
-  evidence_moved : (roster : List ℕ) (source : RuleSource) (roster_file rules_file : Option (List ℕ)) →
-      GivesEvidence roster source (names_of files) (files_read roster_file source rules_file (bytes_of files))
-      (Ok found) →
-      Moved found (λ ev. GivesEvidence roster source (names_of others)
-      (files_read roster_file source rules_file (bytes_of others)) (Ok ev))
-  evidence_moved roster source roster_file rules_file gives =
-      let (b, reads) = begun_by (λ read rules rest. ReadsLogs read rules (names_of files) rest) roster roster_file
-      rules_file (bytes_of files) source found gives in
-      moved_so found _ _
-      (λ ev. whole_by (λ read rules rest. ReadsLogs read rules (names_of others) rest) roster roster_file rules_file
-      (bytes_of others) source b (Ok ev)) (read_moved b.read b.rules reads)
+-- files in another order give the evidence with the logs in another order
+evidence_moved : (files others : List NamedLog) → IsPermutation files others → (found : Evidence) (roster : List ℕ)
+    (source : RuleSource) (roster_file rules_file : Option (List ℕ)) →
+    GivesEvidence roster source (names_of files) (files_read roster_file source rules_file (bytes_of files)) (Ok found) →
+    Moved found (λ ev. GivesEvidence roster source (names_of others)
+    (files_read roster_file source rules_file (bytes_of others)) (Ok ev))
+evidence_moved files others same found roster source roster_file rules_file gives =
+    let (b, reads) = begun_by (λ read rules rest. ReadsLogs read rules (names_of files) rest) roster roster_file
+    rules_file (bytes_of files) source found gives in
+    let (logs, keep, e) = found_then reads in
+    let is = same_found e in
+    let (moved, order, again) = in_order b.read.roster.machines b.read.election files others logs same keep in
+    record {
+      logs = moved;
+      same = subst (λ (ev : Evidence). IsPermutation ev.logs moved) (sym is) order;
+      gives = whole_by (λ read rules rest. ReadsLogs read rules (names_of others) rest) roster roster_file rules_file
+          (bytes_of others) source b (Ok (record { machines = found.machines; rules = found.rules; logs = moved })) (inl (
+            moved,
+            again,
+            ap (λ (ev : Evidence). Ok (record { machines = ev.machines; rules = ev.rules; logs = moved })) is,
+          ));
+      election = b.read.election;
+      valid = subst (λ (ev : Evidence). All (IsValidEntry ev.machines b.read.election) (entries_of ev.logs)) (sym is)
+          (logs_are_valid b.read.roster.machines b.read.election (names_of files) (bytes_of files) logs keep);
+    }
 
 -- ---- what is printed
 

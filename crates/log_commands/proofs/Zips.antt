@@ -5,6 +5,5 @@ use Rattle.log_commands.proofs.Imports.{[], AllZip, List, ◌∷◌}
 pub zip_weaker : {A B : Type 0} (P Q : A → B → Type 0) → ((x : A) (y : B) → P x y → Q x y) → (xs : List A)
     (ys : List B) → AllZip P xs ys → AllZip Q xs ys
 zip_weaker P Q step [] [] all = tt
-zip_weaker P Q step [] (y ∷ ys) all = absurd all
-zip_weaker P Q step (x ∷ xs) [] all = absurd all
 zip_weaker P Q step (x ∷ xs) (y ∷ ys) (first, all) = (step x y first, zip_weaker P Q step xs ys all)
+zip_weaker P Q step xs ys all = absurd all

@@ -17,4 +17,5 @@ abbrev pub GivesPlace : List ℕ → List (List ℕ) → List (Option (List ℕ)
     Result (RosterRead × List LogRead) Refusal → Type 0
 GivesPlace roster logs =
     FileThen (GivesRoster roster) (λ read files.
-    AndThen (GivesLogs read.roster.machines read.election logs files) (λ found answer. answer ≡ Ok (read, found)))
+    AndThen (GivesLogs read.roster.machines read.election logs files)
+    (λ found answer. answer ≡ Ok (read, found)))

@@ -1,5 +1,4 @@
-use Rattle.log_commands.proofs.Imports.{AreChecked, List, map, nodes_of, rule_tree, subst, sym, take, ◌+◌}
-use Rattle.audit_proof.specs.declared.fault.Verdict.{Verdict}
+use Rattle.log_commands.proofs.Imports.{nodes_of}
 use Rattle.log_commands.proofs.CheckedRules.{checked_more, first_too_wide}
 use Rattle.log_commands.proofs.check.check_each.Goals as goal
 
@@ -11,10 +10,7 @@ returns-in-Err-TooWide-clause-err c =
 
 pub loop-place-preserved : goal.loop-place-preserved
 loop-place-preserved c =
-    let P : List Verdict → Type 0 = λ verdicts.
-    AreChecked c.args.rows.now (nodes_of c.args.graph.now) c.args.proof.now
-    (map rule_tree (take (c.loop-place.place + 1) c.args.rules.now)) verdicts in
-    subst P (sym c.in_ok-push-in-Ok.ensures.items)
+    rw c.in_ok-push-in-Ok.ensures.items
     (checked_more c.args.rows.now (nodes_of c.args.graph.now) c.args.proof.now c.args.rules.now c.loop-place.place
     c.index-rules-place.result c.loop-place.verdicts.items c.loop-place-test.true c.index-rules-place.is
     c.loop-place.invariant c.in-Ok.verdict c.in-Ok.ensures)

@@ -1,5 +1,5 @@
 use Rattle.log_commands.proofs.Imports.{map, rule_tree, source_named}
-use Rattle.log_commands.proofs.CheckAnswers.{proof_read, proof_checked, proof_refused}
+use Rattle.log_commands.proofs.CheckAnswers.{proof_checked, proof_read, proof_refused}
 use Rattle.log_commands.proofs.check.check_graph.Goals as goal
 
 -- what was read is a proof for the graph

@@ -1,5 +1,5 @@
 use Rattle.log_commands.proofs.Imports.{logs_have_makers, map, rule_tree, some_as_read, source_named}
-use Rattle.log_commands.proofs.CheckAnswers.{logs_then, logs_end}
+use Rattle.log_commands.proofs.CheckAnswers.{logs_end, logs_then}
 use Rattle.log_commands.proofs.check.check_rules.Goals as goal
 
 pub check_logs-requires : goal.check_logs-requires

@@ -1,4 +1,4 @@
-use Rattle.log_commands.proofs.Imports.{◌≡◌, and_refused, and_then, Err, file_ends, file_joins, Ok, refl}
+use Rattle.log_commands.proofs.Imports.{and_refused, and_then, Err, file_ends, file_joins, Ok, refl, ◌≡◌}
 use Rattle.log_commands.specs.inside.PlaceFiles.{place_of}
 use Rattle.log_commands.proofs.order.read_place.Goals as goal
 

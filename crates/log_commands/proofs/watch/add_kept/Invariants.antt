@@ -1,4 +1,4 @@
-use Rattle.log_commands.proofs.Imports.{◌≡◌, ◌++◌, map, take, entries_of_records}
+use Rattle.log_commands.proofs.Imports.{entries_of_records, map, take, ◌++◌, ◌≡◌}
 use Rattle.log_commands.proofs.watch.add_kept.Given as goal
 
 -- the entries of the records so far

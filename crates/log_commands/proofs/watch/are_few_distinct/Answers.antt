@@ -1,10 +1,9 @@
-use Rattle.std.proofs.Common.{length, true, false}
-use Rattle.log_commands.proofs.Imports.{rules, ◌≡◌, ◌+◌, ◌++◌, ◌∷◌, [], map, take, refl, sym, subst, list_any}
-use Rattle.log_commands.proofs.Imports.{bytes_eq, false≢true, node_of_sealed, distinct}
+use Rattle.log_commands.proofs.Imports.{[], bytes_eq, distinct, false, false≢true, length, list_any, map}
+use Rattle.log_commands.proofs.Imports.{node_of_sealed, refl, rules, subst, sym, take, true, ◌++◌, ◌+◌, ◌∷◌, ◌≡◌}
 use Rattle.log_commands.proofs.WatchSteps.{counted, few_of, not_counted, too_many_of}
-use Rattle.log_commands.proofs.watch.are_few_distinct.Goals as goal
-use Rattle.log_commands.proofs.watch.are_few_distinct.Goals.{then-not-some_has+else-len-eq-MOST_WATCHED+in_ok-push}
 use Rattle.log_commands.proofs.watch.are_few_distinct.Goals.{else-not-some_has}
+use Rattle.log_commands.proofs.watch.are_few_distinct.Goals.{then-not-some_has+else-len-eq-MOST_WATCHED+in_ok-push}
+use Rattle.log_commands.proofs.watch.are_few_distinct.Goals as goal
 
 -- one more of 1,024 is too many
 pub returns-then-len-eq-MOST_WATCHED : goal.returns-then-len-eq-MOST_WATCHED

@@ -1,5 +1,4 @@
-use Rattle.std.proofs.Common.{length}
-use Rattle.log_commands.proofs.Imports.{◌≡◌, ◌≤◌, map, take, node_of_sealed, distinct}
+use Rattle.log_commands.proofs.Imports.{distinct, length, map, node_of_sealed, take, ◌≡◌, ◌≤◌}
 use Rattle.log_commands.proofs.watch.are_few_distinct.Given as goal
 
 -- the different ones of the entries so far, of which there aren't too many

@@ -1,4 +1,4 @@
-use Rattle.log_commands.proofs.Imports.{◌≡◌, map, take, entries_of}
+use Rattle.log_commands.proofs.Imports.{entries_of, map, take, ◌≡◌}
 use Rattle.log_commands.proofs.watch.entries_in.Given as goal
 
 -- the entries of the logs so far

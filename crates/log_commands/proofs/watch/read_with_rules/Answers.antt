@@ -1,5 +1,4 @@
-use Rattle.log_commands.proofs.Imports
-use Imports.{◌≡◌, and_refused, and_then, evidence_of, map, Ok, refl, rule_tree, rules}
+use Rattle.log_commands.proofs.Imports.{and_refused, and_then, evidence_of, map, Ok, refl, rule_tree, rules, ◌≡◌}
 use Rattle.log_commands.proofs.watch.read_with_rules.Goals as goal
 
 pub returns-in-Ok : goal.returns-in-Ok

@@ -1,4 +1,4 @@
-use Rattle.log_commands.proofs.Imports.{◌≡◌, Answer, Ok, or_answered, or_refused, refl}
+use Rattle.log_commands.proofs.Imports.{Answer, Ok, or_answered, or_refused, refl, ◌≡◌}
 use Rattle.log_commands.proofs.watch.watch.Goals as goal
 
 pub returns-in-Err : goal.returns-in-Err

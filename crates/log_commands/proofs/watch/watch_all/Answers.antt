@@ -1,6 +1,5 @@
-use Rattle.log_commands.proofs.Imports
-use Imports.{and_refused, and_then, Answer, evidence_of, map, rules, some_as_read}
-use Imports.{source_named, string_bytes, Watches}
+use Rattle.log_commands.proofs.Imports.{and_refused, and_then, Answer, evidence_of, map, rules, some_as_read}
+use Rattle.log_commands.proofs.Imports.{source_named, string_bytes, Watches}
 use Rattle.log_commands.proofs.WatchReads.{evidence_of_machines}
 use Rattle.log_commands.proofs.watch.watch_all.Goals as goal
 

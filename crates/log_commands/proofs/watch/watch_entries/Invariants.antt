@@ -1,5 +1,5 @@
-use Rattle.log_commands.proofs.Imports.{map, take, string_bytes, node_of_sealed, rule_tree, StandFor}
-use Rattle.log_commands.proofs.Imports.{text_of_sealed, IsOfSameAudit, IsLive, AreLinesOf}
+use Rattle.log_commands.proofs.Imports.{AreLinesOf, IsLive, IsOfSameAudit, map, node_of_sealed, rule_tree, StandFor}
+use Rattle.log_commands.proofs.Imports.{string_bytes, take, text_of_sealed}
 use Rattle.log_commands.proofs.watch.watch_entries.Given as goal
 
 -- what was added stands for the entries so far, of which the lines are

@@ -1,12 +1,10 @@
-use Rattle.log_commands.proofs.Imports.{◌∙◌, List, inr, refl, subst, sym, Ok, Err, IfOk, IfErr, IfSome, LogRead}
-use Rattle.log_commands.proofs.Imports.{entries_of, GivesGraph, refusal_of, on_refusal, source_named, Watches}
-use Rattle.log_commands.proofs.Imports.{evidence_by, evidence_of}
+use Rattle.log_commands.proofs.Imports.{entries_of, Err, evidence_by, evidence_of, GivesGraph, IfErr, IfOk, IfSome, inr}
+use Rattle.log_commands.proofs.Imports.{List, LogRead, Ok, on_refusal, refl, refusal_of, source_named, subst, Watches}
 use Rattle.log_commands.proofs.watch.watch_evidence.Goals as goal
 
 pub watch_graph-requires-clause-graphed : goal.watch_graph-requires-clause-graphed
 watch_graph-requires-clause-graphed c =
-    subst (λ (logs : List LogRead). GivesGraph (entries_of logs) (Ok c.in-Ok.graph))
-    (c.as_slice.ensures.value ∙ sym c.as_slice-in-Ok.ensures.value) c.in-Ok.ensures.ok
+    rw (c.as_slice-in-Ok.ensures.value, ← c.as_slice.ensures.value) c.in-Ok.ensures.ok
 
 pub returns-in-Ok-clause-ok : goal.returns-in-Ok-clause-ok
 returns-in-Ok-clause-ok c names =

@@ -1,5 +1,5 @@
-use Rattle.log_commands.proofs.Imports.{map, take, node_of_sealed, rule_tree, StandFor}
-use Rattle.log_commands.proofs.Imports.{text_of_sealed, IsOfSameAudit, IsLive}
+use Rattle.log_commands.proofs.Imports.{IsLive, IsOfSameAudit, map, node_of_sealed, rule_tree, StandFor, take}
+use Rattle.log_commands.proofs.Imports.{text_of_sealed}
 use Rattle.log_commands.proofs.WatchSteps.{AreNarrow}
 use Rattle.log_commands.proofs.watch.wide_after.Given as goal
 

@@ -1,7 +1,4 @@
-use Rattle.log_commands.proofs.Imports.{◌<◌, map, subst, sym, All-map, SealedEntry, rule_tree, IsOfMachine}
-use Rattle.log_commands.proofs.Imports.{survivors_have_makers}
-use Rattle.std.specs.Prelude.{All, IfOk, IfSome, length}
-use Rattle.log_commands.proofs.Imports.{IsTooWideAfter}
+use Rattle.log_commands.proofs.Imports.{All-map, length, map, SealedEntry, survivors_have_makers, ◌<◌}
 use Rattle.log_commands.proofs.watch.wide_among.Goals as goal
 
 -- the survivors are of the machines
@@ -13,12 +10,7 @@ rows-requires c =
     (λ k d within. (c.requires.machines k d within).maker) c.requires.graphed)
 
 pub wide_after-requires-clause-machines : goal.wide_after-requires-clause-machines
-wide_after-requires-clause-machines c =
-    subst (λ ms. All (IsOfMachine ms) (map (λ e. e.now) c.args.entries.now)) (sym c.in_ok-live.ensures.machines)
-    c.requires.machines
+wide_after-requires-clause-machines c = rw c.in_ok-live.ensures.machines c.requires.machines
 
 pub returns : goal.returns
-returns c =
-    subst (λ ms. IfOk c.wide_after.result (λ found. IfSome found
-    (λ place. IsTooWideAfter ms (map rule_tree c.args.rules.now) (map (λ e. e.now) c.args.entries.now) place)))
-    c.in_ok-live.ensures.machines c.wide_after.ensures
+returns c = rw c.in_ok-live.ensures.machines at c.wide_after.ensures
