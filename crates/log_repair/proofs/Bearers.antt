@@ -1,14 +1,13 @@
 -- Entries that a machine is answered: a machine of the world that runs holds them, and their maker
 -- sent them.
-use Rattle.log_repair.proofs.Imports.{◌≡◌, ◌≢◌, ◌∙◌, ℕ, zero, suc, true, false, cond, List, [], ◌∷◌, ◌++◌}
-use Rattle.log_repair.proofs.Imports.{inl, inr, Option, Some, None, refl, sym, ap, slice_get, Contains}
-use Rattle.log_repair.proofs.Imports.{option_or, bytes_eq, bytes_eq-Decides, Event, Sent, Got, IsBorneIn, Node}
-use Rattle.log_repair.proofs.Imports.{entry_of, held, sent, IsOrderly, Machine, World, history, sent_in}
-use Rattle.log_repair.proofs.Imports.{Contains-later, Contains-cons_cases, Contains-none, Contains-map_cases}
-use Rattle.log_repair.proofs.Imports.{nth_of_sent, sent_in_from, was_sent, answer_of, bearer}
-use Rattle.log_repair.proofs.Imports.{found_by_digest, NoneAnswers, Contains-head, Contains-map, DigestsDiffer, IsLegal}
-use Rattle.log_repair.proofs.Imports.{append_assoc, member_split, new_from_may, Contains-append_right}
-use Rattle.std.proofs.lemmas.Bool.{true≢false}
+use Rattle.log_repair.proofs.Imports.{Bool, ◌≡◌, ◌≢◌, ◌∙◌, ℕ, zero, suc, true, false, cond, List, [], ◌∷◌, ◌++◌, inl}
+use Rattle.log_repair.proofs.Imports.{inr, Option, Some, None, refl, sym, ap, slice_get, Contains, option_or, bytes_eq}
+use Rattle.log_repair.proofs.Imports.{bytes_eq-Decides, Event, Sent, Got, IsBorneIn, Node, entry_of, held, sent}
+use Rattle.log_repair.proofs.Imports.{IsOrderly, Machine, World, history, sent_in, Contains-later, Contains-cons_cases}
+use Rattle.log_repair.proofs.Imports.{Contains-none, Contains-map_cases, nth_of_sent, sent_in_from, was_sent, answer_of}
+use Rattle.log_repair.proofs.Imports.{bearer, found_by_digest, NoneAnswers, Contains-head, Contains-map, DigestsDiffer}
+use Rattle.log_repair.proofs.Imports.{IsLegal, append_assoc, member_split, new_from_may, Contains-append_right}
+use Rattle.log_repair.proofs.Imports.{true≢false}
 
 module _ {T : Type 0} (node : T → Node) where
   -- the entries of a legal history have different digests
@@ -47,22 +46,20 @@ module _ {T : Type 0} (node : T → Node) where
     Bears Runs es None = Runs → (IsBorneIn node es d) → ⊥
     Bears Runs es (Some e) = Contains es e × ((node e).digest ≡ d)
 
-    bears_more : (Runs : Type 0) (x : T) (es : List T) → ((node x).digest ≢ d) → (o : Option T) → Bears Runs es o →
-        Bears Runs (x ∷ es) o
-    bears_more Runs x es other None none = λ runs (e, c, is).
-        elim (Contains-cons_cases x es e c) [ inl same ↦ other (rw same is) | inr later ↦ none runs (e, later, is) ]
-    bears_more Runs x es other (Some e) (c, is) = (Contains-later x es e c, is)
-
     found_bears : (Runs : Type 0) (es : List T) → Bears Runs es (found_by_digest node d es)
     found_bears Runs [] = λ runs (e, c, is). Contains-none e c
     found_bears Runs (x ∷ es) =
-        (elim (bytes_eq (node x).digest d) as (λ b. bytes_eq (node x).digest d ≡ b →
-        Bears Runs (x ∷ es) (cond b (Some x) (found_by_digest node d es))) [
-          | true ↦ λ is. (Contains-head x es, (bytes_eq-Decides (node x).digest d).0 is)
-          | false ↦ λ is. bears_more Runs x es
-              (λ same. true≢false (sym ((bytes_eq-Decides (node x).digest d).1 same) ∙ is))
-              (found_by_digest node d es) (found_bears Runs es)
-        ]) refl
+        by (bytes_eq (node x).digest d) refl (found_by_digest node d es) (found_bears Runs es)
+      where
+        by : (b : Bool) → bytes_eq (node x).digest d ≡ b → (o : Option T) → Bears Runs es o →
+            Bears Runs (x ∷ es) (cond b (Some x) o)
+        by true is o bears = (Contains-head x es, (bytes_eq-Decides (node x).digest d).0 is)
+        by false is None none = λ runs (e, c, same).
+            elim (Contains-cons_cases x es e c) [
+              | inl here ↦ true≢false (sym ((bytes_eq-Decides (node x).digest d).1 (rw here same)) ∙ is)
+              | inr later ↦ none runs (e, later, same)
+            ]
+        by false is (Some e) (c, same) = (Contains-later x es e c, same)
 
     -- of a legal history it is that entry
     pub one_bears : (owner : ℕ) (h : List (Event T)) → IsLegal node owner h → (o : Option T) →

@@ -1,10 +1,10 @@
 -- A step that is taken adds one event to one machine.
-use Rattle.log_repair.proofs.Imports.{◌≡◌, ◌≢◌, ◌⊎◌, ℕ, zero, suc, ◌+◌, ◌<◌, ◌==◌, arith, Bool, true}
-use Rattle.log_repair.proofs.Imports.{false, List, [], ◌∷◌, length, Option, Some, None, refl, ap, inl, inr}
-use Rattle.log_repair.proofs.Imports.{slice_get, if◌then◌else◌, leb-false, or_parts, length-append, Event}
-use Rattle.log_repair.proofs.Imports.{Sent, Got, Step, Act, Hear, Stop, Node, sent, Machine, World}
-use Rattle.log_repair.proofs.Imports.{append, cannot_hear, happens, hear, history, send, with_machine, SendsWithRoom}
-use Rattle.log_repair.proofs.Imports.{IsOrderly, IsOrderly-play, AddsEvent, room, total, sent_in, IsStepOf, append-nil, sent-append}
+use Rattle.log_repair.proofs.Imports.{◌≡◌, ◌≢◌, ◌⊎◌, ℕ, zero, suc, ◌+◌, ◌<◌, ◌==◌, arith, Bool, true, false, List, []}
+use Rattle.log_repair.proofs.Imports.{◌∷◌, length, Option, Some, None, refl, ap, inl, inr, slice_get, if◌then◌else◌}
+use Rattle.log_repair.proofs.Imports.{leb-false, or_parts, length-append, Event, Sent, Got, Step, Act, Hear, Stop, Node}
+use Rattle.log_repair.proofs.Imports.{sent, Machine, World, append, cannot_hear, happens, hear, history, send}
+use Rattle.log_repair.proofs.Imports.{with_machine, SendsWithRoom, IsOrderly, IsOrderly-play, AddsEvent, room, total}
+use Rattle.log_repair.proofs.Imports.{sent_in, IsStepOf, append-nil, sent-append}
 
 -- a machine is as it was, or has one event more, and P is so of that and the machine before
 abbrev pub Gets : {T : Type 0} → (Event T → Machine T → Type 0) → Machine T → Machine T → Type 0

@@ -1,20 +1,17 @@
 -- Steps that are taken and added to a list, until the whole way is gone.
-use Rattle.log_repair.proofs.Imports.{◌≡◌, ◌∙◌, ℕ, ◌+◌, ◌*◌, ◌<◌, arith, Bool, true, false, List, [], ◌∷◌, ◌++◌}
-use Rattle.log_repair.proofs.Imports.{length, Option, refl, ap, Result, Ok, Err, OnErr, append_assoc, append-nil}
-use Rattle.log_repair.proofs.Imports.{length-append, if◌then◌else◌, node_of_sealed, SealedEntry, Event, Step, World}
-use Rattle.log_repair.proofs.Imports.{happens, WorldState, world_of, LeadsTo}
+use Rattle.log_repair.proofs.Imports.{◌≡◌, ◌∙◌, ℕ, ◌+◌, ◌*◌, ◌<◌, arith, Bool, true, false, List, [], ◌∷◌, ◌++◌, length}
+use Rattle.log_repair.proofs.Imports.{refl, ap, Result, Ok, Err, OnErr, append_assoc, append-nil, true≢false}
+use Rattle.log_repair.proofs.Imports.{length-append, if◌then◌else◌, node_of_sealed, SealedEntry, Step, World, ◌↔◌}
+use Rattle.log_repair.proofs.Imports.{happens, WorldState, world_of, LeadsTo, MachineState, NextEntry, Completes}
 use Rattle.log_repair.proofs.Imports.{WorldWay, InOrder, Adds, Fails, Going, IsMadeAsBefore, Says, Stays, spare}
-use Rattle.log_repair.proofs.Imports.{MachineState}
 use Rattle.log_repair.proofs.Making.{same_log}
-use Rattle.log_repair.proofs.OneWay.{Continues, IsSure, Loops, LoopsWhile, goes_further}
+use Rattle.log_repair.proofs.OneWay.{AnyStep, Continues, IsSure, Loops, LoopsWhile, goes_further}
 use Rattle.log_repair.proofs.Plays.{play-append}
-use Rattle.std.proofs.lemmas.Bool.{true≢false}
-use Rattle.std.specs.Prelude.{◌↔◌}
 
 -- from any world the way leads on, for whatever function says what these machines may send
 abbrev pub GoesOn : WorldWay → List MachineState → Type 0
 GoesOn Way machines =
-    (next : ℕ → List (Event SealedEntry) → Option SealedEntry) (log : ℕ) → Says machines next log →
+    (next : NextEntry) (log : ℕ) → Says machines next log →
     (u : World SealedEntry) → Continues (Way (happens node_of_sealed next log)) u
 
 -- from here these steps of one way, and then the next way, are a third
@@ -25,8 +22,8 @@ Joins b First Next Both first =
     Both after (world_of b.machines) (first ++ rest) new
 
 -- what the function says stays so, and so does what the machines are made of
-says_on : {a b : WorldState} {next : ℕ → List (Event SealedEntry) → Option SealedEntry} {log : ℕ} →
-    IsMadeAsBefore a b → Says a.machines next log → Says b.machines next log
+says_on : {a b : WorldState} {next : NextEntry} {log : ℕ} → IsMadeAsBefore a b → Says a.machines next log →
+    Says b.machines next log
 says_on {a = a} {b = b} made says = record {
   tells = rw made.configs says.tells;
   have = same_log _ a.machines b.machines made.configs says.have;
@@ -41,10 +38,7 @@ made_on one two = record {
 
 -- nothing is done yet
 pub going_start : {Rest Whole : WorldWay} {w : WorldState} {start : List Step} →
-    ((next : ℕ → List (Event SealedEntry) → Option SealedEntry) (log : ℕ) → Says w.machines next log →
-    (rest : List Step) (last : World SealedEntry) →
-    Rest (happens node_of_sealed next log) (world_of w.machines) rest last →
-    Whole (happens node_of_sealed next log) (world_of w.machines) rest last) → Going Rest Whole w start start w
+    Completes Rest Whole w.machines [] w.machines → Going Rest Whole w start start w
 going_start so = record {
   made = record { roster = refl; configs = refl; stops = refl };
   taken = [];
@@ -62,7 +56,7 @@ going_none = going_start (λ next log says rest last way. way)
 pub going_more : {First Next Rest Whole : WorldWay} {a b c : WorldState} {start middle end : List Step} →
     Going Rest Whole a start middle b → (two : Going Stays First b middle end c) → Joins b First Next Rest two.taken →
     Going Next Whole a start end c
-going_more {a = a} {b = b} {c = c} {start = start} one two joins = record {
+going_more {a = a} {c = c} {start = start} one two joins = record {
   made = made_on one.made two.made;
   taken = one.taken ++ two.taken;
   added = cc (two.added, one.added, append_assoc start one.taken two.taken);
@@ -119,15 +113,16 @@ fails_here {a = a} {b = b} one goes = record {
 then_none : (Way : WorldWay) (b : WorldState) (first : List Step) → Joins b Way Stays Way first
 then_none Way b first after mid new rest way (bare, same) = rw (bare, same, append-nil) way
 
--- all that was left of it is done, or broke off
-pub going_all : {Rest Whole : WorldWay} {a b c : WorldState} {start middle end : List Step} →
-    Going Rest Whole a start middle b → Going Stays Rest b middle end c → Going Stays Whole a start end c
-going_all {Rest = Rest} {b = b} one two = going_more one two (then_none Rest b two.taken)
+-- all of a way that completes another is done, or broke off
+pub adds_so : {Rest Whole : WorldWay} {a b : WorldState} {start end : List Step} →
+    Completes Rest Whole a.machines [] a.machines → Adds Rest a start end b → Adds Whole a start end b
+adds_so {Rest = Rest} {a = a} so adds = going_more {Rest = Rest} (going_start so) adds (then_none Rest a adds.taken)
 
-pub fails_all : {Rest Whole : WorldWay} {a b c : WorldState} {start middle : List Step} →
-    Going Rest Whole a start middle b → Fails Rest b c → Fails Whole a c
-fails_all {Rest = Rest} {b = b} one two =
-    going_fails one two (then_none Rest b) (λ next log says u. ([], u, (refl, refl)))
+pub fails_so : {Rest Whole : WorldWay} {a b : WorldState} → Completes Rest Whole a.machines [] a.machines →
+    Fails Rest a b → Fails Whole a b
+fails_so {Rest = Rest} {a = a} so fails =
+    going_fails {Rest = Rest} (going_start {start = []} so) fails (then_none Rest a)
+    (λ next log says u. ([], u, (refl, refl)))
 
 -- the first of some things, and then the rest
 pub next_joins : {X : Type 0} (b : WorldState)
@@ -153,8 +148,7 @@ if_failed (Err why) is = is
 pub shrinks : {Way : WorldWay} {a b : WorldState} {start end : List Step} → Adds Way a start end b → (moves : Bool) →
     (moves ≡ false) ↔ (end ≡ start) → 2 * spare b.machines + (if moves then 1 else 0) < 2 * spare a.machines + 1
 shrinks adds false still = omega (arith, adds.spared)
-shrinks {start = start} adds true still =
-    omega (arith, adds.spared, some adds.taken refl)
+shrinks {start = start} adds true still = omega (arith, adds.spared, some adds.taken refl)
   where
     some : (t : List Step) → adds.taken ≡ t → 0 < length adds.taken
     some [] none = absurd (true≢false (still.1 (cc (adds.added, none, append-nil start))))
@@ -169,20 +163,19 @@ none_added start end (s ∷ taken) added same =
     absurd (omega (arith, ap length added, ap length same, length-append start (s ∷ taken)))
 
 module _ (Way : WorldWay)
-    (each : (after : World SealedEntry → Step → World SealedEntry) → IsSure after (λ _ _. Unit {0}) (Way after)) where
+    (each : (after : World SealedEntry → Step → World SealedEntry) → IsSure after AnyStep (Way after)) where
   -- once more, and then on if that moved something
   pub loop_more : {Whole : WorldWay} {a b c : WorldState} {start middle end : List Step} →
       Going (λ after. Loops (Way after)) Whole a start middle b → Adds Way b middle end c → (moves : Bool) →
       (moves ≡ false) ↔ (end ≡ middle) → Going (λ after. LoopsWhile moves (Way after)) Whole a start end c
   loop_more {b = b} {middle = middle} {end = end} one two moves still =
-      going_more one two (λ after mid new rest part more. goes_further after (λ _ _. Unit {0}) (Way after) (each after)
-      moves two.taken (λ none. none_added middle end two.taken two.added (still.0 none)) (world_of b.machines) mid new
-      rest part more)
+      going_more one two (λ after mid new rest. goes_further after AnyStep (Way after) (each after) moves two.taken
+      (λ none. none_added middle end two.taken two.added (still.0 none)) (world_of b.machines) mid new rest)
 
   -- it broke off
   pub loop_fails : {Whole : WorldWay} {a b c : WorldState} {start middle : List Step} →
       Going (λ after. Loops (Way after)) Whole a start middle b → Fails Way b c →
       GoesOn (λ after. Loops (Way after)) a.machines → Fails Whole a c
-  loop_fails {b = b} one two goes =
-      going_fails one two (λ first after mid new rest part more. goes_further after (λ _ _. Unit {0}) (Way after)
-      (each after) true first (λ none. absurd (true≢false none)) (world_of b.machines) mid new rest part more) goes
+  loop_fails {b = b} one two =
+      going_fails one two (λ first after mid new rest. goes_further after AnyStep (Way after) (each after) true first
+      (λ none. absurd (true≢false none)) (world_of b.machines) mid new rest)

@@ -1,10 +1,9 @@
 -- Machines that stay what they are made of.
-use Rattle.log_repair.proofs.Imports.{◌≡◌, ◌≢◌, ◌∙◌, ℕ, zero, suc, ◌+◌, ◌<◌, arith, Bool, List, [], ◌∷◌, length}
-use Rattle.log_repair.proofs.Imports.{get_or, Option, Some, None, refl, sym, ap, option_map, slice_get}
-use Rattle.log_repair.proofs.Imports.{get_or-map, length-map, get_or_from_slice_get, slice_get_within}
-use Rattle.log_repair.proofs.Imports.{slice_get-get_or, slice_get-map, SealedEntry, Event, Machine, Config}
-use Rattle.log_repair.proofs.Imports.{MachineState, WorldState, IsNextAt, IsWorld, machine_of}
-use Rattle.log_repair.proofs.Imports.{world_of, configs_of, stops_of, TellsNext, HaveLog, SendsWithRoom}
+use Rattle.log_repair.proofs.Imports.{◌≡◌, ◌≢◌, ◌∙◌, ℕ, zero, suc, ◌+◌, ◌<◌, arith, List, [], ◌∷◌, length, get_or}
+use Rattle.log_repair.proofs.Imports.{Option, Some, None, refl, sym, ap, option_map, slice_get, get_or-map, length-map}
+use Rattle.log_repair.proofs.Imports.{get_or_from_slice_get, slice_get_within, slice_get-get_or, slice_get-map}
+use Rattle.log_repair.proofs.Imports.{SealedEntry, Event, Machine, MachineState, WorldState, IsNextAt, IsWorld}
+use Rattle.log_repair.proofs.Imports.{machine_of, world_of, configs_of, stops_of, TellsNext, HaveLog, SendsWithRoom}
 use Rattle.log_repair.proofs.Imports.{IsMadeAsBefore, spare, room, stopped_by_mark, tells_next, next_of, Says, Step}
 use Rattle.log_repair.proofs.Imports.{AddsEvent, node_of_sealed, happens, has_stopped}
 use Rattle.log_repair.proofs.Events.{fills_if}
@@ -16,12 +15,7 @@ same_machine m n config stop stop' same =
     let events : m.events ≡ n.events = ap (λ (a : Machine SealedEntry). a.history) same in
     let stopped : has_stopped m ≡ has_stopped n = ap (λ (a : Machine SealedEntry). a.stopped) same in
     let marked : m.marked ≡ n.marked = sym (stopped_by_mark m stop) ∙ stopped ∙ stopped_by_mark n stop' in
-    parts m.config n.config m.stop n.stop m.marked n.marked m.events n.events config (stop ∙ sym stop') marked events
-  where
-    parts : (c d : Config) (s t : Option ℕ) (b e : Bool) (h k : List (Event SealedEntry)) → c ≡ d → s ≡ t → b ≡ e →
-        h ≡ k → let x : MachineState = record { config = c; stop = s; marked = b; events = h } in
-        let y : MachineState = record { config = d; stop = t; marked = e; events = k } in x ≡ y
-    parts c d s t b e h k config stop marked events = rw (config, stop, marked, events)
+    (λ i. record { config = config i; stop = (stop ∙ sym stop') i; marked = marked i; events = events i })
 
 -- so are machines
 same_machines : (ms ns : List MachineState) → configs_of ms ≡ configs_of ns → stops_of ms ≡ stops_of ns →
@@ -40,26 +34,19 @@ same_machines (m ∷ ms) (n ∷ ns) configs stops none worlds =
 pub changed_world : (old new : WorldState) → IsWorld old.roster old.machines → IsMadeAsBefore old new → new ≢ old →
     world_of new.machines ≢ world_of old.machines
 changed_world old new is made differ worlds =
-    let same : old.machines ≡ new.machines =
-    same_machines old.machines new.machines (sym made.configs) (sym made.stops)
-    (λ k m at. (is.placed k m at).no_stop) (sym worlds) in
-    differ (parts new.roster old.roster new.machines old.machines made.roster (sym same))
-  where
-    parts : (r s : _) (ms ns : List MachineState) → r ≡ s → ms ≡ ns →
-        let x : WorldState = record { roster = r; machines = ms } in
-        let y : WorldState = record { roster = s; machines = ns } in x ≡ y
-    parts r s ms ns roster machines = rw (roster, machines)
+    let same : new.machines ≡ old.machines =
+    sym (same_machines old.machines new.machines (sym made.configs) (sym made.stops)
+    (λ k m at. (is.placed k m at).no_stop) (sym worlds)) in
+    differ (λ i. record { roster = made.roster i; machines = same i })
 
 -- each log may have as many events as before
 pub same_log : (log : ℕ) (ms ns : List MachineState) → configs_of ns ≡ configs_of ms → HaveLog log ms → HaveLog log ns
 same_log log ms ns same have = λ k d within.
-    let long : length ns ≡ length ms = sym (length-map ns (λ (m : MachineState). m.config)) ∙ ap length same
-    ∙ length-map ms (λ (m : MachineState). m.config) in
-    let config : (get_or ns k d).config ≡ (get_or ms k d).config =
-    sym (get_or-map (λ (m : MachineState). m.config) ns k d d.config within)
-    ∙ ap (λ (cs : List Config). get_or cs k d.config) same
-    ∙ get_or-map (λ (m : MachineState). m.config) ms k d d.config (omega (arith, within, long)) in
-    rw config (have k d (omega (arith, within, long)))
+    let config = λ (m : MachineState). m.config in
+    let here : k < length ms = omega (arith, within, ap length same, length-map ns config, length-map ms config) in
+    let as_before : (get_or ns k d).config ≡ (get_or ms k d).config =
+    sym (get_or-map config ns k d d.config within) ∙ rw same (get_or-map config ms k d d.config here) in
+    rw as_before (have k d here)
 
 -- each machine of a world has a log of one size
 pub have_log : (w : WorldState) → (is : IsWorld w.roster w.machines) → HaveLog is.log w.machines

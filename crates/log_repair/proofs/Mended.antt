@@ -1,17 +1,18 @@
 -- What is true after mending.
-use Rattle.log_repair.proofs.Imports.{◌≡◌, ◌∙◌, ℕ, ◌<◌, ◌≤◌, ◌==◌, arith, Bool, true, false, List, [], ◌∷◌}
-use Rattle.log_repair.proofs.Imports.{length, Option, Some, None, refl, sym, ap, inl, inr}
-use Rattle.log_repair.proofs.Imports.{slice_get, nat_le, Contains, eqb-true, leb-true}
-use Rattle.log_repair.proofs.Imports.{length-append, get_or-range_with_len, length-range_with_len, slice_get_within}
-use Rattle.log_repair.proofs.Imports.{Event, Sent, Got, Step, IsBorneIn, has_digest, Node, entry_of, held, sent}
-use Rattle.log_repair.proofs.Imports.{IsOrderly, gaps, Machine, World, happens, hear, history}
-use Rattle.log_repair.proofs.Imports.{history_of, gap_cases, gap_or_bearer, Contains-cons_cases}
-use Rattle.log_repair.proofs.Imports.{Contains-head, Contains-map, Contains-none, get_same, has_digest_from}
-use Rattle.log_repair.proofs.Imports.{Contains-sent_cases, member_at, RunningMachinesAreMended, Asks, HearsOf}
-use Rattle.log_repair.proofs.Imports.{Repairs, TakesRound, TakesTurn, bearer, is_mended, goes_on, IsMended}
-use Rattle.log_repair.proofs.Imports.{InOrder}
+use Rattle.log_repair.proofs.Imports.{◌≡◌, ◌∙◌, ℕ, ◌<◌, ◌≤◌, ◌==◌, arith, Bool, true, false, List, [], ◌∷◌, length}
+use Rattle.log_repair.proofs.Imports.{Option, Some, None, refl, sym, ap, inl, inr, slice_get, nat_le, Contains}
+use Rattle.log_repair.proofs.Imports.{eqb-true, leb-true, length-append, get_or-range_with_len, length-range_with_len}
+use Rattle.log_repair.proofs.Imports.{slice_get_within, Event, Sent, Got, Step, IsBorneIn, has_digest, Node, entry_of}
+use Rattle.log_repair.proofs.Imports.{held, sent, IsOrderly, gaps, Machine, World, happens, hear, history, history_of}
+use Rattle.log_repair.proofs.Imports.{gap_cases, gap_or_bearer, Contains-cons_cases, Contains-head, Contains-map}
+use Rattle.log_repair.proofs.Imports.{Contains-none, get_same, has_digest_from, Contains-sent_cases, member_at}
+use Rattle.log_repair.proofs.Imports.{RunningMachinesAreMended, Asks, HearsOf, Repairs, TakesRound, TakesTurn, bearer}
+use Rattle.log_repair.proofs.Imports.{is_mended, goes_on, IsMended, InOrder, option_map, slice_get-map, node_of_sealed}
+use Rattle.log_repair.proofs.Imports.{MachineState, WorldState, IsWorld, machine_of, world_of, configs_of, HaveLog}
+use Rattle.log_repair.proofs.Imports.{AreMended, LeadsTo, IsMadeAsBefore, next_of, tells_next}
 use Rattle.log_repair.proofs.Bearers.{bearer_answers, held_sent, IsAnswerIn}
-use Rattle.log_repair.proofs.OneWay.{asks_sure, turn_sure}
+use Rattle.log_repair.proofs.OneWay.{AnyStep, asks_sure, turn_sure}
+use Rattle.log_repair.proofs.Making.{have_log, log_there, same_log}
 
 -- where nothing changes in all together, nothing changes in each
 still_each : {X W : Type 0} (Way : X → W → List Step → W → Type 0) →
@@ -96,7 +97,7 @@ module _ {T : Type 0} (node : T → Node) where
         turn =
             let within : m < length w = slice_get_within w m a at in
             still_each (TakesTurn node (happens node next log))
-            (λ n v u turn. (turn_sure node (happens node next log) (λ _ _. Unit {0}) (λ _ _ _ _ _. tt) n v u [] turn).0)
+            (λ n v u turn. (turn_sure node (happens node next log) AnyStep (λ _ _ _ _ _. tt) n v u [] turn).0)
             _ w w round m (
               m,
               omega (arith, within, length-range_with_len 0 (length w)),
@@ -111,10 +112,34 @@ module _ {T : Type 0} (node : T → Node) where
         by (d ∷ ds) some =
             let gap : Contains (gaps node (held a.history)) d = rw some (Contains-head d ds) in
             asked d gap (still_each (Asks node (happens node next log) m)
-            (λ c v u ask. (asks_sure node (happens node next log) (λ _ _. Unit {0}) (λ _ _ _ _ _. tt) m c v u [] ask).0)
+            (λ c v u ask. (asks_sure node (happens node next log) AnyStep (λ _ _ _ _ _. tt) m c v u [] ask).0)
             (gaps node (held a.history)) w w (rw (at, runs) at turn) d gap)
 
 -- the law
 pub running_machines_are_mended : {T : Type 0} (node : T → Node) → RunningMachinesAreMended node
 running_machines_are_mended node next log old new steps orderly small mended_by m a at runs =
     mended node next log new orderly small m a at runs (ends_still node (happens node next log) old new steps mended_by)
+
+-- ---- the machines of a polling place
+
+-- no history has more events than a log may have
+small_histories : (w : WorldState) → (is : IsWorld w.roster w.machines) → (m : ℕ) →
+    length (history (world_of w.machines) m) ≤ is.log
+small_histories w is m = rw (slice_get-map machine_of w.machines m) (by (slice_get w.machines m) refl)
+  where
+    by : (o : Option MachineState) → slice_get w.machines m ≡ o → length (history_of (option_map machine_of o)) ≤ is.log
+    by None at = omega arith
+    by (Some a) at = (is.placed m a at).within
+
+-- each machine that hasn't stopped is mended
+pub are_mended : (old new : WorldState) (steps : List Step) → IsMadeAsBefore old new →
+    IsWorld new.roster new.machines → LeadsTo (Repairs node_of_sealed) old.machines steps new.machines →
+    AreMended new.machines
+are_mended old new steps made is led place a at runs =
+    let have : HaveLog is.log new.machines = have_log new is in
+    let had : HaveLog is.log old.machines = same_log is.log new.machines old.machines (sym made.configs) have in
+    let next = next_of (configs_of old.machines) in
+    rw (log_there new.machines place a have at)
+    (running_machines_are_mended node_of_sealed next is.log (world_of old.machines) (world_of new.machines) steps
+    is.orderly (small_histories new is) (led next is.log (tells_next (configs_of old.machines)) had) place
+    (machine_of a) (rw (slice_get-map machine_of new.machines place, at)) runs)

@@ -22,6 +22,10 @@ abbrev pub LoopsWhile : {W : Type 0} → Bool → (W → List Step → W → Typ
 LoopsWhile true Way = Loops Way
 LoopsWhile false Way = TakesNone
 
+-- of which steps nothing is asked
+abbrev pub AnyStep : {W : Type 0} → W → Step → Type 0
+AnyStep w s = Unit {0}
+
 -- the steps are taken one after another, and P is so of each
 module _ {W : Type 0} (after : W → Step → W) (P : W → Step → Type 0) where
   abbrev pub AreTaken : W → List Step → W → Type 0
@@ -189,11 +193,11 @@ module _ {T : Type 0} (node : T → Node) (after : World T → Step → World T)
   -- there is no other way
   pub repairs_is_one : (old new : World T) (steps : List Step) → Repairs node after old steps new → (other : World T)
       (others : List Step) → Repairs node after old others other → (others ≡ steps) × (other ≡ new)
-  repairs_is_one old new steps way = (repairs_sure (λ _ _. Unit {0}) (λ _ _ _ _ _. tt) old new steps way).1
+  repairs_is_one old new steps way = (repairs_sure AnyStep (λ _ _ _ _ _. tt) old new steps way).1
 
   pub finishes_is_one : (old new : World T) (steps : List Step) → Finishes node after old steps new →
       (other : World T) (others : List Step) → Finishes node after old others other → (others ≡ steps) × (other ≡ new)
-  finishes_is_one old new steps way = (finishes_sure (λ _ _. Unit {0}) (λ _ _ _. tt) old new steps way).1
+  finishes_is_one old new steps way = (finishes_sure AnyStep (λ _ _ _. tt) old new steps way).1
 
 module _ {T : Type 0} (node : T → Node) (next : ℕ → List (Event T) → Option T) (log : ℕ) where
   -- the world after a step

@@ -1,12 +1,7 @@
 -- Mending has at most as many steps as there are machines times sent entries.
-use Rattle.log_repair.proofs.Imports.{◌≡◌, ◌∙◌, ℕ, zero, suc, ◌+◌, ◌*◌, ◌≤◌, arith, suc-mul, List}
-use Rattle.log_repair.proofs.Imports.{[], ◌∷◌, length, Option, refl}
-use Rattle.log_repair.proofs.Imports.{length-map}
-use Rattle.log_repair.proofs.Imports.{Event, Step, Node, entry_of, held, IsOrderly}
-use Rattle.log_repair.proofs.Imports.{World, happens, history, sent_in}
-use Rattle.log_repair.proofs.Imports.{few_among}
-use Rattle.log_repair.proofs.Imports.{length_play}
-use Rattle.log_repair.proofs.Imports.{MendingIsShort, total}
+use Rattle.log_repair.proofs.Imports.{◌≡◌, ◌∙◌, ℕ, zero, suc, ◌+◌, ◌*◌, ◌≤◌, arith, suc-mul, List, [], ◌∷◌, length}
+use Rattle.log_repair.proofs.Imports.{Option, refl, length-map, Event, Step, Node, entry_of, held, IsOrderly, World}
+use Rattle.log_repair.proofs.Imports.{happens, history, sent_in, few_among, length_play, MendingIsShort, total}
 use Rattle.log_repair.proofs.Bearers.{held_in, differ_after}
 use Rattle.log_repair.proofs.Events.{Heard, heard_if}
 use Rattle.log_repair.proofs.Plays.{repairs_is_a_play}

@@ -1,9 +1,9 @@
 -- The numbers of machines, and what is left of them.
-use Rattle.log_repair.proofs.Imports.{◌≡◌, ◌∙◌, ℕ, zero, suc, ◌+◌, ◌<◌, ◌≤◌, arith, List, [], ◌∷◌, length, get_or, Some, drop}
-use Rattle.log_repair.proofs.Imports.{sym, ap, slice_get, range_with_len, length-map, drop_more, drop_all}
-use Rattle.log_repair.proofs.Imports.{get_or-range_with_len, length-range_with_len, MachineState, WorldState}
-use Rattle.log_repair.proofs.Imports.{machine_of, world_of, if◌then◌else◌, gaps, held, has_stopped, node_of_sealed}
-use Rattle.log_repair.proofs.Imports.{Asks, InOrder, SealedEntry, Step, TakesTurn, World}
+use Rattle.log_repair.proofs.Imports.{◌≡◌, ◌∙◌, ℕ, ◌+◌, ◌<◌, ◌≤◌, arith, List, [], ◌∷◌, length, get_or, Some, drop}
+use Rattle.log_repair.proofs.Imports.{get-map, slice_get-get_or, sym, ap, slice_get, range_with_len, length-map}
+use Rattle.log_repair.proofs.Imports.{drop_more, drop_all, get_or-range_with_len, length-range_with_len, MachineState}
+use Rattle.log_repair.proofs.Imports.{WorldState, machine_of, world_of, if◌then◌else◌, gaps, held, has_stopped}
+use Rattle.log_repair.proofs.Imports.{node_of_sealed, Asks, InOrder, SealedEntry, Step, TakesTurn, World}
 
 -- the machines' numbers, ascending
 abbrev pub numbers : WorldState → List ℕ
@@ -16,9 +16,8 @@ next_number {w = w} m seen within =
     let count = length (world_of w.machines) in
     let here : m < length w.machines = rw seen at within in
     let low : m < count = omega (arith, here, length-map w.machines machine_of) in
-    let below : m < length (numbers w) = omega (arith, low, length-range_with_len 0 count) in
     let is : get_or (numbers w) m m ≡ m = omega (arith, get_or-range_with_len 0 count m m low) in
-    drop_more (numbers w) m m below ∙ ap (λ (n : ℕ). n ∷ drop (m + 1) (numbers w)) is
+    rw (drop_more (numbers w) m m (omega (arith, low, length-range_with_len 0 count)), is)
 
 -- past the last machine there is none
 pub no_number : {v w : WorldState} (m : ℕ) → v ≡ w → length v.machines ≤ m → drop m (numbers w) ≡ []
@@ -34,9 +33,7 @@ no_number {w = w} m seen far =
 -- the machine at a place
 machine_at : (ms : List MachineState) (m : ℕ) (a : MachineState) → m < length ms → a ≡ get_or ms m a →
     slice_get (world_of ms) m ≡ Some (machine_of a)
-machine_at [] m a within is = absurd (omega (arith, within))
-machine_at (x ∷ ms) zero a within is = ap (λ (z : MachineState). Some (machine_of z)) (sym is)
-machine_at (x ∷ ms) (suc m) a within is = machine_at ms m a (omega (arith, within)) is
+machine_at ms m a within is = get-map machine_of ms m a (slice_get-get_or ms m a within ∙ ap Some (sym is))
 
 -- its turn is to ask for these digests, where it wants them
 pub turn_of : (after : World SealedEntry → Step → World SealedEntry) (ms : List MachineState) (m : ℕ)

@@ -1,7 +1,7 @@
 use Rattle.log_repair.proofs.Imports.{node_of_sealed, Act, TakesStep}
 use Rattle.log_repair.proofs.Going.{going_start, if_failed, loop_fails, loop_more, shrinks}
 use Rattle.log_repair.proofs.Making.{sends_with_room}
-use Rattle.log_repair.proofs.OneWay.{acts_continue, acts_do, step_sure}
+use Rattle.log_repair.proofs.OneWay.{AnyStep, acts_continue, acts_do, step_sure}
 use Rattle.log_repair.proofs.finishing.act_on.Goals as goal
 
 pub loop-is_moving-init : goal.loop-is_moving-init
@@ -10,7 +10,7 @@ loop-is_moving-init c = going_start (λ next log says rest last acts. acts_do no
 pub loop-is_moving-preserved : goal.loop-is_moving-preserved
 loop-is_moving-preserved c =
     loop_more (λ after. TakesStep after (Act c.args.m))
-    (λ after. step_sure after (λ _ _. Unit {0}) (Act c.args.m) (λ _ _. tt))
+    (λ after. step_sure after AnyStep (Act c.args.m) (λ _ _. tt))
     (rw c.loop-is_moving-test.true at c.loop-is_moving.invariant) c.in_ok-is_moving.ensures.adds _
     c.in_ok-is_moving.ensures.still
 
@@ -21,7 +21,7 @@ loop-is_moving-smaller c =
 pub returns-in_err-is_moving-clause-err : goal.returns-in_err-is_moving-clause-err
 returns-in_err-is_moving-clause-err c =
     if_failed c.from_residual.result (loop_fails (λ after. TakesStep after (Act c.args.m))
-    (λ after. step_sure after (λ _ _. Unit {0}) (Act c.args.m) (λ _ _. tt))
+    (λ after. step_sure after AnyStep (Act c.args.m) (λ _ _. tt))
     (rw c.loop-is_moving-test.true at c.loop-is_moving.invariant) c.in_err-is_moving.ensures.err
     (λ next log says u. acts_continue node_of_sealed next log (sends_with_room says) c.args.m u))
 

@@ -1,4 +1,4 @@
-use Rattle.log_repair.proofs.Imports.{◌≡◌, ◌∙◌, [], rules, node_of_sealed, ActsOn}
+use Rattle.log_repair.proofs.Imports.{◌≡◌, [], rules, node_of_sealed, ActsOn}
 use Rattle.log_repair.proofs.Going.{going_fails, going_more, going_start, if_failed, led_from_none, next_joins}
 use Rattle.log_repair.proofs.Making.{sends_with_room}
 use Rattle.log_repair.proofs.OneWay.{finishes_continue}
@@ -17,22 +17,20 @@ loop-m-preserved c =
     going_more c.loop-m.invariant acts
     (next_joins c.loop-m.world (ActsOn node_of_sealed) c.loop-m.m _ _ next acts.taken)
 
-pub returns-in_err-act_on-clause-err : goal.returns-in_err-act_on-clause-err
-returns-in_err-act_on-clause-err c =
+-- of what the machines are made stays where it breaks off too
+pub returns-in_err-act_on : goal.returns-in_err-act_on
+returns-in_err-act_on c =
     let next = next_number c.loop-m.m c.world.view_is (search rules) in
-    if_failed c.from_residual.result (going_fails c.loop-m.invariant c.in_err-act_on.ensures.err
+    let fails = going_fails c.loop-m.invariant c.in_err-act_on.ensures.err
     (next_joins c.loop-m.world (ActsOn node_of_sealed) c.loop-m.m _ _ next)
-    (λ next log says u. finishes_continue node_of_sealed next log (sends_with_room says) _ u)).broken
-
--- of what the machines are made stays there too
-pub returns-in_err-act_on-clause-roster : goal.returns-in_err-act_on-clause-roster
-returns-in_err-act_on-clause-roster c = c.in_err-act_on.ensures.err.made.roster ∙ c.loop-m.invariant.made.roster
-
-pub returns-in_err-act_on-clause-configs : goal.returns-in_err-act_on-clause-configs
-returns-in_err-act_on-clause-configs c = c.in_err-act_on.ensures.err.made.configs ∙ c.loop-m.invariant.made.configs
-
-pub returns-in_err-act_on-clause-stops : goal.returns-in_err-act_on-clause-stops
-returns-in_err-act_on-clause-stops c = c.in_err-act_on.ensures.err.made.stops ∙ c.loop-m.invariant.made.stops
+    (λ next log says u. finishes_continue node_of_sealed next log (sends_with_room says) _ u) in
+    record {
+      ok = search rules;
+      err = if_failed c.from_residual.result fails.broken;
+      roster = fails.made.roster;
+      configs = fails.made.configs;
+      stops = fails.made.stops;
+    }
 
 pub returns-clause-ok : goal.returns-clause-ok
 returns-clause-ok c =

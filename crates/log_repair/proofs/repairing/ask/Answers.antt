@@ -1,10 +1,10 @@
-use Rattle.log_repair.proofs.Imports.{◌≡◌, ◌∙◌, ◌<◌, ℕ, List, Option, Some, None, length, sym, ap, subst, node_of_sealed, happens}
-use Rattle.log_repair.proofs.Imports.{SealedEntry, Step, Hear, IsOrderly, World, option_map, length-map, on_ok_weaker}
-use Rattle.log_repair.proofs.Imports.{on_err_weaker, MachineState, WorldState, machine_of, world_of, HearsOf}
-use Rattle.log_repair.proofs.Imports.{bearer, TakesStep}
+use Rattle.log_repair.proofs.Imports.{◌≡◌, ◌∙◌, ◌<◌, ℕ, List, Option, Some, None, length, sym, ap, subst}
+use Rattle.log_repair.proofs.Imports.{node_of_sealed, happens, SealedEntry, Step, Hear, IsOrderly, World, option_map}
+use Rattle.log_repair.proofs.Imports.{length-map, on_ok_weaker, on_err_weaker, MachineState, WorldState, machine_of}
+use Rattle.log_repair.proofs.Imports.{world_of, HearsOf, bearer, TakesStep}
 use Rattle.log_repair.proofs.Bearers.{IsAnswerIn, bearer_answers, held_sent}
 use Rattle.log_repair.proofs.Events.{sender_within}
-use Rattle.log_repair.proofs.Going.{fails_all, going_all, going_start}
+use Rattle.log_repair.proofs.Going.{adds_so, fails_so}
 use Rattle.log_repair.proofs.repairing.ask.Goals as goal
 
 -- maker and number of an entry
@@ -14,10 +14,11 @@ place_of e = (e.entry.maker, e.entry.number)
 module _ (from number : ℕ) where
   -- to hear an entry of which this is said is to hear of the answer
   hears_of : (after : World SealedEntry → Step → World SealedEntry) (m : ℕ) (o : Option SealedEntry) →
-      option_map place_of o ≡ Some (from, number) → (old new : World SealedEntry) (steps : List Step) →
+      option_map place_of o ≡ Some (from, number) → (old : World SealedEntry) (steps : List Step)
+      (new : World SealedEntry) →
       TakesStep after (Hear m from number) old steps new → HearsOf node_of_sealed after m o old steps new
-  hears_of after m None told old new steps takes = cc told
-  hears_of after m (Some e) told old new steps takes =
+  hears_of after m None told old steps new takes = cc told
+  hears_of after m (Some e) told old steps new takes =
       let pair : (from, number) ≡ place_of e = cc told in
       subst (λ (p : ℕ × ℕ). TakesStep after (Hear m p.0 p.1) old steps new) pair takes
 
@@ -45,12 +46,12 @@ returns-in-Some c =
     let w : WorldState = c.args.world.now in
     let seen : c.world.inside.machines.items ≡ w.machines = ap (λ (s : WorldState). s.machines) c.world.view_is in
     let told = rw (c.as_slice.ensures.value, seen) at (sym c.bearer.ensures ∙ c.in-Some.is) in
-    let hears = λ (after : World SealedEntry → Step → World SealedEntry) (steps : List Step) (new : World SealedEntry).
+    let hears = λ (after : World SealedEntry → Step → World SealedEntry).
     hears_of c.in-Some.from c.in-Some.number after c.args.m
-    (bearer node_of_sealed c.args.digest.now (world_of w.machines)) told (world_of w.machines) new steps in
+    (bearer node_of_sealed c.args.digest.now (world_of w.machines)) told (world_of w.machines) in
     record {
-      ok = on_ok_weaker c.take.result (λ adds. going_all (going_start
-          (λ next log says. hears (happens node_of_sealed next log))) adds) c.take.ensures.ok;
-      err = on_err_weaker c.take.result (λ fails. fails_all (going_start {start = c.args.steps.now.items}
-          (λ next log says. hears (happens node_of_sealed next log))) fails) c.take.ensures.err;
+      ok = on_ok_weaker c.take.result (λ adds. adds_so
+          (λ next log says. hears (happens node_of_sealed next log)) adds) c.take.ensures.ok;
+      err = on_err_weaker c.take.result (λ fails. fails_so
+          (λ next log says. hears (happens node_of_sealed next log)) fails) c.take.ensures.err;
     }

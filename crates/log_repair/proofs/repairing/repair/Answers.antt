@@ -1,7 +1,7 @@
-use Rattle.log_repair.proofs.Imports.{◌≡◌, ◌∙◌, [], rules, node_of_sealed, TakesRound}
+use Rattle.log_repair.proofs.Imports.{◌≡◌, [], rules, node_of_sealed, TakesRound}
 use Rattle.log_repair.proofs.Going.{going_start, if_failed, led_from_none, loop_fails, loop_more, shrinks}
-use Rattle.log_repair.proofs.MendedMachines.{are_mended}
-use Rattle.log_repair.proofs.OneWay.{round_sure, rounds_continue, rounds_mend}
+use Rattle.log_repair.proofs.Mended.{are_mended}
+use Rattle.log_repair.proofs.OneWay.{AnyStep, round_sure, rounds_continue, rounds_mend}
 use Rattle.log_repair.proofs.repairing.repair.Goals as goal
 
 pub loop-is_moving-init : goal.loop-is_moving-init
@@ -12,7 +12,7 @@ loop-is_moving-init c =
 pub loop-is_moving-preserved : goal.loop-is_moving-preserved
 loop-is_moving-preserved c =
     loop_more (TakesRound node_of_sealed)
-    (λ after. round_sure node_of_sealed after (λ _ _. Unit {0}) (λ _ _ _ _ _. tt))
+    (λ after. round_sure node_of_sealed after AnyStep (λ _ _ _ _ _. tt))
     (rw c.loop-is_moving-test.true at c.loop-is_moving.invariant) c.in_ok-is_moving.ensures.adds _
     c.in_ok-is_moving.ensures.still
 
@@ -20,26 +20,22 @@ pub loop-is_moving-smaller : goal.loop-is_moving-smaller
 loop-is_moving-smaller c =
     rw c.loop-is_moving-test.true (shrinks c.in_ok-is_moving.ensures.adds _ c.in_ok-is_moving.ensures.still)
 
--- the rest of a round that broke off, and what mends after it, would have mended
-pub returns-in_err-is_moving-clause-err : goal.returns-in_err-is_moving-clause-err
-returns-in_err-is_moving-clause-err c =
-    if_failed c.from_residual.result (loop_fails (TakesRound node_of_sealed)
-    (λ after. round_sure node_of_sealed after (λ _ _. Unit {0}) (λ _ _ _ _ _. tt))
+-- the rest of a round that broke off, and what mends after it, would have mended, and of what the
+-- machines are made stays there too
+pub returns-in_err-is_moving : goal.returns-in_err-is_moving
+returns-in_err-is_moving c =
+    let fails = loop_fails (TakesRound node_of_sealed)
+    (λ after. round_sure node_of_sealed after AnyStep (λ _ _ _ _ _. tt))
     (rw c.loop-is_moving-test.true at c.loop-is_moving.invariant) c.in_err-is_moving.ensures.err
-    (λ next log says u. rounds_continue node_of_sealed next log u)).broken
-
--- of what the machines are made stays there too
-pub returns-in_err-is_moving-clause-roster : goal.returns-in_err-is_moving-clause-roster
-returns-in_err-is_moving-clause-roster c =
-    c.in_err-is_moving.ensures.err.made.roster ∙ c.loop-is_moving.invariant.made.roster
-
-pub returns-in_err-is_moving-clause-configs : goal.returns-in_err-is_moving-clause-configs
-returns-in_err-is_moving-clause-configs c =
-    c.in_err-is_moving.ensures.err.made.configs ∙ c.loop-is_moving.invariant.made.configs
-
-pub returns-in_err-is_moving-clause-stops : goal.returns-in_err-is_moving-clause-stops
-returns-in_err-is_moving-clause-stops c =
-    c.in_err-is_moving.ensures.err.made.stops ∙ c.loop-is_moving.invariant.made.stops
+    (λ next log says u. rounds_continue node_of_sealed next log u) in
+    record {
+      ok = search rules;
+      mended = search rules;
+      err = if_failed c.from_residual.result fails.broken;
+      roster = fails.made.roster;
+      configs = fails.made.configs;
+      stops = fails.made.stops;
+    }
 
 -- all rounds were taken
 pub returns-clause-ok : goal.returns-clause-ok

@@ -1,8 +1,7 @@
-use Rattle.log_repair.proofs.Imports.{◌≡◌, ◌∙◌, ℕ, List, [], sym, ap, if◌then◌else◌, on_ok_weaker}
-use Rattle.log_repair.proofs.Imports.{on_err_weaker, node_of_sealed, SealedEntry, held, gaps, History, MachineState}
-use Rattle.log_repair.proofs.Imports.{WorldState, true, false}
-use Rattle.log_repair.proofs.Imports.{happens, has_stopped}
-use Rattle.log_repair.proofs.Going.{fails_all, fails_here, going_all, going_none, going_start, if_failed}
+use Rattle.log_repair.proofs.Imports.{◌≡◌, ◌∙◌, ℕ, List, [], sym, ap, if◌then◌else◌, on_ok_weaker, on_err_weaker}
+use Rattle.log_repair.proofs.Imports.{node_of_sealed, SealedEntry, held, gaps, History, MachineState, WorldState, true}
+use Rattle.log_repair.proofs.Imports.{false, happens, has_stopped}
+use Rattle.log_repair.proofs.Going.{adds_so, fails_here, fails_so, going_none, going_start, if_failed}
 use Rattle.log_repair.proofs.OneWay.{asks_continue}
 use Rattle.log_repair.proofs.Turns.{turn_of}
 use Rattle.log_repair.proofs.repairing.take_turn.Goals as goal
@@ -36,8 +35,8 @@ returns c =
     let runs : has_stopped a ≡ false = sym c.stopped.ensures ∙ c.if-stopped.false in
     let wanted : (if has_stopped a then [] else gaps node_of_sealed (held a.events)) ≡ ds = rw runs (sym missed) in
     record {
-      ok = on_ok_weaker c.ask_all.result (λ adds. going_all (going_start (λ next log says. turn_of
-          (happens node_of_sealed next log) ms c.args.m a c.requires at ds wanted)) adds) c.ask_all.ensures.ok;
-      err = on_err_weaker c.ask_all.result (λ fails. fails_all (going_start {start = []} (λ next log says. turn_of
-          (happens node_of_sealed next log) ms c.args.m a c.requires at ds wanted)) fails) c.ask_all.ensures.err;
+      ok = on_ok_weaker c.ask_all.result (λ adds. adds_so (λ next log says. turn_of
+          (happens node_of_sealed next log) ms c.args.m a c.requires at ds wanted) adds) c.ask_all.ensures.ok;
+      err = on_err_weaker c.ask_all.result (λ fails. fails_so (λ next log says. turn_of
+          (happens node_of_sealed next log) ms c.args.m a c.requires at ds wanted) fails) c.ask_all.ensures.err;
     }
