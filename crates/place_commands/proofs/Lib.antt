@@ -4,7 +4,6 @@ pub mod OnePlayAnswer
 pub mod ScriptFiles
 pub mod HonestPlaces
 pub mod Runs
-pub mod PlayAnswers
 pub mod ScriptCommands
 pub mod MakeCommand
 pub mod PlayCommand

@@ -1,13 +1,9 @@
 -- A script has at most one answer to `play`.
-use Rattle.std.proofs.Common.{Option, Some}
-use Rattle.place_commands.proofs.Imports.{◌≡◌, ◌∙◌, ℕ, inl, inr, List, [], ◌∷◌, ◌++◌, None, ap, sym}
-use Rattle.place_commands.proofs.Imports.{subst, arith, Result, Ok, Err, Script, ScriptFault, ScriptWhy, Left}
-use Rattle.place_commands.proofs.Imports.{roster_of, MachineState, ScriptsArePlayedInOneWay, WhatIsLeftIsToldInOneWay}
-use Rattle.place_commands.proofs.Imports.{script_why_word, Refusal, refused, Answer, undone_line, SayUndone}
-use Rattle.place_commands.proofs.Imports.{play_answer, IsPlayOf, IsPlayAnswer, GivesScript}
+use Rattle.place_commands.proofs.Imports.{Option, Some, ◌≡◌, ◌∙◌, ℕ, inl, inr, List, [], ◌∷◌, None, sym, arith, Result}
+use Rattle.place_commands.proofs.Imports.{Ok, Err, Script, ScriptFault, MachineState, ScriptsArePlayedInOneWay}
+use Rattle.place_commands.proofs.Imports.{WhatIsLeftIsToldInOneWay, Refusal, Answer, SayUndone, IsPlayOf, GivesScript}
 use Rattle.election_script.specs.declared.faults.ScriptFault.TheVariants.{At}
 use Rattle.election_script.specs.Reading.{Reads}
-use Rattle.command_line.proofs.SameOr.{one_or}
 
 -- a text is read in one way, a script is played in one way, and what is left is reported in one way
 pub record PlayOne : Type 0 where
@@ -26,18 +22,15 @@ same_undone one [] lines others p q = p ∙ sym q
 same_undone one (m ∷ machines) lines others (left, rest, waits, says, told) (left', rest', waits', says', told') =
     let here : left ≡ left' = one.left m left left' waits waits' in
     let later : rest ≡ rest' = same_undone one machines rest rest' says says' in
-    told ∙ ap (λ (l : Option Left). undone_line m.config.name l ++ rest) here
-    ∙ ap (λ (r : List ℕ). undone_line m.config.name left' ++ r) later ∙ sym told'
+    cc
 
 -- machines that have played have one answer
-same_play_of : PlayOne → (prefix : List ℕ) (script : Script) (a b : Answer) → IsPlayOf prefix script a
+pub same_play_of : PlayOne → (prefix : List ℕ) (script : Script) (a b : Answer) → IsPlayOf prefix script a
     → IsPlayOf prefix script b → a ≡ b
 same_play_of one prefix script a b p q =
     let same : p.machines ≡ q.machines = one.played script p.machines q.machines p.played q.played in
-    let Q : List MachineState → Type 0 = λ ks. SayUndone ks p.undone in
-    let lines : p.undone ≡ q.undone = same_undone one q.machines p.undone q.undone (subst Q same p.left) q.left in
-    p.told ∙ ap (λ (ks : List MachineState). play_answer prefix (roster_of script) ks p.undone) same
-    ∙ ap (λ (ls : List ℕ). play_answer prefix (roster_of script) q.machines ls) lines ∙ sym q.told
+    let lines : p.undone ≡ q.undone = same_undone one q.machines p.undone q.undone (rw same at p.left) q.left in
+    cc (p.told, q.told)
 
 -- a script's file gives one answer
 pub one_script : PlayOne → (name : List ℕ) (file : Option (List ℕ)) (p q : Result Script Refusal) →
@@ -50,10 +43,7 @@ one_script one name (Some bytes) p q (inr (inl (short, x))) (inl (long, f)) = ab
 one_script one name (Some bytes) p q (inr (inr (short, x))) (inl (long, f)) = absurd (omega arith)
 one_script one name (Some bytes) p q (inr (inl (short, (n, why, is, e)))) (inr (inl (short', (k, other, also, f)))) =
     let same : Err (At n why) ≡ Err (At k other) = one.reading bytes (Err (At n why)) (Err (At k other)) is also in
-    let number : n ≡ k = cc in
-    let cause : why ≡ other = cc in
-    e ∙ ap (λ (m : ℕ). Err (refused name m (script_why_word why))) number
-    ∙ ap (λ (w : ScriptWhy). Err (refused name k (script_why_word w))) cause ∙ sym f
+    cc
 one_script one name (Some bytes) p q (inr (inl (short, (n, why, is, e)))) (inr (inr (short', (script, also, f)))) =
     let same : Err (At n why) ≡ Ok script = one.reading bytes (Err (At n why)) (Ok script) is also in
     cc
@@ -61,13 +51,5 @@ one_script one name (Some bytes) p q (inr (inr (short, (script, is, e)))) (inr (
     let same : Ok script ≡ Err (At k other) = one.reading bytes (Ok script) (Err (At k other)) is also in
     cc
 one_script one name (Some bytes) p q (inr (inr (short, (script, is, e)))) (inr (inr (short', (other, also, f)))) =
-    let read : Ok script ≡ Ok other = one.reading bytes (Ok script) (Ok other) is also in
-    let same : script ≡ other = cc in
-    e ∙ ap (λ (s : Script). Ok s) same ∙ sym f
-
--- the play of a script's file has one answer
-pub same_play : PlayOne → (name prefix : List ℕ) (file : Option (List ℕ)) (a b : Answer)
-    → IsPlayAnswer name prefix file a → IsPlayAnswer name prefix file b → a ≡ b
-same_play one name prefix file a b =
-    one_or (GivesScript name file) (IsPlayOf prefix) a b (one_script one name file)
-    (λ script gives. same_play_of one prefix script a b)
+    let same : Ok script ≡ Ok other = one.reading bytes (Ok script) (Ok other) is also in
+    cc

@@ -1,20 +1,15 @@
 -- A script whose machines play, are mended and finish.
-use Rattle.place_commands.proofs.Imports.{fun_ext, ◌≡◌, ◌∙◌, ℕ, List, [], ◌∷◌, ◌++◌, map, get_or, None}
-use Rattle.place_commands.proofs.Imports.{refl, sym, ap, subst, option_map, slice_get, length-map, slice_get-get_or}
-use Rattle.place_commands.proofs.Imports.{slice_get-map, node_of_sealed, SealedEntry, Event, Step, World, happens}
-use Rattle.place_commands.proofs.Imports.{start, Cast0, Script, Config, IsOf, config_of, script_configs, post_of}
-use Rattle.place_commands.proofs.Imports.{roster_of, MachineState, AreOf, IsPlayed, IsStepOf, WorldState, HaveLog}
-use Rattle.place_commands.proofs.Imports.{TellsNext, configs_of, machine_of, stops_of, world_of, tells_same}
-use Rattle.place_commands.proofs.Imports.{get-map_from, fresh_configs, Finishes, Repairs, LeadsTo, repairs_are_of}
-use Rattle.place_commands.proofs.Imports.{same_log, finishes_is_one, repairs_is_one, finishes_is_a_play, play-append}
-use Rattle.place_commands.proofs.Imports.{repairs_is_a_play, Answer, SayUndone, AreMendedBy, IsRepairAnswer}
-use Rattle.place_commands.proofs.Imports.{IsRepairOf, repair_answer, with_steps, GivesScript, ComesByRepair}
-use Rattle.std.proofs.Common.{length, Option, Some}
+use Rattle.place_commands.proofs.Imports.{get-map, length, Some, play, fun_ext, ◌≡◌, ◌∙◌, ℕ, List, [], ◌∷◌, ◌++◌, map}
+use Rattle.place_commands.proofs.Imports.{get_or, None, refl, sym, ap, slice_get, length-map, slice_get-get_or}
+use Rattle.place_commands.proofs.Imports.{node_of_sealed, SealedEntry, Event, Step, happens, start, Cast0, Script}
+use Rattle.place_commands.proofs.Imports.{Config, config_of, script_configs, post_of, roster_of, MachineState, AreOf}
+use Rattle.place_commands.proofs.Imports.{IsPlayed, WorldState, HaveLog, TellsNext, configs_of, machine_of, stops_of}
+use Rattle.place_commands.proofs.Imports.{world_of, tells_same, get-map_from, fresh_configs, Finishes, Repairs, LeadsTo}
+use Rattle.place_commands.proofs.Imports.{repairs_are_of, same_log, finishes_is_one, repairs_is_one, finishes_is_a_play}
+use Rattle.place_commands.proofs.Imports.{play-append, repairs_is_a_play, Answer, AreMendedBy, IsRepairOf, with_steps}
+use Rattle.place_commands.proofs.Imports.{ComesByRepair}
 use Rattle.std.proofs.Common.{false}
-use Rattle.std.specs.Prelude.{All}
-use Rattle.entry_order.specs.World.{play}
-use Rattle.place_commands.proofs.OnePlayAnswer.{PlayOne, one_script, same_undone}
-use Rattle.command_line.proofs.SameOr.{one_or}
+use Rattle.place_commands.proofs.OnePlayAnswer.{PlayOne, same_undone}
 
 -- ---- what the script's machines are made of
 
@@ -25,14 +20,12 @@ made m = record { config = m.config; stop = None; marked = false; events = [] }
 -- as they were made, machines are made of the same
 configs_made : (ms : List MachineState) → configs_of (map made ms) ≡ configs_of ms
 configs_made [] = refl
-configs_made (m ∷ ms) = ap (λ (cs : List Config). m.config ∷ cs) (configs_made ms)
+configs_made (m ∷ ms) = rw (configs_made ms)
 
 -- of two lists that a function makes one, what is at one place is seen as one
 same_at : {X Y : Type 0} (f : X → Y) (xs ys : List X) (k : ℕ) (x : X) → map f xs ≡ map f ys → slice_get xs k ≡ Some x →
     (y : X) × (slice_get ys k ≡ Some y) × (f y ≡ f x)
-same_at {X} {Y} f xs ys k x same at =
-    get-map_from f ys k (f x)
-    (ap (λ (l : List Y). slice_get l k) (sym same) ∙ slice_get-map f xs k ∙ ap (λ (o : Option X). option_map f o) at)
+same_at f xs ys k x same at = get-map_from f ys k (f x) (rw (← same) (get-map f xs k x at))
 
 module _ (script : Script) (ms : List MachineState) (are_of : AreOf script ms) where
   -- the machine at a place is made of what the script says there
@@ -56,8 +49,8 @@ module _ (script : Script) (ms : List MachineState) (are_of : AreOf script ms) w
             let (cast, cast_is, made_of) = config_at place u there in (
               cast,
               cast_is,
-              sym same
-                  ∙ ap (λ (c : Config). record { config = c; stop = None; marked = false; events = [] }) made_of,
+              sym same ∙ ap (λ (c : Config).
+                  record { config = c; stop = None; marked = false; events = [] }) made_of,
             );
       })
 
@@ -75,10 +68,10 @@ module _ (script : Script) (ms : List MachineState) (are_of : AreOf script ms) w
         ∙ length-map ms (λ (m : MachineState). m.config) ∙ are_of.count;
     number = λ place m at.
         let (u, stood, same) = same_at (λ (v : MachineState). v.config) new ms place m configs at in
-        ap (λ (c : Config). c.number) (sym same) ∙ are_of.number place u stood;
+        rw same at (are_of.number place u stood);
     config = λ place m at.
         let (u, stood, same) = same_at (λ (v : MachineState). v.config) new ms place m configs at in
-        subst (λ (c : Config). IsOf script c) same (are_of.config place u stood);
+        rw same at (are_of.config place u stood);
     no_stop = λ place m at.
         let (u, stood, same) = same_at (λ (v : MachineState). v.stop) new ms place m stops at in
         sym same ∙ are_of.no_stop place u stood;
@@ -94,41 +87,22 @@ one_mending script mended finished others more a b =
     tells_same (script_configs script) b.next a.next b.tells a.tells m h)) in
     let after = happens node_of_sealed a.next script.log in
     let played = play node_of_sealed a.next script.log (start (length script.machines)) script.steps in
-    let repairs : Repairs node_of_sealed after played others b.whole =
-    subst (λ (n : ℕ → List (Event SealedEntry) → Option SealedEntry).
-    Repairs node_of_sealed (happens node_of_sealed n script.log)
-    (play node_of_sealed n script.log (start (length script.machines)) script.steps) others b.whole) same b.repairs in
-    let finishes : Finishes node_of_sealed after b.whole more b.end =
-    subst (λ (n : ℕ → List (Event SealedEntry) → Option SealedEntry).
-    Finishes node_of_sealed (happens node_of_sealed n script.log) b.whole more b.end) same b.finishes in
-    let (mend, whole) = repairs_is_one node_of_sealed after played a.whole mended a.repairs b.whole others repairs in
+    let (mend, whole) = repairs_is_one node_of_sealed after played a.whole mended a.repairs b.whole others
+    (rw same at b.repairs) in
     let (finish, _) = finishes_is_one node_of_sealed after a.whole a.end finished a.finishes b.end more
-    (subst (λ (w : World SealedEntry). Finishes node_of_sealed after w more b.end) whole finishes) in
+    (rw (same, whole) at b.finishes) in
     (mend, finish)
 
 -- so there is one answer
-same_repair_of : PlayOne → (prefix : List ℕ) (script : Script) (a b : Answer) → IsRepairOf prefix script a →
+pub same_repair_of : PlayOne → (prefix : List ℕ) (script : Script) (a b : Answer) → IsRepairOf prefix script a →
     IsRepairOf prefix script b → a ≡ b
 same_repair_of one prefix script a b p q =
     let (mend, finish) = one_mending script p.mended p.finished q.mended q.finished p.steps q.steps in
-    let steps : q.mended ++ q.finished ≡ p.mended ++ p.finished =
-    ap (λ (s : List Step). s ++ q.finished) mend ∙ ap (λ (s : List Step). p.mended ++ s) finish in
     let same : p.machines ≡ q.machines =
     one.played (with_steps (p.mended ++ p.finished) script) p.machines q.machines p.played
-    (subst (λ (s : List Step). IsPlayed (with_steps s script) q.machines) steps q.played) in
-    let lines : p.undone ≡ q.undone =
-    same_undone one q.machines p.undone q.undone
-    (subst (λ (ms : List MachineState). SayUndone ms p.undone) same p.left) q.left in
-    p.told ∙ ap (λ (ms : List MachineState). repair_answer prefix (roster_of script) ms p.mended p.undone) same
-    ∙ ap (λ (s : List Step). repair_answer prefix (roster_of script) q.machines s p.undone) (sym mend)
-    ∙ ap (λ (ls : List ℕ). repair_answer prefix (roster_of script) q.machines q.mended ls) lines ∙ sym q.told
-
--- over a script's file
-pub same_repair : PlayOne → (name prefix : List ℕ) (file : Option (List ℕ)) (a b : Answer) →
-    IsRepairAnswer name prefix file a → IsRepairAnswer name prefix file b → a ≡ b
-same_repair one name prefix file a b =
-    one_or (GivesScript name file) (IsRepairOf prefix) a b (one_script one name file)
-    (λ script gives. same_repair_of one prefix script a b)
+    (rw (mend, finish) at q.played) in
+    let lines : p.undone ≡ q.undone = same_undone one q.machines p.undone q.undone (rw same at p.left) q.left in
+    cc (p.told, q.told, mend)
 
 -- ---- what the machines come to
 
@@ -145,24 +119,26 @@ comes_by_repair script played repaired finished mended more plays posts repairs 
     configs' stops' =
     let (next, tells, comes) = plays.played in
     let of = configs_are script played.machines plays.are_of in
-    let here = subst (λ (cs : List Config). TellsNext cs next) (sym of) tells in
+    let many : length (world_of played.machines) ≡ length finished.roster =
+    length-map played.machines machine_of ∙ plays.are_of.count ∙ sym (length-map script.machines (post_of script))
+    ∙ sym (ap length (roster' ∙ roster ∙ posts)) in
+    let here : TellsNext (configs_of played.machines) next = rw of tells in
     let logs = have_log script played.machines plays.are_of in
-    let there = subst (λ (cs : List Config). TellsNext cs next) (sym configs) here in
+    let there : TellsNext (configs_of repaired.machines) next = rw configs here in
     let later = same_log script.log played.machines repaired.machines configs logs in
-    let after = happens node_of_sealed next script.log in
-    let begun = play node_of_sealed next script.log (start (length script.machines)) script.steps in
     let mends = repairs next script.log here logs in
     let ends = finishes next script.log there later in
     let all : world_of finished.machines
     ≡ play node_of_sealed next script.log (start (length script.machines)) (script.steps ++ (mended ++ more)) =
-    finishes_is_a_play node_of_sealed next script.log (world_of repaired.machines) (world_of finished.machines) more
-    ends
-    ∙ ap (λ (w : World SealedEntry). play node_of_sealed next script.log w more)
-    (repairs_is_a_play node_of_sealed next script.log (world_of played.machines) (world_of repaired.machines) mended
-    mends)
-    ∙ sym (play-append node_of_sealed next script.log (world_of played.machines) mended more)
-    ∙ ap (λ (w : World SealedEntry). play node_of_sealed next script.log w (mended ++ more)) comes
-    ∙ sym (play-append node_of_sealed next script.log (start (length script.machines)) script.steps (mended ++ more)) in
+    cc (
+      comes,
+      finishes_is_a_play node_of_sealed next script.log (world_of repaired.machines) (world_of finished.machines) more
+          ends,
+      repairs_is_a_play node_of_sealed next script.log (world_of played.machines) (world_of repaired.machines) mended
+          mends,
+      play-append node_of_sealed next script.log (world_of played.machines) mended more,
+      play-append node_of_sealed next script.log (start (length script.machines)) script.steps (mended ++ more),
+    ) in
     record {
       finished = more;
       steps = record {
@@ -170,8 +146,7 @@ comes_by_repair script played repaired finished mended more plays posts repairs 
         tells = tells;
         whole = world_of repaired.machines;
         end = world_of finished.machines;
-        repairs = subst (λ (w : World SealedEntry). Repairs node_of_sealed after w mended (world_of repaired.machines))
-            comes mends;
+        repairs = rw comes at mends;
         finishes = ends;
       };
       played = record {
@@ -180,15 +155,7 @@ comes_by_repair script played repaired finished mended more plays posts repairs 
         played = (next, tells, all);
       };
       roster = roster' ∙ roster ∙ posts;
-      there = subst (λ (n : ℕ). All (IsStepOf n) mended) (as_many script played finished plays.are_of
-          (roster' ∙ roster ∙ posts))
+      there = rw many at
           (repairs_are_of node_of_sealed next script.log (world_of played.machines) (world_of repaired.machines) mended
           mends);
     }
-  where
-    -- the world has as many machines as the roster
-    as_many : (script : Script) (played finished : WorldState) → AreOf script played.machines →
-        finished.roster ≡ roster_of script → length (world_of played.machines) ≡ length finished.roster
-    as_many script played finished are_of posts =
-        length-map played.machines machine_of ∙ are_of.count ∙ sym (length-map script.machines (post_of script))
-        ∙ sym (ap length posts)

@@ -1,14 +1,11 @@
 -- What a run of a script in threads comes to is an answer.
-use Rattle.std.proofs.Common.{length, Option, Some, None}
-use Rattle.std.specs.Prelude.{All, IfSome, ◌≤◌}
-use Rattle.polling_world.specs.Machines.{IsWithinStop}
-use Rattle.place_commands.proofs.Imports.{◌≡◌, ◌∙◌, ℕ, List, map, refl, sym, ap, arith, slice_get, length-map}
-use Rattle.place_commands.proofs.Imports.{node_of_sealed, SealedEntry, Step, PlacedEvent, IsMergedOf, step_of, World}
-use Rattle.place_commands.proofs.Imports.{history, start, length_play, length_start, worlds_have_one_merged_order}
-use Rattle.place_commands.proofs.Imports.{one_order, Post, Loss, Script, IsLawful, script_configs, post_of}
-use Rattle.place_commands.proofs.Imports.{MachineState, ComesTo, world_of, next_of, tells_next, ArePlayedAgain}
-use Rattle.place_commands.proofs.Imports.{IsFloorOf, Answer, SayUndone, IsBetween, IsRunMachine, IsRunOf, run_answer}
-use Rattle.entry_order.specs.World.{play}
+use Rattle.place_commands.proofs.Imports.{length, Option, Some, None, All, IfSome, ◌≤◌, IsWithinStop, play, ◌≡◌, ◌∙◌, ℕ}
+use Rattle.place_commands.proofs.Imports.{List, map, refl, sym, ap, arith, slice_get, length-map, node_of_sealed}
+use Rattle.place_commands.proofs.Imports.{SealedEntry, Step, PlacedEvent, IsMergedOf, step_of, World, history, start}
+use Rattle.place_commands.proofs.Imports.{length_play, length_start, worlds_have_one_merged_order, one_order, Post}
+use Rattle.place_commands.proofs.Imports.{Loss, Script, IsLawful, script_configs, post_of, MachineState, ComesTo}
+use Rattle.place_commands.proofs.Imports.{world_of, next_of, tells_next, ArePlayedAgain, IsFloorOf, Answer, SayUndone}
+use Rattle.place_commands.proofs.Imports.{IsBetween, IsRunMachine, IsRunOf, run_answer}
 use Rattle.place_commands.proofs.HonestPlaces.{leave_honest_files}
 
 -- a machine with no more events than it may have has no more than the number to stop at
@@ -89,5 +86,5 @@ module _ (prefix : List ℕ) (script : Script) (lawful : IsLawful script) (posts
     order = one_order node_of_sealed (world_of machines) floor.orderly;
     honest = leave_honest_files machines again many numbered same script lawful steps comes;
     left = left;
-    told = told ∙ ap (λ (p : List Post). run_answer prefix p machines losses undone) floor.roster;
+    told = rw floor.roster at told;
   }

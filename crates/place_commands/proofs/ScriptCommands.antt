@@ -1,85 +1,102 @@
 -- The commands that go by a script.
-use Rattle.std.proofs.Common.{◌↔◌, Option, Some}
-use Rattle.place_commands.proofs.Imports.{◌≡◌, ◌≢◌, ◌∙◌, ℕ, List, [], ◌∷◌, None, inl, inr, refl, sym, arith, Result}
-use Rattle.place_commands.proofs.Imports.{Ok, Err, IfOk, IfErr, All-from_recursion, Script, Status, Answer, Fault}
+use Rattle.place_commands.proofs.Imports.{◌↔◌, Option, Some, All, Contains, ReadFault, IsOfCommands, of_read, one_or}
+use Rattle.place_commands.proofs.Imports.{IsAbsentAnswer, IsAnswerOfFault, IsRightAsRead, refused_answered}
+use Rattle.place_commands.proofs.Imports.{found_answered, ◌≡◌, ◌≢◌, ℕ, List, [], ◌∷◌, None, inl, inr, refl, arith}
+use Rattle.place_commands.proofs.Imports.{Result, Ok, Err, IfOk, IfErr, All-from_recursion, Script, Answer, Fault}
 use Rattle.place_commands.proofs.Imports.{StoreGhosts, InputFault, Refusal, OnOneFile, IsReadFromFile, IsAnswered}
 use Rattle.place_commands.proofs.Imports.{OrRefused, refusal_answer, GivesScript, IsScriptFile, play_statuses}
-use Rattle.place_commands.proofs.Imports.{status_of_undone, IsCarriedOut}
-use Rattle.place_commands.proofs.Imports.{on_one}
-use Rattle.std.specs.List.{All, Contains}
-use Rattle.evidence.specs.declared.fault.InputFault.TheVariants as audit
-use Rattle.command_line.specs.declared.answer.Fault.TheVariants.{ReadFault}
-use Rattle.command_line.specs.declared.status.Status.TheVariants as status
-use Rattle.command_line.proofs.CommandProofs.{IsOfCommands, of_read}
-use Rattle.command_line.proofs.Faults.{IsAbsentAnswer, IsAnswerOfFault, IsRightAsRead, refused_answered}
-use Rattle.command_line.proofs.Faults.{found_answered}
+use Rattle.place_commands.proofs.Imports.{status_of_undone, IsCarriedOut, on_one}
 use Rattle.place_commands.proofs.ScriptFiles.{itself}
 use Rattle.place_commands.proofs.OnePlayAnswer.{PlayOne, one_script}
-
--- what is done with a script is carried out over its file
-pub script_completed : PlayOne → (name : List ℕ) (file : Option (List ℕ)) (IsFor : Script → Answer → Type 0)
-    (answer : Answer) → IsScriptFile file →
-    ((script : Script) → IsFor script answer → IsCarriedOut answer.status) →
-    OrRefused (GivesScript name file) IsFor answer → IsCarriedOut answer.status
-script_completed one name None IsFor answer is done right = absurd is
-script_completed one name (Some bytes) IsFor answer (fits, (script, reads)) done (inl (refusal, gives, e)) =
-    let same : Err refusal ≡ Ok script = one_script one name (Some bytes) (Err refusal) (Ok script) gives
-    (inr (inr (fits, (script, reads, refl)))) in
-    absurd (let no : ⊥ = cc in no)
-script_completed one name (Some bytes) IsFor answer is done (inr (script, gives, right)) = done script right
+use Rattle.evidence.specs.declared.fault.InputFault.TheVariants as audit
+use Rattle.command_line.specs.declared.status.Status.TheVariants as status
 
 -- each status of lines on what is left is of a command that was carried out
-pub undone_done : (lines : List ℕ) → IsCarriedOut (status_of_undone lines)
+undone_done : (lines : List ℕ) → IsCarriedOut (status_of_undone lines)
 undone_done [] = tt
 undone_done (byte ∷ bytes) = tt
 
--- each status of lines on what is left is one of those of machines that play
-pub undone_status : (lines : List ℕ) → Contains play_statuses (status_of_undone lines)
+-- and is one of those of machines that play
+undone_status : (lines : List ℕ) → Contains play_statuses (status_of_undone lines)
 undone_status [] = (0, omega arith, refl)
 undone_status (byte ∷ bytes) = (1, omega arith, refl)
+
+-- but isn't that of an absent file
+not_absent : (lines : List ℕ) → status_of_undone lines ≢ status.Absent
+not_absent [] e = cc
+not_absent (byte ∷ lines) e = cc
 
 -- the statuses of machines that play are ones that commands can have
 pub play_statuses_some : All IsOfCommands play_statuses
 play_statuses_some = All-from_recursion IsOfCommands play_statuses (tt, (tt, (tt, (tt, tt))))
 
--- what is done with a script is answered with one of them, as a refusal is
-pub script_status : (name : List ℕ) (file : Option (List ℕ)) (IsFor : Script → Answer → Type 0) (answer : Answer) →
-    ((script : Script) → IsFor script answer → Contains play_statuses answer.status) →
-    OrRefused (GivesScript name file) IsFor answer → Contains play_statuses answer.status
-script_status name file =
-    of_read play_statuses (2, omega arith, refl) (3, omega arith, refl) (GivesScript name file)
+-- each answer for a script has the status of lines on what is left
+abbrev pub TellsUndone : (Script → Answer → Type 0) → Type 0
+TellsUndone IsFor =
+    (script : Script) (answer : Answer) → IsFor script answer →
+    (lines : List ℕ) × (answer.status ≡ status_of_undone lines)
 
--- the status of lines on what is left isn't that of an absent file
-pub not_absent : (lines : List ℕ) (how : Status) → how ≡ status_of_undone lines → how ≢ status.Absent
-not_absent [] how is e = let no : status.Done ≡ status.Absent = sym is ∙ e in cc
-not_absent (byte ∷ lines) how is e = let no : status.Undone ≡ status.Absent = sym is ∙ e in cc
-
-module _ {S : Type 0} (of : StoreGhosts S) (name : List ℕ) (IsFor : Script → Answer → Type 0) (old new : S) where
+module _ (name : List ℕ) (IsFor : Script → Answer → Type 0) where
   -- what is done with the script in a list of one file
-  abbrev IsDoneWith : List (Option (List ℕ)) → Answer → Type 0
+  abbrev pub IsDoneWith : List (Option (List ℕ)) → Answer → Type 0
   IsDoneWith files answer = OnOneFile (λ file. OrRefused (GivesScript name file) IsFor answer) files
 
-  -- what the script's file gives, in a list
-  abbrev GivesOne : List (Option (List ℕ)) → Result Script Refusal → Type 0
-  GivesOne files answer = OnOneFile (λ file. GivesScript name file answer) files
+  -- it has one answer, where a script has
+  pub script_one : PlayOne → ((script : Script) (a b : Answer) → IsFor script a → IsFor script b → a ≡ b) →
+      (files : List (Option (List ℕ))) (a b : Answer) → IsDoneWith files a → IsDoneWith files b → a ≡ b
+  script_one one same (file ∷ []) a b x y =
+      one_or (GivesScript name file) IsFor a b (one_script one name file) (λ script gives. same script a b) x y
+  script_one one same [] a b x y = absurd x
+  script_one one same (file ∷ other ∷ more) a b x y = absurd x
 
-  -- a script that is refused is answered so
-  pub script_refused : (fault : InputFault) (result : Result Answer Fault)
-      → IsReadFromFile of itself name (GivesScript name) old (Err fault) new → IfOk result (IsAnswerOfFault fault)
-      → IfErr result (λ why. (why ≡ ReadFault) ↔ (fault ≡ audit.ReadFault))
-      → IsAnswered of (IsRightAsRead of itself (name ∷ []) GivesOne IsDoneWith old new) IsAbsentAnswer old result new
-  script_refused fault result given told why =
-      refused_answered of itself (name ∷ []) GivesOne IsDoneWith old new fault result given told why
-      (λ files refusal. on_one (λ file. GivesScript name file (Err refusal))
-      (λ fs. IsDoneWith fs (refusal_answer refusal)) files (λ file gives. inl (refusal, gives, refl)))
+  module _ (tells : TellsUndone IsFor) where
+    -- it is carried out over a script's file
+    pub script_completed : PlayOne → (files : List (Option (List ℕ))) (answer : Answer) → IsDoneWith files answer →
+        OnOneFile IsScriptFile files → IsCarriedOut answer.status
+    script_completed one (file ∷ []) answer (inr (script, gives, is)) given =
+        let (lines, how) = tells script answer is in rw how (undone_done lines)
+    script_completed one (Some bytes ∷ []) answer (inl (refusal, gives, e)) (fits, (script, reads)) =
+        let same : Err refusal ≡ Ok script = one_script one name (Some bytes) (Err refusal) (Ok script) gives
+        (inr (inr (fits, (script, reads, refl)))) in
+        absurd (let no : ⊥ = cc in no)
+    script_completed one (None ∷ []) answer (inl refused) given = absurd given
+    script_completed one [] answer right given = absurd right
+    script_completed one (file ∷ other ∷ more) answer right given = absurd right
 
-  -- what is done with a script that was read is answered
-  pub script_answered : (script : Script) (answer : Answer)
-      → IsReadFromFile of itself name (GivesScript name) old (Ok script) new → IsFor script answer
-      → answer.status ≢ status.Absent
-      → IsAnswered of (IsRightAsRead of itself (name ∷ []) GivesOne IsDoneWith old new) IsAbsentAnswer old (Ok answer)
-      new
-  script_answered script answer given is other =
-      found_answered of itself (name ∷ []) GivesOne IsDoneWith old new script (Ok answer) given
-      (λ files. on_one (λ file. GivesScript name file (Ok script)) (λ fs. IsDoneWith fs answer) files
-      (λ file gives. inr (script, gives, is))) other tt
+    -- it has the statuses of machines that play, as a refusal has
+    pub script_status : (files : List (Option (List ℕ))) (answer : Answer) → IsDoneWith files answer →
+        Contains play_statuses answer.status
+    script_status (file ∷ []) answer right =
+        of_read play_statuses (2, omega arith, refl) (3, omega arith, refl) (GivesScript name file) IsFor answer
+        (λ script is. let (lines, how) = tells script answer is in rw how (undone_status lines)) right
+    script_status [] answer right = absurd right
+    script_status (file ∷ other ∷ more) answer right = absurd right
+
+  module _ {S : Type 0} (of : StoreGhosts S) (old new : S) where
+    -- what the script's file gives, in a list
+    abbrev GivesOne : List (Option (List ℕ)) → Result Script Refusal → Type 0
+    GivesOne files answer = OnOneFile (λ file. GivesScript name file answer) files
+
+    -- the result is the answer to the command, or its fault
+    abbrev IsAnsweredSo : Result Answer Fault → Type 0
+    IsAnsweredSo result =
+        IsAnswered of (IsRightAsRead of itself (name ∷ []) GivesOne IsDoneWith old new) IsAbsentAnswer old result new
+
+    -- a script that is refused is answered so
+    pub script_refused : (fault : InputFault) (result : Result Answer Fault)
+        → IsReadFromFile of itself name (GivesScript name) old (Err fault) new → IfOk result (IsAnswerOfFault fault)
+        → IfErr result (λ why. (why ≡ ReadFault) ↔ (fault ≡ audit.ReadFault)) → IsAnsweredSo result
+    script_refused fault result given told why =
+        refused_answered of itself (name ∷ []) GivesOne IsDoneWith old new fault result given told why
+        (λ files refusal. on_one (λ file. GivesScript name file (Err refusal))
+        (λ fs. IsDoneWith fs (refusal_answer refusal)) files (λ file gives. inl (refusal, gives, refl)))
+
+    -- what is done with a script that was read is answered
+    pub script_answered : TellsUndone IsFor → (script : Script) (answer : Answer)
+        → IsReadFromFile of itself name (GivesScript name) old (Ok script) new → IsFor script answer
+        → IsAnsweredSo (Ok answer)
+    script_answered tells script answer given is =
+        let (lines, how) = tells script answer is in
+        found_answered of itself (name ∷ []) GivesOne IsDoneWith old new script (Ok answer) given
+        (λ files. on_one (λ file. GivesScript name file (Ok script)) (λ fs. IsDoneWith fs answer) files
+        (λ file gives. inr (script, gives, is))) (rw how (not_absent lines)) tt

@@ -1,7 +1,6 @@
 -- What is said of a script's file.
-use Rattle.std.proofs.Common.{Option, Some}
-use Rattle.place_commands.proofs.Imports.{ℕ, List, None, inl, refl, Err, IsFileRefused, Script, too_long, max_script}
-use Rattle.place_commands.proofs.Imports.{GivesScript}
+use Rattle.place_commands.proofs.Imports.{Option, Some, ℕ, List, None, inl, refl, Err, IsFileRefused, Script, too_long}
+use Rattle.place_commands.proofs.Imports.{max_script, GivesScript}
 use Rattle.hall_outside.specs.declared.reading.FileFault.TheVariants as file
 
 -- the script itself is what is read

@@ -1,9 +1,6 @@
-use Rattle.std.proofs.Common.{length}
-use Rattle.std.specs.Prelude.{All}
-use Rattle.place_commands.proofs.Imports.{◌≡◌, ◌∙◌, ◌++◌, List, ap, sym, subst, string_bytes, Post, HaveText}
-use Rattle.place_commands.proofs.Imports.{roster_of, MachineState, IsStepOf, WorldState, roster_has_text, SayUndone}
+use Rattle.place_commands.proofs.Imports.{play_files, machine_lines, ◌≡◌, ◌∙◌, ◌++◌, ap, string_bytes, roster_of}
+use Rattle.place_commands.proofs.Imports.{WorldState, roster_has_text}
 use Rattle.place_commands.proofs.HonestPlaces.{comers_leave_honest_files}
-use Rattle.place_commands.proofs.PlayAnswers.{told_of_repair}
 use Rattle.place_commands.proofs.repair.answer_of.Goals as goal
 
 -- the world's roster is the script's
@@ -11,15 +8,14 @@ pub files_of-requires : goal.files_of-requires
 files_of-requires c =
     let same : c.world.inside.roster.machines ≡ roster_of c.args.script.now =
     ap (λ (w : WorldState). w.roster) c.world.view_is ∙ c.requires.comes.roster in
-    let P : List Post → Type 0 = λ posts. HaveText posts in
-    subst P (sym same) (roster_has_text c.args.script.now c.requires.lawful)
+    rw same (roster_has_text c.args.script.now c.requires.lawful)
 
 -- each step is of machines that it names
 pub add_all_mended-requires : goal.add_all_mended-requires
 add_all_mended-requires c =
     let same : c.world.inside.roster.machines ≡ c.args.world.now.roster =
     ap (λ (w : WorldState). w.roster) c.world.view_is in
-    subst (λ (posts : List Post). All (IsStepOf (length posts)) c.args.mended.now) (sym same) c.requires.comes.there
+    rw same c.requires.comes.there
 
 pub returns : goal.returns
 returns c =
@@ -33,23 +29,20 @@ returns c =
     let files_there : c.deref.result.now ≡ machines = c.deref.ensures.value ∙ inside in
     let lines_there : c.deref-2.result.now ≡ machines = c.deref-2.ensures.value ∙ inside in
     let left_there : c.deref-3.result.now ≡ machines = c.deref-3.ensures.value ∙ inside in
-    let undone = string_bytes c.in_ok-undone.undone in
-    let P : List MachineState → Type 0 = λ ms. SayUndone ms undone in
+    let files : c.in_ok-files.files.items ≡ play_files prefix (roster_of script) machines =
+    rw (← posts, ← files_there) c.in_ok-files.ensures in
+    let lines : string_bytes c.add_machines.new.lines ≡ machine_lines machines =
+    rw (← lines_there) (rw c.new-lines.ensures.bytes at c.in_ok-add_machines.ensures) in
     record {
       machines = machines;
       mended = c.args.mended.now;
       finished = comes.finished;
-      undone = undone;
+      undone = string_bytes c.in_ok-undone.undone;
       steps = comes.steps;
       played = comes.played;
       order = c.order_is_receipt.ensures.order;
       honest = comers_leave_honest_files script machines (script.steps ++ (c.args.mended.now ++ comes.finished))
           c.requires.lawful comes.played.are_of.number comes.played.played;
-      left = subst P left_there c.in_ok-undone.ensures;
-      told = told_of_repair prefix (roster_of script) machines c.args.mended.now c.in_ok-files.files.items
-          (string_bytes c.new-lines.result) (string_bytes c.add_machines.new.lines)
-          (string_bytes c.add_all_mended.new.lines) c.as_str.result.now undone c.in_ok-of_play.field-0
-          (rw (← posts, ← files_there) c.in_ok-files.ensures) c.new-lines.ensures.bytes
-          (rw (← lines_there) c.in_ok-add_machines.ensures) (rw (← posts) c.in_ok-add_all_mended.ensures)
-          c.as_str.ensures.value c.in_ok-of_play.ensures;
+      left = rw left_there at c.in_ok-undone.ensures;
+      told = rw (c.in_ok-of_play.ensures, files, c.in_ok-add_all_mended.ensures, lines, posts, c.as_str.ensures.value);
     }

@@ -1,7 +1,4 @@
-use Rattle.place_commands.proofs.Imports.{refl, subst, was_read, not_read, stands, max_script, GivesScript, ℕ, List}
-use Rattle.place_commands.proofs.Imports.{Ok, Err}
-use Rattle.std.specs.Prelude.{IfErr, IfOk, IfSome, Some}
-use Rattle.evidence.specs.Refusal.{refusal_of}
+use Rattle.place_commands.proofs.Imports.{refl, was_read, not_read, stands, max_script, GivesScript}
 use Rattle.place_commands.proofs.ScriptFiles.{itself, long_script}
 use Rattle.place_commands.proofs.script_file.read_script.Goals as goal
 
@@ -11,15 +8,9 @@ returns-in-Ok-clause-read g c =
     let old = c.args.store.now in
     let new = c.read_file.new.store in
     let given = c.in-Ok.ensures in
-    let name = c.args.name.now in
-    let read = c.script_of.result in
     was_read store itself (GivesScript c.args.name.now) c.args.name.now max_script old new c.in-Ok.bytes.items
-    c.script_of.result given.ok.1
-    (subst (λ (bytes : List ℕ). IfOk read (λ script. GivesScript name (Some bytes) (Ok script)))
-    c.as_slice.ensures.value c.script_of.ensures.ok)
-    (subst (λ (bytes : List ℕ). IfErr read (λ fault. IfSome (refusal_of fault)
-    (λ refusal. GivesScript name (Some bytes) (Err refusal)))) c.as_slice.ensures.value c.script_of.ensures.err)
-    c.script_of.ensures.only
+    c.script_of.result given.ok.1 (rw c.as_slice.ensures.value at c.script_of.ensures.ok)
+    (rw c.as_slice.ensures.value at c.script_of.ensures.err) c.script_of.ensures.only
     (λ more. let no = given.absent.always more in cc)
     (stands (store.read_faults old) (store.read_faults new) given.read_fault (λ e. cc))
     (record { absences = given.absences; files = given.unchanged.0; write_faults = given.unchanged.1 })
