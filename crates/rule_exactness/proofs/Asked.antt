@@ -1,11 +1,11 @@
 -- An entry that meets what a body asks.
-use Rattle.rule_exactness.proofs.Imports.{Bool, Contains, Contains-cons_cases, Contains-later, Contains-none, EachHolds}
-use Rattle.rule_exactness.proofs.Imports.{Equation, Field, Form, IsTrue, Kind, List, Node, None, Of, Option, Row}
-use Rattle.rule_exactness.proofs.Imports.{Saying, Some, Trees, [], and_parts, are_equal, arith, bind, body_asks}
-use Rattle.rule_exactness.proofs.Imports.{bytes_eq-Decides, can_ask, can_meet, cond, eqb-true, equation, equations}
-use Rattle.rule_exactness.proofs.Imports.{false, field_of, field_word, first_sentence, inl, inr, is_field, list_any}
-use Rattle.rule_exactness.proofs.Imports.{meanings, no_trees, not, not-true, one_more, option_map, refl, replicate}
-use Rattle.rule_exactness.proofs.Imports.{subst, tree_then, true, ℕ, ◌&&◌, ◌==◌, ◌∷◌, ◌≡◌}
+use Rattle.rule_exactness.proofs.Imports.{Bool, Contains, Contains-cons_cases, Contains-head, Contains-later}
+use Rattle.rule_exactness.proofs.Imports.{Contains-none, EachHolds, Equation, Field, Form, IsTrue, Kind, List, Node}
+use Rattle.rule_exactness.proofs.Imports.{None, Of, Option, Row, Saying, Some, Trees, [], and_parts, ap, are_equal}
+use Rattle.rule_exactness.proofs.Imports.{bind, body_asks, bytes_eq-Decides, can_ask, can_meet, cond, eqb-true}
+use Rattle.rule_exactness.proofs.Imports.{equation, equations, false, field_of, field_word, first_sentence, inl, inr}
+use Rattle.rule_exactness.proofs.Imports.{is_field, list_any, meanings, no_trees, not-true, one_more, option_map, refl}
+use Rattle.rule_exactness.proofs.Imports.{replicate, subst, sym, tree_then, true, ℕ, ◌==◌, ◌∷◌, ◌≡◌}
 use Rattle.rule_language.specs.declared.kind.Field.TheVariants as field
 use Rattle.rule_language.specs.declared.form.Form.TheVariants as form
 use Rattle.rule_exactness.proofs.Digests.{none_of}
@@ -29,69 +29,69 @@ pub checked : (bound : List ℕ) (v : ℕ) (k : Kind) (es : List Equation) → c
     Contains es e → IsChecked bound v k es e
 checked bound v k [] t e c = absurd (Contains-none e c)
 checked bound v k (d ∷ es) t e c =
-    let parts = and_parts (list_any (λ u. d.of == u) bound && (not (d.of == v) && can_ask k d.asked d.given))
-    (not (list_any (λ x. is_field d.asked x.asked) es) && can_meet bound v k es) t in
-    let here = and_parts (list_any (λ u. d.of == u) bound) (not (d.of == v) && can_ask k d.asked d.given) parts.0 in
-    let there = and_parts (not (d.of == v)) (can_ask k d.asked d.given) here.1 in
-    let rest = and_parts (not (list_any (λ x. is_field d.asked x.asked) es)) (can_meet bound v k es) parts.1 in
+    let (now, later) = and_parts _ _ t in
+    let (among, known) = and_parts _ _ now in
+    let (other, can) = and_parts _ _ known in
+    let (apart, rest) = and_parts _ _ later in
     elim (Contains-cons_cases d es e c) [
       | inl is ↦
           subst (λ (x : Equation). IsChecked bound v k (d ∷ es) x) is
           (record {
-            among = here.0;
-            other = not-true (d.of == v) there.0;
-            can = there.1;
+            among = among;
+            other = not-true (d.of == v) other;
+            can = can;
             first = rw (same_field d.asked) refl;
           })
-      | inr later ↦
-          let deeper = checked bound v k es rest.1 e later in
-          let apart = none_of (λ x. is_field d.asked x.asked) es e
-          (not-true (list_any (λ x. is_field d.asked x.asked) es) rest.0) later in
-          record { among = deeper.among; other = deeper.other; can = deeper.can; first = rw apart deeper.first }
+      | inr behind ↦
+          let deeper = checked bound v k es rest e behind in
+          let differs = none_of (λ x. is_field d.asked x.asked) es e
+          (not-true (list_any (λ x. is_field d.asked x.asked) es) apart) behind in
+          record { among = deeper.among; other = deeper.other; can = deeper.can; first = rw differs deeper.first }
     ]
 
 -- ---- what equations say
 
--- what is said of a form by its equation is said where it has one
-by_equation : (v : ℕ) (M : Form → Equation → Type 0) → ((f g : Field) (b : ℕ) →
-    M (form.Equal (Of v f) (Of b g)) (record { asked = f; of = b; given = g })) → (f : Form) (e : Equation) →
-    equation v f ≡ Some e → M f e
-by_equation v M each (form.Equal (Of a f) (Of b g)) e is = by (a == v) refl is
+-- the form that an equation for v is
+abbrev form_of : ℕ → Equation → Form
+form_of v e = form.Equal (Of v e.asked) (Of e.of e.given)
+
+form_is : (v : ℕ) (f : Form) (e : Equation) → equation v f ≡ Some e → f ≡ form_of v e
+form_is v (form.Equal (Of a f) (Of b g)) e is = by (a == v) refl is
   where
     by : (t : Bool) → (a == v) ≡ t → cond t (Some (record { asked = f; of = b; given = g })) None ≡ Some e →
-        M (form.Equal (Of a f) (Of b g)) e
+        form.Equal (Of a f) (Of b g) ≡ form_of v e
     by true at so =
-        let said : record { asked = f; of = b; given = g } ≡ e = cc in
-        subst (M (form.Equal (Of a f) (Of b g))) said (rw (eqb-true a v at) (each f g b))
+        let said : record { asked = f; of = b; given = g } ≡ e = cc in rw (eqb-true a v at) (ap (form_of v) said)
     by false at so = absurd (cc)
-by_equation v M each f e is = absurd (cc)
+form_is v f e is = absurd (cc)
 
--- so it is of all in a row
-pub by_equations : (v : ℕ) (M : Trees → List Equation → Type 0) → M no_trees [] → ((f g : Field) (b : ℕ) (rest : Trees)
-    (es : List Equation) → M rest es → M (tree_then (form.Equal (Of v f) (Of b g)) no_trees rest)
-    (record { asked = f; of = b; given = g } ∷ es)) → (trees : Trees) (es : List Equation) →
-    equations v trees ≡ Some es → M trees es
-by_equations v M none each no_trees es is = let said : [] ≡ es = cc in subst (M no_trees) said none
-by_equations v M none each (tree_then f (tree_then g inner more) rest) es is = absurd (cc)
-by_equations v M none each (tree_then f no_trees rest) es is =
-    by (equation v f) refl (equations v rest) is (by_equations v M none each rest)
+-- the formulas that equations for v are
+abbrev pub trees_of : ℕ → List Equation → Trees
+trees_of v [] = no_trees
+trees_of v (e ∷ es) = tree_then (form_of v e) no_trees (trees_of v es)
+
+trees_are : (v : ℕ) (trees : Trees) (es : List Equation) → equations v trees ≡ Some es → trees ≡ trees_of v es
+trees_are v no_trees es is = let said : [] ≡ es = cc in ap (trees_of v) said
+trees_are v (tree_then f (tree_then g inner more) rest) es is = absurd (cc)
+trees_are v (tree_then f no_trees rest) es is =
+    by (equation v f) (equations v rest) (form_is v f) (trees_are v rest) is
   where
-    by : (o : Option Equation) → equation v f ≡ o → (os : Option (List Equation)) → one_more o os ≡ Some es →
-        ((ds : List Equation) → os ≡ Some ds → M rest ds) → M (tree_then f no_trees rest) es
-    by (Some d) first (Some ds) so on =
-        let said : d ∷ ds ≡ es = cc in
-        subst (M (tree_then f no_trees rest)) said
-        (by_equation v (λ f d. M (tree_then f no_trees rest) (d ∷ ds)) (λ f g b. each f g b rest ds (on ds refl)) f d first)
-    by None first os so on = absurd (cc)
-    by (Some d) first None so on = absurd (cc)
+    by : (o : Option Equation) (os : Option (List Equation)) → ((e : Equation) → o ≡ Some e → f ≡ form_of v e) →
+        ((ds : List Equation) → os ≡ Some ds → rest ≡ trees_of v ds) → one_more o os ≡ Some es →
+        tree_then f no_trees rest ≡ trees_of v es
+    by (Some e) (Some ds) first others so =
+        let said : e ∷ ds ≡ es = cc in rw (first e refl, others ds refl) (ap (trees_of v) said)
+    by None os first others so = absurd (cc)
+    by (Some e) None first others so = absurd (cc)
 
--- what is said of a body: of `true`, of `and` of equations, and of equations
-pub by_body : (v : ℕ) (es : List Equation) (M : Trees → Type 0) → M (tree_then form.True no_trees no_trees) →
-    ((inside : Trees) → equations v inside ≡ Some es → M (tree_then form.And inside no_trees)) →
-    ((body : Trees) → equations v body ≡ Some es → M body) → (body : Trees) → body_asks v body ≡ Some es → M body
-by_body v es M always all some (tree_then form.True no_trees no_trees) is = always
-by_body v es M always all some (tree_then form.And inside no_trees) is = all inside is
-by_body v es M always all some body is = some body is
+-- what holds of `true`, of `and` of the equations and of the equations holds of the body that asks for them
+pub body_cases : (v : ℕ) (es : List Equation) (M : Trees → Type 0) → M (tree_then form.True no_trees no_trees) →
+    M (tree_then form.And (trees_of v es) no_trees) → M (trees_of v es) → (body : Trees) →
+    body_asks v body ≡ Some es → M body
+body_cases v es M always each first (tree_then form.True no_trees no_trees) is = always
+body_cases v es M always each first (tree_then form.And inside no_trees) is =
+    subst (λ (ts : Trees). M (tree_then form.And ts no_trees)) (sym (trees_are v inside es is)) each
+body_cases v es M always each first body is = subst M (sym (trees_are v body es is)) first
 
 module _ {T : Type 0} (node : T → Node) (row : T → Row) (S G : List T) (v : ℕ) (y : T) (ρ : ℕ → Option T) where
   -- an equation holds, with y for v
@@ -101,65 +101,76 @@ module _ {T : Type 0} (node : T → Node) (row : T → Row) (S G : List T) (v : 
       (option_map (field_of e.given) (option_map row (bind v y ρ e.of))))
 
   -- all of the formulas whose equations are met hold
-  each_met : (trees : Trees) (es : List Equation) → equations v trees ≡ Some es →
-      ((e : Equation) → Contains es e → IsMet e) → EachHolds (meanings node row S G trees (bind v y ρ))
-  each_met = by_equations v
-      (λ trees es. ((e : Equation) → Contains es e → IsMet e) → EachHolds (meanings node row S G trees (bind v y ρ)))
-      (λ met. tt) (λ f g b rest es on met. (
-        met (record { asked = f; of = b; given = g }) (0, omega arith, refl),
-        on (λ e c. met e (Contains-later (record { asked = f; of = b; given = g }) es e c)),
-      ))
+  each_met : (es : List Equation) → ((e : Equation) → Contains es e → IsMet e) →
+      EachHolds (meanings node row S G (trees_of v es) (bind v y ρ))
+  each_met [] met = tt
+  each_met (e ∷ es) met = (met e (Contains-head e es), each_met es (λ d c. met d (Contains-later e es d c)))
 
-  -- of sentences that all hold the first does
-  first_of : (Ps : List (Type 0)) → EachHolds Ps → first_sentence Ps
-  first_of [] each = tt
-  first_of (P ∷ Ps) each = each.0
+  first_met : (es : List Equation) → ((e : Equation) → Contains es e → IsMet e) →
+      first_sentence (meanings node row S G (trees_of v es) (bind v y ρ))
+  first_met [] met = tt
+  first_met (e ∷ es) met = met e (Contains-head e es)
 
   -- a body all whose equations are met holds
   pub body_met : (parts : Trees) (es : List Equation) → body_asks v parts ≡ Some es →
       ((e : Equation) → Contains es e → IsMet e) → first_sentence (meanings node row S G parts (bind v y ρ))
   body_met parts es is met =
-      by_body v es (λ body. first_sentence (meanings node row S G body (bind v y ρ))) tt
-      (λ inside so. each_met inside es so met)
-      (λ body so. first_of (meanings node row S G body (bind v y ρ)) (each_met body es so met)) parts is
+      body_cases v es (λ body. first_sentence (meanings node row S G body (bind v y ρ))) tt (each_met es met)
+      (first_met es met) parts is
 
 -- ---- what an entry says that meets them
 
-module _ {T : Type 0} (row : T → Row) (ρ : ℕ → Option T) where
+-- where a field's value is from: a field of an entry, or nowhere
+abbrev pub Source : Type 0 → Type 0
+Source T = Option (Field × T)
+
+-- what is asked for: a kind; the number, the session, the ballot and the booth; and the maker
+abbrev pub Sources : Type 0 → Type 0
+Sources T = Kind × (Source T × (Source T × (Source T × (Source T × Source T))))
+
+module _ {T : Type 0} (row : T → Row) where
   -- a number that another entry has in a field
-  abbrev pub number_in : Field → Row → ℕ
+  abbrev number_in : Field → Row → ℕ
   number_in field.Maker r = r.maker
   number_in field.Booth r = r.booth
   number_in field.Number r = r.number
   number_in field.Session r = r.session
   number_in field.Ballot r = 0
 
-  abbrev pub number_at : Field → Option T → ℕ
-  number_at f None = 0
-  number_at f (Some x) = number_in f (row x)
+  abbrev pub number_from : Source T → ℕ
+  number_from None = 0
+  number_from (Some (f, x)) = number_in f (row x)
 
-  abbrev pub ballot_at : Option T → List ℕ
-  ballot_at None = replicate 32 0
-  ballot_at (Some x) = (row x).ballot
+  abbrev pub ballot_from : Source T → List ℕ
+  ballot_from None = replicate 32 0
+  ballot_from (Some (f, x)) = (row x).ballot
 
-  -- what is asked for a field
-  abbrev pub number_of : Option Equation → ℕ
-  number_of None = 0
-  number_of (Some e) = number_at e.given (ρ e.of)
-
-  abbrev pub ballot_of : Option Equation → List ℕ
-  ballot_of None = replicate 32 0
-  ballot_of (Some e) = ballot_at (ρ e.of)
-
-  -- what an entry of the kind says that meets the equations, and its maker
-  abbrev pub asked_saying : Kind → List Equation → Saying
-  asked_saying k es = record {
+  abbrev pub saying_from : Sources T → Saying
+  saying_from (k, (n, (s, (b, (o, m))))) = record {
     kind = k;
-    number = number_of (pick field.Number es);
-    session = number_of (pick field.Session es);
-    ballot = ballot_of (pick field.Ballot es);
-    booth = number_of (pick field.Booth es);
+    number = number_from n;
+    session = number_from s;
+    ballot = ballot_from b;
+    booth = number_from o;
   }
 
-  abbrev pub asked_maker : List Equation → ℕ
-  asked_maker es = number_of (pick field.Maker es)
+  abbrev pub maker_from : Sources T → ℕ
+  maker_from (k, (n, (s, (b, (o, m))))) = number_from m
+
+-- where the value for an equation is from
+abbrev pub source_of : {T : Type 0} → (ℕ → Option T) → Option Equation → Source T
+source_of ρ None = None
+source_of ρ (Some e) = option_map (λ x. (e.given, x)) (ρ e.of)
+
+-- what an entry of the kind says that meets the equations
+abbrev pub sources_of : {T : Type 0} → (ℕ → Option T) → Kind → List Equation → Sources T
+sources_of ρ k es = (
+  k,
+  (
+    source_of ρ (pick field.Number es),
+    (
+      source_of ρ (pick field.Session es),
+      (source_of ρ (pick field.Ballot es), (source_of ρ (pick field.Booth es), source_of ρ (pick field.Maker es))),
+    ),
+  ),
+)

@@ -1,10 +1,10 @@
 -- Digests of 32 octets, and one that is none of fewer than all of them.
-use Rattle.rule_exactness.proofs.Imports.{Bool, Contains, Contains-filter, Contains-flat_map, Contains-flat_map_cases}
-use Rattle.rule_exactness.proofs.Imports.{Contains-head, Contains-later, Contains-map, Contains-map_cases}
-use Rattle.rule_exactness.proofs.Imports.{Contains-none, List, [], arith, cond, eq-eqb, false, false_from_ne_true}
-use Rattle.rule_exactness.proofs.Imports.{false≢true, filter, flat_map, length, length-append, length-map, list_any}
-use Rattle.rule_exactness.proofs.Imports.{list_any_of, map, mul-le-mul_left, ne_eqb, not, refl, subst, suc, sym, true}
-use Rattle.rule_exactness.proofs.Imports.{zero, ℕ, ◌%◌, ◌*◌, ◌+◌, ◌/◌, ◌<◌, ◌==◌, ◌^◌, ◌||◌, ◌∙◌, ◌∷◌, ◌≡◌, ◌≤◌}
+use Rattle.rule_exactness.proofs.Imports.{Bool, Contains, Contains-flat_map, Contains-flat_map_cases, Contains-head}
+use Rattle.rule_exactness.proofs.Imports.{Contains-later, Contains-map, Contains-map_cases, List, [], arith, cases_Bool}
+use Rattle.rule_exactness.proofs.Imports.{cases_eq, cond, eq-eqb, false, false_from_ne_true, false≢true, filter}
+use Rattle.rule_exactness.proofs.Imports.{flat_map, inl, inr, le-length_from_below, length, length-append, length-map}
+use Rattle.rule_exactness.proofs.Imports.{list_any, list_any_of, map, mul-le-mul_left, refl, subst, suc, sym, true}
+use Rattle.rule_exactness.proofs.Imports.{zero, ℕ, ◌%◌, ◌*◌, ◌+◌, ◌/◌, ◌<◌, ◌==◌, ◌^◌, ◌∙◌, ◌∷◌, ◌≡◌, ◌≤◌}
 
 -- the number's octets, the lowest first
 abbrev pub octets : ℕ → ℕ → List ℕ
@@ -38,48 +38,34 @@ few_filtered p (x ∷ xs) =
 pub none_of : {X : Type 0} (p : X → Bool) (xs : List X) (x : X) → list_any p xs ≡ false → Contains xs x → p x ≡ false
 none_of p xs x none c = false_from_ne_true (p x) (λ e. false≢true (sym none ∙ list_any_of p xs x c e))
 
--- without the number
-abbrev without : ℕ → List ℕ → List ℕ
-without n xs = filter (λ x. not (n == x)) xs
-
--- a number up to k that isn't among these, of which there are at most k
+-- the highest number up to k that isn't among these, or 0
 abbrev pub free : ℕ → List ℕ → ℕ
 free zero xs = 0
-free (suc k) xs = cond (list_any (λ x. suc k == x) xs) (free k (without (suc k) xs)) (suc k)
+free (suc k) xs = cond (list_any (◌==◌ (suc k)) xs) (free k xs) (suc k)
 
 pub free_low : (k : ℕ) (xs : List ℕ) → free k xs ≤ k
 free_low zero xs = omega arith
 free_low (suc k) xs =
-    let low = free_low k (without (suc k) xs) in
-    elim (list_any (λ x. suc k == x) xs) as (λ b. cond b (free k (without (suc k) xs)) (suc k) ≤ suc k)
+    let low = free_low k xs in
+    elim (list_any (◌==◌ (suc k)) xs) as (λ b. cond b (free k xs) (suc k) ≤ suc k)
     [ true ↦ omega arith | false ↦ omega arith ]
 
--- it is shorter, if the number was there
-dropped : (n : ℕ) (xs : List ℕ) → list_any (λ x. n == x) xs ≡ true → length (without n xs) < length xs
-dropped n [] some = absurd (false≢true some)
-dropped n (x ∷ xs) some = by (n == x) some (few_filtered (λ x. not (n == x)) xs) (dropped n xs)
-  where
-    by : (b : Bool) → (b || list_any (λ x. n == x) xs) ≡ true → length (without n xs) ≤ length xs →
-        (list_any (λ x. n == x) xs ≡ true → length (without n xs) < length xs) →
-        length (cond (not b) (x ∷ without n xs) (without n xs)) < length (x ∷ xs)
-    by true some less on = omega arith
-    by false some less on = let fewer = on some in omega arith
+-- if it is among them all up to k are
+all_taken : (k : ℕ) (xs : List ℕ) → list_any (◌==◌ (free k xs)) xs ≡ true → (q : ℕ) → q ≤ k →
+    list_any (◌==◌ q) xs ≡ true
+all_taken zero xs t q l = let none : q ≡ 0 = omega arith in rw none t
+all_taken (suc k) xs t q l =
+    elim (cases_Bool (list_any (◌==◌ (suc k)) xs)) [
+      | inl last ↦ elim (cases_eq q (suc k))
+          [ inl is ↦ rw is last | inr other ↦ all_taken k xs (rw last at t) q (omega (arith, other)) ]
+      | inr none ↦ absurd (false≢true (sym none ∙ (rw none at t)))
+    ]
 
+-- of at most k numbers it is none
 pub free_new : (k : ℕ) (xs : List ℕ) → length xs ≤ k → Contains xs (free k xs) → ⊥
-free_new zero [] few c = Contains-none 0 c
-free_new zero (x ∷ xs) few c = absurd (omega arith)
-free_new (suc k) xs few c =
-    by (list_any (λ x. suc k == x) xs) refl c (free_low k (without (suc k) xs)) (free_new k (without (suc k) xs))
-  where
-    by : (b : Bool) → list_any (λ x. suc k == x) xs ≡ b →
-        Contains xs (cond b (free k (without (suc k) xs)) (suc k)) → free k (without (suc k) xs) ≤ k →
-        (length (without (suc k) xs) ≤ k → Contains (without (suc k) xs) (free k (without (suc k) xs)) → ⊥) → ⊥
-    by true is c low on =
-        let less = dropped (suc k) xs is in
-        let n : ℕ = free k (without (suc k) xs) in
-        on (omega arith) (Contains-filter (λ x. not (suc k == x)) xs n c (rw (ne_eqb (suc k) n (λ e. omega arith)) refl))
-    by false is c low on =
-        false≢true (sym is ∙ list_any_of (λ x. suc k == x) xs (suc k) c (eq-eqb (suc k) (suc k) refl))
+free_new k xs few c =
+    let t = list_any_of (◌==◌ (free k xs)) xs (free k xs) c (eq-eqb (free k xs) (free k xs) refl) in
+    let most = le-length_from_below xs (suc k) (λ q l. all_taken k xs t q (omega arith)) in omega arith
 
 -- 32 octets that aren't among these
 abbrev pub fresh : List (List ℕ) → List ℕ

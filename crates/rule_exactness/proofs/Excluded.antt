@@ -1,15 +1,16 @@
 -- What the class of two-sided rules leaves out: for each of its limits a rule that is unsettled, though
 -- all completions agree on it.
-use Rattle.rule_exactness.proofs.Imports.{AreSurvivors, Bool, Completion, Contains, Contains-cons_cases, Contains-head}
-use Rattle.rule_exactness.proofs.Imports.{Contains-none, Form, HasNoDouble, IsGraphOf, IsOpen, Kind, List, Names, Node}
-use Rattle.rule_exactness.proofs.Imports.{Of, Precedes, Row, Saying, Supervisor, Trees, Unknown, [], and_parts, ap}
-use Rattle.rule_exactness.proofs.Imports.{arith, eqb-true, gap_or_bearer, gaps, inl, inr, is_kind, is_real, map}
-use Rattle.rule_exactness.proofs.Imports.{member_at, no_trees, refl, slice_get_within, subst, suc, sym, three_in}
-use Rattle.rule_exactness.proofs.Imports.{tree_then, true, true≢false, zero, ℕ, ◌+◌, ◌<◌, ◌==◌, ◌∙◌, ◌∷◌, ◌≡◌, ◌⊎◌}
+use Rattle.rule_exactness.proofs.Imports.{AreSurvivors, Bool, Completion, Contains, Contains-head, Contains-none}
+use Rattle.rule_exactness.proofs.Imports.{Contains-one, Form, HasNoDouble, IsGraphOf, IsOpen, Kind, List, Names}
+use Rattle.rule_exactness.proofs.Imports.{NamesNoGap, Node, Of, Precedes, Row, Saying, Supervisor, Trees, Unknown, []}
+use Rattle.rule_exactness.proofs.Imports.{and_parts, arith, completes, eqb-true, gap_or_bearer, gaps, inl, inr, is_kind}
+use Rattle.rule_exactness.proofs.Imports.{is_real, map, member_at, no_trees, refl, slice_get_within, subst, suc, sym}
+use Rattle.rule_exactness.proofs.Imports.{three_in, tree_then, true, true≢false, zero, ℕ, ◌+◌, ◌<◌, ◌==◌, ◌∙◌, ◌∷◌, ◌≡◌}
+use Rattle.rule_exactness.proofs.Imports.{◌⊎◌}
 use Rattle.rule_language.specs.declared.kind.Kind.TheVariants as kind
 use Rattle.rule_language.specs.declared.kind.Field.TheVariants as field
 use Rattle.rule_language.specs.declared.form.Form.TheVariants as form
-use Rattle.rule_exactness.proofs.TwoSided.{kinds, kind_there, same_kind}
+use Rattle.rule_exactness.proofs.TwoSided.{same_kind, kinds, kind_there}
 
 -- an entry, by what it shows and what it says
 record Entry : Type 0 where
@@ -55,15 +56,15 @@ parents i = []
 abbrev ragged : ℕ → Bool
 ragged i = true
 
-is_last : (e : Entry) → Contains survivors e → last ≡ e
-is_last e c =
-    elim (Contains-cons_cases last [] e c) [ inl is ↦ is | inr none ↦ absurd (Contains-none e none) ]
+-- what holds of the one survivor holds of each
+at_last : (P : Entry → Type 0) → P last → (e : Entry) → Contains survivors e → P e
+at_last P holds e c = subst P (Contains-one last e c) holds
 
 -- they are survivors, and have this graph
 are_survivors : AreSurvivors node 1 survivors
 are_survivors = record {
-  in_roster = λ e c. subst (λ (f : Entry). (node f).maker < 1) (is_last e c) (omega arith);
-  distinct = λ e f ce cf same. sym (is_last e ce) ∙ is_last f cf;
+  in_roster = at_last (λ e. (node e).maker < 1) (omega arith);
+  distinct = λ e f ce cf same. sym (Contains-one last e ce) ∙ Contains-one last f cf;
 }
 
 names_no_survivor : Names node last last → ⊥
@@ -74,8 +75,7 @@ is_lost : Contains (gaps node survivors) gap
 is_lost =
     elim (gap_or_bearer node survivors last gap (Contains-head last []) (Contains-head gap [])) [
       | inl lost ↦ lost
-      | inr (e, c, is) ↦
-          let other : 1 ∷ [] ≡ gap = ap (λ (u : Entry). (node u).digest) (is_last e c) ∙ is in absurd (cc)
+      | inr (e, c, is) ↦ absurd (at_last (λ u. (node u).digest ≡ gap → ⊥) (λ same. cc) e c is)
     ]
 
 single : HasNoDouble survivors
@@ -89,18 +89,13 @@ are_graph = record {
   inside = λ i p c. absurd (Contains-none p c);
   arrows = λ i p e f at_e at_f. (
     λ c. absurd (Contains-none p c),
-    λ names.
-        let here : last ≡ e = is_last e (member_at survivors i e at_e) in
-        let there : last ≡ f = is_last f (member_at survivors p f at_f) in
-        absurd (names_no_survivor
-        (subst (λ (u : Entry). Names node u last) (sym here)
-        (subst (λ (u : Entry). Names node e u) (sym there) names))),
+    λ names. absurd (at_last (λ u. Names node u f → ⊥) (at_last (λ u. Names node last u → ⊥) names_no_survivor f
+        (member_at survivors p f at_f)) e (member_at survivors i e at_e) names),
   );
   gaps_shown = λ i e at_e. (
     λ is. absurd (true≢false is),
-    λ none.
-        let here : last ≡ e = is_last e (member_at survivors i e at_e) in
-        absurd (none gap (subst (λ (u : Entry). Contains (node u).names gap) here (Contains-head gap [])) is_lost),
+    λ none. absurd (at_last (λ u. NamesNoGap node survivors u → ⊥) (λ none. none gap (Contains-head gap []) is_lost) e
+        (member_at survivors i e at_e) none),
   );
 }
 
@@ -174,10 +169,7 @@ either_way_in_vain = record {
   unsettled = refl;
   closed = λ o.
       let (G, completes, breaks) = o.broken in
-      let none = λ (some : IsBefore G last kind.Opened).
-      breaks (λ x cx k. inl (subst (λ (u : Entry). IsBefore G u kind.Opened) (is_last x cx) some)) in
-      breaks (λ x cx k. inr (inl (λ some. none (subst (λ (u : Entry). IsBefore G u kind.Opened) (sym (is_last x cx))
-      some))));
+      breaks (at_last _ (λ k. inr (inl (λ some. breaks (at_last _ (λ k. inl some))))));
 }
 
 any_before_in_vain : IsUnsettledInVain any_before
@@ -186,7 +178,7 @@ any_before_in_vain = record {
   closed = λ o.
       let (G, completes, breaks) = o.broken in
       let (f, path) = lost G completes.whole in
-      breaks (λ x cx k. (f, refl, subst (λ (u : Entry). Precedes node G f u) (is_last x cx) path, tt));
+      breaks (at_last _ (λ k. (f, refl, path, tt)));
 }
 
 -- an entry of one of the kinds precedes x
@@ -211,8 +203,8 @@ one_of_ten_in_vain = record {
       let (G, completes, breaks) = o.broken in
       let (f, path) = lost G completes.whole in
       let k = real f.says.kind in
-      breaks (λ x cx _. one_before G x kinds k (kind_there k (always_real f.says.kind))
-      (f, same_kind k, subst (λ (u : Entry). Precedes node G f u) (is_last x cx) path, tt));
+      breaks (at_last _ (λ _. one_before G last kinds k (kind_there k (always_real f.says.kind))
+      (f, same_kind k, path, tt)));
 }
 
 made_by_booth_in_vain : IsUnsettledInVain made_by_booth

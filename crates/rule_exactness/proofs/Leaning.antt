@@ -1,16 +1,16 @@
 -- A rule can be led to a truth value that isn't excluded, where what its parts need is there.
-use Rattle.rule_exactness.proofs.Imports.{Agrees, Bool, ComesBefore, Contains, Contains-append_left}
-use Rattle.rule_exactness.proofs.Imports.{Contains-cons_cases, Contains-filter, Contains-filter_cases, Contains-head}
-use Rattle.rule_exactness.proofs.Imports.{Contains-later, Contains-map, Contains-none, EachHolds, False, Form}
-use Rattle.rule_exactness.proofs.Imports.{FormHolds, HasNoDouble, IsKnown, IsOfKind, IsSomeAnd, IsTrueOf, Kind, List}
-use Rattle.rule_exactness.proofs.Imports.{Node, None, Option, Precedes, Row, Some, SomeHolds, StandFor, Three, Trees}
-use Rattle.rule_exactness.proofs.Imports.{True, Unknown, [], all_agree, ancestors, ap, append-nil, bind, both, cond}
-use Rattle.rule_exactness.proofs.Imports.{either, false, first_sentence, first_value, form_agrees, greatest, inl, inr}
-use Rattle.rule_exactness.proofs.Imports.{is_true, known_false, known_test, known_true, least, map, meanings, member_at}
+use Rattle.rule_exactness.proofs.Imports.{Agrees, Bool, ComesBefore, Contains, Contains-append_left, Contains-filter}
+use Rattle.rule_exactness.proofs.Imports.{Contains-filter_cases, Contains-head, Contains-later, Contains-map}
+use Rattle.rule_exactness.proofs.Imports.{Contains-none, EachHolds, False, Form, FormHolds, HasNoDouble, IsKnown}
+use Rattle.rule_exactness.proofs.Imports.{IsOfKind, IsSomeAnd, IsTrueOf, Kind, List, Node, None, Option, Precedes, Row}
+use Rattle.rule_exactness.proofs.Imports.{Some, SomeHolds, StandFor, Three, Trees, True, Unknown, [], all_agree}
+use Rattle.rule_exactness.proofs.Imports.{ancestors, ap, append-nil, arith, before, bind, both, cond, either, false}
+use Rattle.rule_exactness.proofs.Imports.{first_sentence, first_value, form_agrees, greatest, inl, inr, is_true}
+use Rattle.rule_exactness.proofs.Imports.{known_false, known_test, known_true, least, map, meanings, member_at}
 use Rattle.rule_exactness.proofs.Imports.{no_trees, not, opposite, order_of, place_meant, place_of_kind, place_such}
-use Rattle.rule_exactness.proofs.Imports.{places, refl, rest_of, same_place, second_sentence, second_value, slice_get}
-use Rattle.rule_exactness.proofs.Imports.{subst, tree_then, true, true_is, value, values, values_before, ℕ, ◌++◌, ◌∷◌}
-use Rattle.rule_exactness.proofs.Imports.{◌≡◌, ◌⊎◌}
+use Rattle.rule_exactness.proofs.Imports.{places, refl, same_place, second_sentence, second_value, slice_get, subst}
+use Rattle.rule_exactness.proofs.Imports.{suc, tree_then, true, true_is, value, values, values_before, zero, ℕ, ◌++◌}
+use Rattle.rule_exactness.proofs.Imports.{◌∷◌, ◌≡◌, ◌⊎◌}
 use Rattle.rule_language.specs.declared.form.Form.TheVariants as form
 use Rattle.rule_meaning.proofs.Sounds.{one_more}
 
@@ -43,20 +43,14 @@ either_has_true x = refl
 -- a member that is false makes the least false
 least_has : (xs : List Three) (x : Three) → Contains xs x → x ≡ False → least xs ≡ False
 least_has [] x c e = absurd (Contains-none x c)
-least_has (y ∷ xs) x c e =
-    elim (Contains-cons_cases y xs x c) [
-      | inl s ↦ rw (s, e) refl
-      | inr l ↦ rw (least_has xs x l e) (both_has_false y)
-    ]
+least_has (y ∷ xs) x (zero, l, is) e = rw (is, e) refl
+least_has (y ∷ xs) x (suc k, l, at) e = rw (least_has xs x (k, omega arith, at) e) (both_has_false y)
 
 -- and one that is true the greatest true
 pub greatest_has : (xs : List Three) (x : Three) → Contains xs x → x ≡ True → greatest xs ≡ True
 greatest_has [] x c e = absurd (Contains-none x c)
-greatest_has (y ∷ xs) x c e =
-    elim (Contains-cons_cases y xs x c) [
-      | inl s ↦ rw (s, e) refl
-      | inr l ↦ rw (greatest_has xs x l e) (either_has_true y)
-    ]
+greatest_has (y ∷ xs) x (zero, l, is) e = rw (is, e) refl
+greatest_has (y ∷ xs) x (suc k, l, at) e = rw (greatest_has xs x (k, omega arith, at) e) (either_has_true y)
 
 -- where the least isn't true, one isn't
 pub least_lacks : (f : ℕ → Three) (is : List ℕ) → (least (map f is) ≡ True → ⊥) →
@@ -94,13 +88,9 @@ second_need [] p = Unit {0}
 second_need (Q ∷ Qs) p = first_need Qs p
 
 -- each is met, but none behind one that decides: of `and` a false one, of `or` a true one
-abbrev pub NeedEach : List Three → List Need → Need
-NeedEach (x ∷ xs) (Q ∷ Qs) p = Q p × ((x ≡ False → ⊥) → NeedEach xs Qs p)
-NeedEach xs Qs p = Unit {0}
-
-abbrev pub NeedSome : List Three → List Need → Need
-NeedSome (x ∷ xs) (Q ∷ Qs) p = Q p × ((x ≡ True → ⊥) → NeedSome xs Qs p)
-NeedSome xs Qs p = Unit {0}
+abbrev pub NeedUpTo : Three → List Three → List Need → Need
+NeedUpTo decides (x ∷ xs) (Q ∷ Qs) p = Q p × ((x ≡ decides → ⊥) → NeedUpTo decides xs Qs p)
+NeedUpTo decides xs Qs p = Unit {0}
 
 -- led values, sentence by sentence
 abbrev pub AllLean : List Three → List (Type 0) → List Need → Type 0
@@ -121,8 +111,8 @@ second_leans (x ∷ xs) (P ∷ Ps) (Q ∷ Qs) a p q = first_leans xs Ps Qs a.1 p
 second_leans [] [] [] a p q = first_leans [] [] [] a p q
 second_leans xs Ps Qs a p q = absurd a
 
-each_leans : (xs : List Three) (Ps : List (Type 0)) (Qs : List Need) → AllLean xs Ps Qs → (p : Bool) → NeedEach xs Qs p →
-    Leans p (least xs) (EachHolds Ps)
+each_leans : (xs : List Three) (Ps : List (Type 0)) (Qs : List Need) → AllLean xs Ps Qs → (p : Bool) →
+    NeedUpTo False xs Qs p → Leans p (least xs) (EachHolds Ps)
 each_leans [] [] [] a true q = λ n. tt
 each_leans [] [] [] a false q = λ n. absurd (n refl)
 each_leans (x ∷ xs) (P ∷ Ps) (Q ∷ Qs) a true q = λ n.
@@ -132,8 +122,8 @@ each_leans (True ∷ xs) (P ∷ Ps) (Q ∷ Qs) a false q = λ n h. each_leans xs
 each_leans (x ∷ xs) (P ∷ Ps) (Q ∷ Qs) a false q = λ n h. a.0 false q.0 (λ e. cc) h.0
 each_leans xs Ps Qs a p q = absurd a
 
-some_leans : (xs : List Three) (Ps : List (Type 0)) (Qs : List Need) → AllLean xs Ps Qs → (p : Bool) → NeedSome xs Qs p →
-    Leans p (greatest xs) (SomeHolds Ps)
+some_leans : (xs : List Three) (Ps : List (Type 0)) (Qs : List Need) → AllLean xs Ps Qs → (p : Bool) →
+    NeedUpTo True xs Qs p → Leans p (greatest xs) (SomeHolds Ps)
 some_leans [] [] [] a true q = λ n. absurd (n refl)
 some_leans [] [] [] a false q = λ n h. h
 some_leans (x ∷ xs) (P ∷ Ps) (Q ∷ Qs) a false q = λ n h.
@@ -202,8 +192,8 @@ module _ {T : Type 0} (node : T → Node) (row : T → Row) (S G : List T) (orde
   need_of (form.EveryBefore v kind u) parts qs σ ρ p = ⊥
   need_of (form.SomeBefore v kind u) parts qs σ ρ p =
       NeedInside v kind qs σ ρ p × NeedSomeBefore (ρ u) (meanings node row S G parts) v kind ρ p
-  need_of form.And parts qs σ ρ p = NeedEach (values rows order wholes parts σ) (qs σ ρ) p
-  need_of form.Or parts qs σ ρ p = NeedSome (values rows order wholes parts σ) (qs σ ρ) p
+  need_of form.And parts qs σ ρ p = NeedUpTo False (values rows order wholes parts σ) (qs σ ρ) p
+  need_of form.Or parts qs σ ρ p = NeedUpTo True (values rows order wholes parts σ) (qs σ ρ) p
   need_of form.Not parts qs σ ρ p = first_need (qs σ ρ) (not p)
   need_of form.Implies parts qs σ ρ p =
       first_need (qs σ ρ) (not p)
@@ -244,8 +234,7 @@ module _ {T : Type 0} (node : T → Node) (row : T → Row) (S G : List T) (orde
     here : (p : Bool) → NeedInside v kind (needs parts) σ ρ p → (i : ℕ) (e : T) →
         slice_get S i ≡ Some e → IsOfKind node row S G kind e → Leans p (at_place i) (SaysOf e)
     here p q i e at k =
-        first_leans (values rows order wholes parts (bind v i σ)) (meanings node row S G parts (bind v e ρ))
-        (needs parts (bind v i σ) (bind v e ρ)) (lean (bind v i σ) (bind v e ρ)
+        first_leans _ _ _ (lean (bind v i σ) (bind v e ρ)
         (one_more node row S G order wholes single known v i e σ ρ at stand)) p (q i e at k)
 
     for_every : (p : Bool) → NeedInside v kind (needs parts) σ ρ p →
@@ -294,8 +283,7 @@ module _ {T : Type 0} (node : T → Node) (row : T → Row) (S G : List T) (orde
           | inl (i, at, is) ↦
               let there = Contains-filter (λ j. is_true (order j u)) placed i
               (place_such node row S G order wholes single known kind i x at k) (ap is_true is) in
-              here false inside i x at k (λ t. n (greatest_has (map at_place (earlier u) ++ rest_of rows order wholes u)
-              (at_place i) (Contains-append_left (map at_place (earlier u)) (rest_of rows order wholes u) (at_place i)
+              here false inside i x at k (λ t. n (greatest_has _ (at_place i) (Contains-append_left _ _ _
               (Contains-map at_place (earlier u) i there)) t)) says
           | inr new ↦ q x new k says
         ]
@@ -342,23 +330,13 @@ module _ {T : Type 0} (node : T → Node) (row : T → Row) (S G : List T) (orde
   form_leans (form.EveryBefore v kind u) parts lean σ ρ stand p q = absurd q
   form_leans (form.SomeBefore v kind u) parts lean σ ρ stand p q =
       some_before v kind parts lean σ ρ stand p q.0 (σ u) (ρ u) q.1 (stand u)
-  form_leans form.And parts lean σ ρ stand p q =
-      each_leans (values rows order wholes parts σ) (meanings node row S G parts ρ) (needs parts σ ρ)
-      (lean σ ρ stand) p q
-  form_leans form.Or parts lean σ ρ stand p q =
-      some_leans (values rows order wholes parts σ) (meanings node row S G parts ρ) (needs parts σ ρ)
-      (lean σ ρ stand) p q
+  form_leans form.And parts lean σ ρ stand p q = each_leans _ _ _ (lean σ ρ stand) p q
+  form_leans form.Or parts lean σ ρ stand p q = some_leans _ _ _ (lean σ ρ stand) p q
   form_leans form.Not parts lean σ ρ stand p q =
-      opposite_leans p (first_value (values rows order wholes parts σ)) (first_sentence (meanings node row S G parts ρ))
-      (first_leans (values rows order wholes parts σ) (meanings node row S G parts ρ) (needs parts σ ρ)
-      (lean σ ρ stand) (not p) q)
+      opposite_leans p _ _ (first_leans _ _ _ (lean σ ρ stand) (not p) q)
   form_leans form.Implies parts lean σ ρ stand p q =
-      let xs = values rows order wholes parts σ in
-      let Ps = meanings node row S G parts ρ in
-      let Qs = needs parts σ ρ in
-      implies_leans p (first_value xs) (second_value xs) (first_sentence Ps) (second_sentence Ps)
-      (first_leans xs Ps Qs (lean σ ρ stand) (not p) q.0)
-      (λ possible. second_leans xs Ps Qs (lean σ ρ stand) p (q.1 possible))
+      implies_leans p _ _ _ _ (first_leans _ _ _ (lean σ ρ stand) (not p) q.0)
+      (λ possible. second_leans _ _ _ (lean σ ρ stand) p (q.1 possible))
   form_leans (form.Before v u) parts lean σ ρ stand p q =
       order_leans p (σ v) (ρ v) (σ u) (ρ u) (stand v) (stand u) q
   form_leans form.True parts lean σ ρ stand p q = leans_known p _ _ known_true (right form.True parts σ ρ stand)
@@ -378,6 +356,4 @@ module _ {T : Type 0} (node : T → Node) (row : T → Row) (S G : List T) (orde
   pub first_lean : (trees : Trees) (σ : ℕ → Option ℕ) (ρ : ℕ → Option T) → Stand σ ρ → (p : Bool) →
       first_need (needs trees σ ρ) p →
       Leans p (first_value (values rows order wholes trees σ)) (first_sentence (meanings node row S G trees ρ))
-  first_lean trees σ ρ stand p q =
-      first_leans (values rows order wholes trees σ) (meanings node row S G trees ρ) (needs trees σ ρ)
-      (all_lean trees σ ρ stand) p q
+  first_lean trees σ ρ stand p q = first_leans _ _ _ (all_lean trees σ ρ stand) p q

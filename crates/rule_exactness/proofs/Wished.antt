@@ -1,338 +1,310 @@
 -- A completion of survivors in which wished entries stand behind every gap.
-use Rattle.rule_exactness.proofs.Imports.{AreDigests, AreSurvivors, Completion, Contains, Contains-append_cases}
-use Rattle.rule_exactness.proofs.Imports.{Contains-append_left, Contains-append_right, Contains-map, Contains-map_cases}
-use Rattle.rule_exactness.proofs.Imports.{Contains-none, Distinct, IsBorneIn, IsNamedIn, IsPath, List, Names, Node}
-use Rattle.rule_exactness.proofs.Imports.{Precedes, [], ap, before_in_completion, gap_cases, gap_or_bearer, gaps, inl}
-use Rattle.rule_exactness.proofs.Imports.{inr, length, map, refl, subst, sym, ℕ, ◌++◌, ◌+◌, ◌<◌, ◌^◌, ◌∙◌, ◌∷◌, ◌≡◌}
-use Rattle.rule_exactness.proofs.Imports.{◌≤◌, ◌⊎◌}
-use Rattle.rule_exactness.proofs.Fresh.{Wish, head_name, head_borne, path_on, granted, granted_cases, granted_each}
-use Rattle.rule_exactness.proofs.Fresh.{granted_named, granted_new, granted_distinct, one_before, granted_acyclic}
-use Rattle.rule_exactness.proofs.Fresh.{granted_path, granted_may_be, granted_digests, IsFair}
+use Rattle.rule_exactness.proofs.Imports.{AreDigests, AreSurvivors, Bool, Completion, Contains, Contains-append_cases}
+use Rattle.rule_exactness.proofs.Imports.{Contains-append_left, Contains-append_right, Contains-head, Contains-later}
+use Rattle.rule_exactness.proofs.Imports.{Contains-map, Contains-map_cases, Contains-none, Fills, IsAcyclic, IsBorneIn}
+use Rattle.rule_exactness.proofs.Imports.{IsGraphOf, IsInPast, IsNoLater, IsPath, List, MakesAny, Names, Node, Precedes}
+use Rattle.rule_exactness.proofs.Imports.{Some, [], ap, before, bytes_eq, cases_Bool, completes, false, false≢true}
+use Rattle.rule_exactness.proofs.Imports.{filled_cases, gap_cases, gap_or_bearer, gaps, hubs_filled, in_filled, inl}
+use Rattle.rule_exactness.proofs.Imports.{inr, is_among, is_there, is_whole, length, list_all, list_any, list_any_of}
+use Rattle.rule_exactness.proofs.Imports.{list_any_some, map, member_at, no_later_in_completion, no_later_on, not-false}
+use Rattle.rule_exactness.proofs.Imports.{precedes_on, precedes_over, refl, slice_get, subst, suc, sym, true}
+use Rattle.rule_exactness.proofs.Imports.{true≢false, zero, ℕ, ◌++◌, ◌<◌, ◌∙◌, ◌∷◌, ◌≡◌, ◌≤◌, ◌⊎◌}
+use Rattle.rule_exactness.proofs.Fresh.{Wish, IsFairly, head_name, head_borne, granted, granted_are, granted_named}
+use Rattle.rule_exactness.proofs.Fresh.{HasRoom, granted_new, granted_distinct, granted_back, granted_acyclic}
+use Rattle.rule_exactness.proofs.Fresh.{granted_path}
 
-module _ {T : Type 0} (node : T → Node) (S : List T) where
-  -- x, or an ancestor of it in S, names a gap
-  pub record IsGapped (x : T) : Type 0 where
-    pub at : T
-    pub gap : List ℕ
-    pub survives : Contains S at
-    pub near : (at ≡ x) ⊎ Precedes node S at x
-    pub named : Contains (node at).names gap
-    pub lost : Contains (gaps node S) gap
+-- where not all pass, one doesn't
+list_all_not : {X : Type 0} (p : X → Bool) (xs : List X) → list_all p xs ≡ false → (x : X) × Contains xs x × (p x ≡ false)
+list_all_not {X} p [] e = absurd (true≢false e)
+list_all_not {X} p (z ∷ xs) e =
+    elim (cases_Bool (p z)) [
+      | inl passes ↦
+          let (x, there, fails) = list_all_not p xs (rw passes at e) in (x, Contains-later z xs x there, fails)
+      | inr fails ↦ (z, Contains-head z xs, fails)
+    ]
 
--- two paths that meet
-paths_meet : {T : Type 0} (node : T → Node) (E : List T) (f : T) (gs : List T) (z : T) (hs : List T) (e : T) →
-    IsPath node E f gs z → Contains E z → IsPath node E z hs e → IsPath node E f (gs ++ z ∷ hs) e
-paths_meet node E f [] z hs e first c on = (c, first, on)
-paths_meet node E f (g ∷ gs) z hs e (there, names, rest) c on = (there, names, paths_meet node E g gs z hs e rest c on)
+module _ {T : Type 0} (node : T → Node) (S : List T) (parents : ℕ → List ℕ) (ragged : ℕ → Bool)
+    (graph : IsGraphOf node S parents ragged) where
+  -- some gap is in its past
+  abbrev pub IsGapped : T → Type 0
+  IsGapped e = (d : List ℕ) × IsInPast node S d e
 
--- the digests that are taken
-abbrev pub taken : {T : Type 0} → (T → Node) → List T → List (List ℕ)
-taken node S = map (λ e. (node e).digest) S ++ gaps node S
+  -- a ragged place names a gap
+  ragged_names : (x : ℕ) (e : T) → slice_get S x ≡ Some e → ragged x ≡ true → IsGapped e
+  ragged_names x e at is =
+      elim (cases_Bool (list_any is_gap (node e).names)) [
+        | inl some ↦
+            let (d, named, gap) = list_any_some is_gap (node e).names some in
+            (d, ((is_among (gaps node S) d).0 gap, (e, inl refl, named)))
+        | inr none ↦
+            absurd (true≢false (sym is ∙ (graph.gaps_shown x e at).1 (λ d named gap.
+            false≢true (sym none ∙ list_any_of is_gap (node e).names d named ((is_among (gaps node S) d).1 gap)))))
+      ]
+    where
+      is_gap : List ℕ → Bool
+      is_gap d = list_any (λ c. bytes_eq c d) (gaps node S)
 
--- hubs name survivors, and there are digests for what is wished
-pub record AreApt {T : Type 0} (node : T → Node) (machines : ℕ) (S : List T) (wishes : List (Wish node machines))
-    (ties : List T) : Type 0 where
+  -- a place that isn't found whole
+  pub gapped : (n x : ℕ) (e : T) → slice_get S x ≡ Some e → is_whole parents ragged n x ≡ false → IsGapped e
+  gapped zero x e at is = ragged_names x e at (not-false (ragged x) is)
+  gapped (suc n) x e at is =
+      elim (cases_Bool (ragged x)) [
+        | inl r ↦ ragged_names x e at r
+        | inr r ↦
+            let (z, arrow, fails) = list_all_not (λ z. is_whole parents ragged n z) (parents x) (rw r at is) in
+            let (f, at_z) = graph.inside x z arrow in
+            let (d, (gap, (g, near, named))) = gapped n z f at_z fails in
+            let names = (graph.arrows x z e f at at_z).0 arrow in
+            let on = no_later_on node S g f e near (inr (member_at S z f at_z, member_at S x e at, [], names)) in
+            (d, (gap, (g, on, named)))
+      ]
+
+-- what completes survivors: hubs that stand for the gaps, and what is wished; hubs name these survivors,
+-- and there are digests for the wishes
+pub record Filling {T : Type 0} (node : T → Node) (machines : ℕ) (S : List T) : Type 0 where
+  pub hub : List (List ℕ) → List ℕ → T
+  pub makes : MakesAny node hub
+  pub wished : List (Wish node machines)
+  pub ties : List T
   pub kept : (t : T) → Contains ties t → Contains S t
-  pub room : length wishes + length (taken node S) ≤ 256 ^ 32
-
--- hubs may name no survivor
-pub no_tie : {T : Type 0} (node : T → Node) (machines : ℕ) (S : List T) (wishes : List (Wish node machines)) →
-    length wishes + length (taken node S) ≤ 256 ^ 32 → AreApt node machines S wishes []
-no_tie node machines S wishes room = record { kept = λ t c. absurd (Contains-none t c); room = room }
+  pub room : HasRoom node machines S wished
 
 -- a hub stands for each gap; it names these survivors and the last of a chain of entries, one for
 -- each wish, of which each names the one before
 module _ {T : Type 0} {node : T → Node} {machines : ℕ} {S : List T} (are : AreSurvivors node machines S)
-    (hub : Wish node machines) {wishes : List (Wish node machines)} {ties : List T}
-    (apt : AreApt node machines S wishes ties) where
+    (by : Filling node machines S) where
   -- an entry's digest
   abbrev digest_of : T → List ℕ
   digest_of e = (node e).digest
 
-  -- the digests that are taken
-  abbrev used : List (List ℕ)
-  used = taken node S
-
   -- the entries that were wished
   abbrev pub extras : List T
-  extras = granted node machines used wishes
+  extras = granted node machines S by.wished
 
   -- what a hub names
   abbrev pub hub_names : List (List ℕ)
-  hub_names = head_name node extras ++ map digest_of ties
+  hub_names = head_name node extras ++ map digest_of by.ties
 
   abbrev pub hub_at : List ℕ → T
-  hub_at d = hub.make hub_names d
+  hub_at d = by.hub hub_names d
 
-  -- what is added
-  abbrev pub added : List T
-  added = map hub_at (gaps node S) ++ extras
+  -- what was wished, and the survivors
+  abbrev base : List T
+  base = extras ++ S
+
+  pub base_are : AreSurvivors node machines base
+  base_are = record {
+    in_roster = λ e c. elim (Contains-append_cases extras S e c) [
+      | inl new ↦
+          granted_are node machines S (λ x. (node x).maker < machines) by.wished (λ w _ ns d _ _ _. w.maker ns d) e new
+      | inr old ↦ are.in_roster e old
+    ];
+    distinct = granted_distinct node machines S are.distinct by.wished by.room;
+  }
+
+  -- what a hub names: something wished, or one of the survivors
+  hub_named : (c : List ℕ) → Contains hub_names c → IsBorneIn node extras c ⊎ IsBorneIn node by.ties c
+  hub_named c there =
+      elim (Contains-append_cases (head_name node extras) (map digest_of by.ties) c there) [
+        | inl l ↦ inl (head_borne node extras c l)
+        | inr r ↦ inr (Contains-map_cases digest_of by.ties c r)
+      ]
+
+  -- a hub stands for a gap
+  abbrev IsHub : T → Type 0
+  IsHub e = (d : List ℕ) × Contains (gaps node base) d × (hub_at d ≡ e)
+
+  -- what is added is wished or a hub
+  abbrev pub IsAdded : T → Type 0
+  IsAdded e = Contains extras e ⊎ IsHub e
+
+  -- what hubs and wished entries name
+  named_by : (e : T) → IsAdded e → (c : List ℕ) → Contains (node e).names c →
+      IsBorneIn node extras c ⊎ IsBorneIn node by.ties c
+  named_by e (inl there) c named = inl (granted_named node machines S by.wished e there c named)
+  named_by e (inr (d, _, is)) c named =
+      hub_named c (subst (λ ns. Contains ns c) (by.makes.names hub_names d)
+      (subst (λ (x : T). Contains (node x).names c) (sym is) named))
+
+  pub fills : Fills node base hub_at
+  fills = record {
+    bears = by.makes.digest hub_names;
+    maker = by.makes.maker hub_names;
+    names = λ d c named. elim (hub_named c (subst (λ ns. Contains ns c) (by.makes.names hub_names d) named)) [
+      | inl (e, there, is) ↦ (e, Contains-append_left extras S e there, is)
+      | inr (t, there, is) ↦ (t, Contains-append_right extras S t (by.kept t there), is)
+    ];
+  }
 
   abbrev pub all : List T
-  all = S ++ added
+  all = hubs_filled node machines base hub_at fills base_are
 
-  -- what is added is a hub or was wished
-  abbrev IsHub : T → Type 0
-  IsHub e = (d : List ℕ) × Contains (gaps node S) d × (hub_at d ≡ e)
+  whole : Completion node machines base all
+  whole = completes node machines base hub_at fills base_are
 
-  added_cases : (e : T) → Contains added e → IsHub e ⊎ Contains extras e
-  added_cases e there =
-      elim (Contains-append_cases (map hub_at (gaps node S)) extras e there) [
-        | inl c ↦ inl (Contains-map_cases hub_at (gaps node S) e c)
-        | inr c ↦ inr c
+  -- it completes the survivors
+  pub completed : Completion node machines S all
+  completed = record {
+    in_roster = whole.in_roster;
+    keeps = λ e there. whole.keeps e (Contains-append_right extras S e there);
+    distinct = whole.distinct;
+    lacks_nothing = whole.lacks_nothing;
+  }
+
+  pub all_cases : (e : T) → Contains all e → Contains S e ⊎ IsAdded e
+  all_cases e c =
+      elim (filled_cases node machines base hub_at fills base_are e c) [
+        | inl kept ↦ elim (Contains-append_cases extras S e kept) [ inl new ↦ inr (inl new) | inr old ↦ inl old ]
+        | inr hub ↦ inr (inr hub)
+      ]
+
+  -- a hub is no survivor, and wasn't wished
+  hub_apart : (e : T) → IsHub e → Contains base e → ⊥
+  hub_apart e (d, gap, is) c =
+      (gap_cases node base d gap).1 (e, c, ap digest_of (sym is) ∙ by.makes.digest hub_names d)
+
+  -- no survivor was added
+  pub not_added : (e : T) → Contains S e → ¬ IsAdded e
+  not_added e old (inl new) = granted_new node machines S by.wished by.room e new (inl (e, old, refl))
+  not_added e old (inr hub) = hub_apart e hub (Contains-append_right extras S e old)
+
+  -- what was wished is there
+  extra_there : (e : T) → Contains extras e → Contains all e
+  extra_there e c = whole.keeps e (Contains-append_left extras S e c)
+
+  -- a hub stands for each gap of the survivors
+  gap_stays : (d : List ℕ) → Contains (gaps node S) d → Contains (gaps node base) d
+  gap_stays d gap =
+      let ((e, there, names), lost) = gap_cases node S d gap in
+      elim (gap_or_bearer node base e d (Contains-append_right extras S e there) names) [
+        | inl stays ↦ stays
+        | inr (f, cf, is) ↦ absurd (elim (Contains-append_cases extras S f cf) [
+          | inl new ↦
+              granted_new node machines S by.wished by.room f new (inr (subst (Contains (gaps node S)) (sym is) gap))
+          | inr old ↦ lost (f, old, is)
+        ])
       ]
 
   -- what holds of hubs and of what is wished holds of all that is added
-  pub added_each : (P : T → Type 0) → ((ns : List (List ℕ)) (d : List ℕ) → P (hub.make ns d)) →
-      ((w : Wish node machines) → Contains wishes w → (ns : List (List ℕ)) (d : List ℕ) → P (w.make ns d)) →
-      (e : T) → Contains added e → P e
-  added_each P at_hub at_wish e there =
-      elim (added_cases e there) [
-        | inl (d, _, is) ↦ subst P is (at_hub hub_names d)
-        | inr c ↦
-            let g = granted_cases node machines used wishes e c in
-            subst P g.is (at_wish g.wish g.wished g.names g.digest)
-      ]
-
-  -- a wish is granted by what is added
-  pub wish_added : (w : Wish node machines) → Contains wishes w →
-      (ns : List (List ℕ)) × (d : List ℕ) × Contains extras (w.make ns d)
-  wish_added w there = granted_each node machines used wishes w there
-
-  -- a hub's digest is the gap
-  hub_digest : (e : T) (d : List ℕ) → hub_at d ≡ e → (node e).digest ≡ d
-  hub_digest e d is = subst (λ (x : T). (node x).digest ≡ d) is (hub.bears hub_names d)
-
-  -- no survivor has the digest of what is added
-  pub apart : (e f : T) → Contains S e → Contains added f → (node e).digest ≡ (node f).digest → ⊥
-  apart e f old new same =
-      elim (added_cases f new) [
-        | inl (d, gap, is) ↦ (gap_cases node S d gap).1 (e, old, same ∙ hub_digest f d is)
-        | inr c ↦
-            granted_new node machines used wishes apt.room f c
-            (Contains-append_left (map digest_of S) (gaps node S) (node f).digest
-            (subst (λ (d : List ℕ). Contains (map digest_of S) d) same (Contains-map digest_of S e old)))
-      ]
-
-  -- a hub has no digest of what was wished
-  hub_apart : (e f : T) → IsHub e → Contains extras f → (node e).digest ≡ (node f).digest → ⊥
-  hub_apart e f (d, gap, is) c same =
-      granted_new node machines used wishes apt.room f c
-      (Contains-append_right (map digest_of S) (gaps node S) (node f).digest
-      (subst (λ (x : List ℕ). Contains (gaps node S) x) (sym (hub_digest e d is) ∙ same) gap))
-
-  -- no two have one digest
-  distinct : Distinct node all
-  distinct e f ce cf same = by (Contains-append_cases S added e ce) (Contains-append_cases S added f cf)
-    where
-      both_new : IsHub e ⊎ Contains extras e → IsHub f ⊎ Contains extras f → e ≡ f
-      both_new (inl (d, _, is)) (inl (c, _, also)) =
-          sym is ∙ ap hub_at (sym (hub_digest e d is) ∙ same ∙ hub_digest f c also) ∙ also
-      both_new (inl h) (inr c) = absurd (hub_apart e f h c same)
-      both_new (inr c) (inl h) = absurd (hub_apart f e h c (sym same))
-      both_new (inr c) (inr g) = granted_distinct node machines used wishes apt.room e f c g same
-
-      by : Contains S e ⊎ Contains added e → Contains S f ⊎ Contains added f → e ≡ f
-      by (inl old) (inl also) = are.distinct e f old also same
-      by (inl old) (inr new) = absurd (apart e f old new same)
-      by (inr new) (inl old) = absurd (apart f e old new (sym same))
-      by (inr new) (inr also) = both_new (added_cases e new) (added_cases f also)
-
-  in_roster : (e : T) → Contains all e → (node e).maker < machines
-  in_roster e c =
-      elim (Contains-append_cases S added e c) [
-        | inl old ↦ are.in_roster e old
-        | inr new ↦ added_each (λ (x : T). (node x).maker < machines) hub.maker (λ w _. w.maker) e new
-      ]
-
-  -- what was wished is there, and so is each hub
-  extra_added : (e : T) → Contains extras e → Contains added e
-  extra_added e c = Contains-append_right (map hub_at (gaps node S)) extras e c
-
-  pub extra_there : (e : T) → Contains extras e → Contains all e
-  extra_there e c = Contains-append_right S added e (extra_added e c)
-
-  hub_there : (d : List ℕ) → Contains (gaps node S) d → Contains all (hub_at d)
-  hub_there d gap =
-      Contains-append_right S added (hub_at d)
-      (Contains-append_left (map hub_at (gaps node S)) extras (hub_at d) (Contains-map hub_at (gaps node S) d gap))
-
-  -- what a hub names: something wished, or one of the survivors
-  abbrev IsNamed : List ℕ → Type 0
-  IsNamed c = ((e : T) × Contains extras e × ((node e).digest ≡ c)) ⊎ ((t : T) × Contains ties t × ((node t).digest ≡ c))
-
-  hub_named : (c : List ℕ) → Contains hub_names c → IsNamed c
-  hub_named c there =
-      elim (Contains-append_cases (head_name node extras) (map digest_of ties) c there) [
-        | inl l ↦ inl (head_borne node extras c l)
-        | inr r ↦ inr (Contains-map_cases digest_of ties c r)
-      ]
-
-  named_by_hub : (e : T) (c : List ℕ) → IsHub e → Contains (node e).names c → IsNamed c
-  named_by_hub e c (d, _, is) there =
-      hub_named c (subst (λ ns. Contains ns c) (hub.names hub_names d)
-      (subst (λ (x : T). Contains (node x).names c) (sym is) there))
-
-  lacks_nothing : (d : List ℕ) → IsNamedIn node all d → IsBorneIn node all d
-  lacks_nothing d (e, c, names) =
-      elim (Contains-append_cases S added e c) [
-        | inl old ↦
-            elim (gap_or_bearer node S e d old names) [
-              | inl gap ↦ (hub_at d, hub_there d gap, hub.bears hub_names d)
-              | inr (f, there, is) ↦ (f, Contains-append_left S added f there, is)
-            ]
-        | inr new ↦
-            elim (by (added_cases e new)) [
-              | inl (f, there, bears) ↦ (f, extra_there f there, bears)
-              | inr (t, there, bears) ↦ (t, Contains-append_left S added t (apt.kept t there), bears)
-            ]
-      ]
-    where
-      by : IsHub e ⊎ Contains extras e → IsNamed d
-      by (inl h) = named_by_hub e d h names
-      by (inr x) = inl (granted_named node machines used wishes e x d names)
+  pub added_are : (P : T → Type 0) → ((d : List ℕ) → Contains (gaps node base) d → P (hub_at d)) →
+      ((w : Wish node machines) → Contains by.wished w → IsFairly P w.make) → (e : T) → IsAdded e → P e
+  added_are P at_hub at_wish e (inl c) = granted_are node machines S P by.wished at_wish e c
+  added_are P at_hub at_wish e (inr (d, gap, is)) = subst P is (at_hub d gap)
 
   -- each entry that is added may be, where hubs name at most one entry
-  pub added_may_be : (MayBe : T → Type 0) → IsFair MayBe hub →
-      ((w : Wish node machines) → Contains wishes w → IsFair MayBe w) → length hub_names ≤ 1 →
-      ((t : T) → Contains ties t → length (node t).digest ≡ 32) → AreDigests (gaps node S) → (e : T) →
-      Contains added e → MayBe e
-  added_may_be MayBe at_hub at_wishes short tied lost e there =
-      elim (added_cases e there) [
-        | inl (d, gap, is) ↦ subst MayBe is (at_hub hub_names d short names_right (lost d gap))
-        | inr c ↦ granted_may_be node machines used MayBe wishes at_wishes e c
-      ]
+  pub added_may_be : (MayBe : T → Type 0) → IsFairly MayBe by.hub →
+      ((w : Wish node machines) → Contains by.wished w → IsFairly MayBe w.make) → length hub_names ≤ 1 →
+      ((e : T) → Contains S e → AreDigests (node e).names × (length (node e).digest ≡ 32)) → (e : T) →
+      IsAdded e → MayBe e
+  added_may_be MayBe at_hub at_wishes short right =
+      added_are MayBe (λ d gap. at_hub hub_names d short names_right (gap_right d gap)) at_wishes
     where
       names_right : AreDigests hub_names
       names_right d c =
           elim (hub_named d c) [
-            | inl (f, named, is) ↦ subst (λ x. length x ≡ 32) is (granted_digests node machines used wishes f named)
-            | inr (t, named, is) ↦ subst (λ x. length x ≡ 32) is (tied t named)
+            | inl (f, there, is) ↦
+                subst (λ (x : List ℕ). length x ≡ 32) is (granted_are node machines S (λ x. length (digest_of x) ≡ 32)
+                by.wished (λ w _ ns d _ _ long. rw (w.bears ns d) long) f there)
+            | inr (t, there, is) ↦ subst (λ (x : List ℕ). length x ≡ 32) is (right t (by.kept t there)).1
           ]
 
-  -- it completes the survivors
-  pub completes : Completion node machines S all
-  completes = record {
-    in_roster = in_roster;
-    keeps = λ e there. Contains-append_left S added e there;
-    distinct = distinct;
-    lacks_nothing = lacks_nothing;
-  }
+      gap_right : (d : List ℕ) → Contains (gaps node base) d → length d ≡ 32
+      gap_right d gap =
+          let ((e, there, named), _) = gap_cases node base d gap in
+          elim (Contains-append_cases extras S e there) [
+            | inl new ↦
+                granted_are node machines S (λ x. AreDigests (node x).names) by.wished
+                (λ w _ ns d _ right _. subst AreDigests (sym (w.names ns d)) right) e new d named
+            | inr old ↦ (right e old).0 d named
+          ]
 
-  -- what is before a hub for a gap behind a survivor precedes that survivor
-  following : (x : T) → Contains S x → (gapped : IsGapped node S x) → (e : T) → Contains all e → (between : List T) →
-      IsPath node all e between (hub_at gapped.gap) → Precedes node all e x
-  following x cx gapped e ce between path =
-      let d : List ℕ = gapped.gap in
-      let z : T = gapped.at in
-      let z_names_hub : Names node z (hub_at d) =
-      subst (λ (c : List ℕ). Contains (node z).names c) (sym (hub.bears hub_names d)) gapped.named in
-      let to_z : IsPath node all e (between ++ hub_at d ∷ []) z =
-      path_on node all e between (hub_at d) z path (hub_there d gapped.lost) z_names_hub in
-      let cx_too = completes.keeps x cx in
-      elim gapped.near [
-        | inl is ↦
-            (ce, cx_too, between ++ hub_at d ∷ [], subst (λ (y : T). IsPath node all e (between ++ hub_at d ∷ []) y) is to_z)
-        | inr before ↦
-            let (in_z, _, on, path) = before_in_completion node S machines all completes z x before in
-            let meet = paths_meet node all e (between ++ hub_at d ∷ []) z on x to_z in_z path in
-            (ce, cx_too, (between ++ hub_at d ∷ []) ++ z ∷ on, meet)
+  -- what was wished, or hubs name it
+  abbrev pub IsGot : T → Type 0
+  IsGot e = Contains extras e ⊎ Contains by.ties e
+
+  -- that precedes each hub
+  before_hub : (d : List ℕ) → Contains all (hub_at d) → (e : T) → IsGot e → Precedes node all e (hub_at d)
+  before_hub d there e got =
+      let naming = λ (c : List ℕ) (named : Contains hub_names c).
+      subst (λ ns. Contains ns c) (sym (by.makes.names hub_names d)) named in
+      elim got [
+        | inl c ↦
+            granted_path node machines S all whole.distinct by.wished extra_there (hub_at d) there
+            (λ b named. naming b (Contains-append_left _ _ b named)) e c
+        | inr c ↦
+            let named = Contains-append_right (head_name node extras) _ _ (Contains-map digest_of by.ties e c) in
+            (completed.keeps e (by.kept e c), there, [], naming (digest_of e) named)
       ]
 
-  -- what is among a hub's names is named by it
-  hub_naming : (d c : List ℕ) → Contains hub_names c → Contains (node (hub_at d)).names c
-  hub_naming d c named = subst (λ (ns : List (List ℕ)). Contains ns c) (sym (hub.names hub_names d)) named
-
-  -- what was wished precedes it
-  pub extra_after : (x : T) → Contains S x → IsGapped node S x → (e : T) → Contains extras e → Precedes node all e x
-  extra_after x cx gapped e c =
-      let (between, path) =
-      granted_path node machines used all distinct wishes extra_there (hub_at gapped.gap)
-      (λ d there. hub_naming gapped.gap d (Contains-append_left (head_name node extras) (map digest_of ties) d there)) e c in
-      following x cx gapped e (extra_there e c) between path
-
-  -- and so do the survivors that hubs name
-  pub tie_after : (x : T) → Contains S x → IsGapped node S x → (t : T) → Contains ties t → Precedes node all t x
-  tie_after x cx gapped t c =
-      following x cx gapped t (completes.keeps t (apt.kept t c)) []
-      (hub_naming gapped.gap (node t).digest
-      (Contains-append_right (head_name node extras) (map digest_of ties) (node t).digest (Contains-map digest_of ties t c)))
+  -- and each survivor with a gap in its past
+  pub got_before : (x : T) → Contains S x → (d : List ℕ) → IsInPast node S d x → (e : T) → IsGot e →
+      Precedes node all e x
+  got_before x cx d (gap, (z, near, names)) e got =
+      let there = in_filled node machines base hub_at fills base_are d (gap_stays d gap) in
+      let z_names : Names node z (hub_at d) =
+      subst (Contains (node z).names) (sym (by.makes.digest hub_names d)) names in
+      precedes_on node all e z x (precedes_over node all e (hub_at d) z (before_hub d there e got)
+      (there, completed.keeps z (is_there node S z x cx near), [], z_names))
+      (no_later_in_completion node S machines all completed z x near)
 
   -- one of the named survivors, or an ancestor of it
   abbrev pub IsTied : T → Type 0
-  IsTied f = (t : T) × Contains ties t × Contains S f × ((f ≡ t) ⊎ Precedes node S f t)
-
-  -- a survivor that a tied one names is tied
-  tied_on : (f g : T) → Contains S f → Names node g f → IsTied g → IsTied f
-  tied_on f g cf names (t, there, cg, inl is) =
-      (t, there, cf, inr (cf, apt.kept t there, [], subst (λ (y : T). Names node y f) is names))
-  tied_on f g cf names (t, there, cg, inr (_, ct, between, path)) =
-      (t, there, cf, inr (cf, ct, g ∷ between, (cg, names, path)))
+  IsTied f = (t : T) × Contains by.ties t × Contains S f × IsNoLater node S f t
 
   -- a survivor that is named by what is added is one that hubs name
-  named_by_added : (f g : T) → Contains S f → Contains added g → Names node g f → IsTied f
-  named_by_added f g cf cg names = elim (by (added_cases g cg)) [
-    | inl (e, there, same) ↦ absurd (apart f e cf (extra_added e there) (sym same))
-    | inr (t, there, same) ↦ (t, there, cf, inl (are.distinct f t cf (apt.kept t there) (sym same)))
-  ]
-    where
-      by : IsHub g ⊎ Contains extras g → IsNamed (node f).digest
-      by (inl h) = named_by_hub g (node f).digest h names
-      by (inr x) = inl (granted_named node machines used wishes g x (node f).digest names)
+  named_by_added : (f g : T) → Contains S f → IsAdded g → Names node g f → IsTied f
+  named_by_added f g cf added names =
+      elim (named_by g added (node f).digest names) [
+        | inl (e, there, same) ↦
+            absurd (granted_new node machines S by.wished by.room e there (inl (f, cf, sym same)))
+        | inr (t, there, same) ↦ (t, there, cf, inl (are.distinct f t cf (by.kept t there) (sym same)))
+      ]
 
-  -- where a path to a survivor may begin
-  abbrev pub IsSource : T → T → Type 0
-  IsSource x f = Precedes node S f x ⊎ (Contains added f ⊎ IsTied f)
+  -- where what precedes x comes from
+  abbrev IsSource : T → T → Type 0
+  IsSource x f = Precedes node S f x ⊎ (IsAdded f ⊎ IsTied f)
+
+  -- what is named by x, or by such an entry, is such an entry
+  source_on : (x g f : T) → Contains S x → (g ≡ x) ⊎ IsSource x g → Contains all f → Names node g f → IsSource x f
+  source_on x g f cx from cf names =
+      elim (all_cases f cf) [
+        | inr new ↦ inr (inl new)
+        | inl old ↦ elim from [
+          | inl is ↦ inl (old, cx, [], subst (λ (y : T). Names node y f) is names)
+          | inr (inl before) ↦ inl (precedes_over node S f g x (old, before.0, [], names) before)
+          | inr (inr (inl added)) ↦ inr (inr (named_by_added f g old added names))
+          | inr (inr (inr (t, there, cg, near))) ↦
+              inr (inr (t, there, old, inr (precedes_on node S f g t (old, cg, [], names) near)))
+        ]
+      ]
 
   sources_on : (x : T) → Contains S x → (f : T) (between : List T) → Contains all f → IsPath node all f between x →
       IsSource x f
-  sources_on x cx f [] cf names =
-      elim (Contains-append_cases S added f cf) [
-        | inl old ↦ inl (old, cx, [], names)
-        | inr new ↦ inr (inl new)
-      ]
+  sources_on x cx f [] cf names = source_on x x f cx (inl refl) cf names
   sources_on x cx f (g ∷ between) cf (cg, names, path) =
-      elim (Contains-append_cases S added f cf) [
-        | inl old ↦
-            elim (sources_on x cx g between cg path) [
-              | inl (in_g, in_x, gs, through) ↦ inl (old, in_x, g ∷ gs, (in_g, names, through))
-              | inr (inl new) ↦ inr (inr (named_by_added f g old new names))
-              | inr (inr tied) ↦ inr (inr (tied_on f g old names tied))
-            ]
-        | inr new ↦ inr (inl new)
-      ]
+      source_on x g f cx (inr (sources_on x cx g between cg path)) cf names
 
   -- what precedes a survivor in the completion did so among the survivors, or was added, or is tied
   pub sources : (x f : T) → Contains S x → Precedes node all f x → IsSource x f
   sources x f cx (cf, _, between, path) = sources_on x cx f between cf path
 
-  -- where hubs name no survivor, what precedes a hub was wished
-  before_hub : ties ≡ [] → (h : T) → IsHub h → (f : T) (between : List T) → Contains all f →
-      IsPath node all f between h → Contains extras f
-  before_hub none h hub_is f [] cf names =
-      elim (named_by_hub h (node f).digest hub_is names) [
-        | inl (e, there, same) ↦
-            subst (λ (y : T). Contains extras y) (distinct e f (extra_there e there) cf same) there
-        | inr r ↦ absurd (Contains-none r.0 (subst (λ ts. Contains ts r.0) none r.1))
-      ]
-  before_hub none h hub_is f (g ∷ between) cf (cg, names, path) =
-      one_before node machines used all distinct wishes extra_there g f (before_hub none h hub_is g between cg path) cf
-      names
-
   -- where no survivor precedes itself and hubs name none, no entry does
-  pub acyclic : ties ≡ [] → ((e : T) → ¬ Precedes node S e e) → (e : T) → ¬ Precedes node all e e
+  pub acyclic : by.ties ≡ [] → IsAcyclic node S → IsAcyclic node all
   acyclic none before e path =
-      elim (Contains-append_cases S added e path.0) [
+      let no_tie = λ (t : T) (there : Contains by.ties t). Contains-none t (subst (λ ts. Contains ts t) none there) in
+      let (ce, _, between, through) = path in
+      elim (all_cases e ce) [
         | inl old ↦
             elim (sources e e old path) [
               | inl among ↦ before e among
-              | inr (inl new) ↦ apart e e old new refl
-              | inr (inr tied) ↦ Contains-none tied.0 (subst (λ ts. Contains ts tied.0) none tied.1)
+              | inr (inl new) ↦ not_added e old new
+              | inr (inr tied) ↦ no_tie tied.0 tied.1
             ]
-        | inr new ↦
-            let (ce, _, between, through) = path in
-            elim (added_cases e new) [
-              | inl h ↦ hub_apart e e h (before_hub none e h e between ce through) refl
-              | inr c ↦ granted_acyclic node machines used all distinct wishes extra_there e between c through
-            ]
+        | inr (inl c) ↦
+            granted_acyclic node machines S all whole.distinct by.wished extra_there e between c through
+        | inr (inr hub) ↦
+            hub_apart e hub (Contains-append_left extras S e
+            (granted_back node machines S all whole.distinct by.wished extra_there e
+            (λ d named. elim (named_by e (inr hub) d named)
+            [ inl borne ↦ borne | inr (t, there, _) ↦ absurd (no_tie t there) ]) e between ce through))
       ]

@@ -1,4 +1,4 @@
-use Rattle.rule_exactness.proofs.P3Exact.{exact_p3_is_exact, exact_p3_says_the_same}
+use Rattle.rule_exactness.proofs.P3.{exact_p3_is_exact, exact_p3_says_the_same}
 use Rattle.rule_exactness.proofs.laws.p3_has_an_exact_form.Goals as goal
 
 pub returns-clause-same : goal.returns-clause-same
