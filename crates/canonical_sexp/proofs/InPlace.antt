@@ -3,7 +3,7 @@ use Rattle.canonical_sexp.proofs.Imports.{◌≡◌, ◌≢◌, ◌∙◌, ℕ, 
 use Rattle.canonical_sexp.proofs.Imports.{[], ◌∷◌, ◌++◌, length, take, drop, get_or, refl, ap, sym, arith, append_assoc}
 use Rattle.canonical_sexp.proofs.Imports.{append-nil, length-append, nat_tests, take-append-drop, take_at, take_rest}
 use Rattle.canonical_sexp.proofs.Imports.{decimal, Sexp, Atom, Forest, no_trees, atom_then, list_then, in_front}
-use Rattle.canonical_sexp.proofs.Imports.{members_of, text_of, texts_of, atom_text, AreWithin, Fits}
+use Rattle.canonical_sexp.proofs.Imports.{text_of, texts_of, atom_text, AreWithin, Fits}
 use Rattle.canonical_sexp.proofs.Imports.{IsProperPrefixOfText, max_octets, Why, is_digit, at_start, length_fault}
 use Rattle.canonical_sexp.proofs.Imports.{IsFirstBad, IsSpelt, AreSpelt}
 use Rattle.canonical_sexp.specs.declared.sexp.Sexp.TheVariants.{List as Branch}
@@ -166,8 +166,3 @@ pub not_bad : (bytes octets : List ℕ) (at value : ℕ) (why : Why) → length 
 not_bad bytes octets at value why small e within few digits fault =
     bad_has_none bytes at (Atom octets) [] small (e ∙ sym (append-nil (atom_text octets)))
     (is_bad_length at_start bytes at value why tt (omega arith) within few digits fault).0
-
--- a row's members are its first and the others
-pub members-in_front : (tree : Sexp) (rest : Forest) → members_of (in_front tree rest) ≡ tree ∷ members_of rest
-members-in_front (Atom octets) rest = refl
-members-in_front (Branch row) rest = refl

@@ -1,21 +1,13 @@
 -- The bytes of records, one right after another.
-use Rattle.demonstration.proofs.Imports.{take, ◌≡◌, ◌∙◌, ℕ, ◌+◌, ◌-◌, ◌≤◌, List, ◌∷◌, length, drop, Some, ap, sym}
-use Rattle.demonstration.proofs.Imports.{arith, length-append, slice_get, flat_map, flat_map-append, drop_more}
-use Rattle.demonstration.proofs.Imports.{length-drop, take-append-drop, take_all, slice_get_within}
-use Rattle.demonstration.proofs.Imports.{get_or_from_slice_get, text_of, SealedEntry, Event, header_tree, log_text}
+use Rattle.demonstration.proofs.Imports.{take, ◌≡◌, ◌∙◌, ℕ, ◌+◌, ◌-◌, ◌≤◌, List, length, drop, ap, sym}
+use Rattle.demonstration.proofs.Imports.{arith, length-append, flat_map, flat_map-append}
+use Rattle.demonstration.proofs.Imports.{length-drop, take-append-drop, take_all}
+use Rattle.demonstration.proofs.Imports.{text_of, SealedEntry, Event, header_tree, log_text}
 use Rattle.demonstration.proofs.Imports.{record_text, end_of}
 
 -- how many bytes the records of these events have
 abbrev pub size : List (Event SealedEntry) → ℕ
 size events = length (flat_map record_text events)
-
--- the records from a place on are the one there and those after it
-pub one_record : (events : List (Event SealedEntry)) (i : ℕ) (event : Event SealedEntry) →
-    slice_get events i ≡ Some event → size (drop i events) ≡ length (record_text event) + size (drop (i + 1) events)
-one_record events i event at =
-    ap size (drop_more events i event (slice_get_within events i event at)
-    ∙ ap (λ (e : Event SealedEntry). e ∷ drop (i + 1) events) (get_or_from_slice_get events i event event at))
-    ∙ length-append (record_text event) (flat_map record_text (drop (i + 1) events))
 
 module _ (owner : ℕ) (events : List (Event SealedEntry)) (k : ℕ) where
   -- the log is its header, its first k records and the others

@@ -17,7 +17,7 @@ pub use Rattle.entry_order.specs.Node.{Node}
 pub use Rattle.entry_order.specs.Survivors.{gaps}
 pub use Rattle.entry_order.specs.declared.event.Event.{Event}
 pub use Rattle.entry_order.specs.declared.event.Event.TheVariants.{Got, Sent}
-pub use Rattle.log_frontier.proofs.Tables.{StandsFor-none, lacks_decides}
+pub use Rattle.log_frontier.proofs.Tables.{lacks_decides}
 pub use Rattle.log_frontier.specs.Places.{HasNoDigestTwice, IsBorneAt, IsFrontierAt, NamesUnborne, Places, StandsFor}
 pub use Rattle.log_frontier.specs.Places.{digest_at}
 pub use Rattle.log_frontier.specs.inside.Noting.{lacks_some}

@@ -1,32 +1,12 @@
 -- What the type of a log keeps, when it is made and when an event is appended.
 use Rattle.entangled_log.proofs.Imports.{◌≡◌, ℕ, ◌+◌, ◌<◌, ◌≤◌, max, List, [], ◌∷◌, ◌++◌, take, length, refl, sym, ap}
-use Rattle.entangled_log.proofs.Imports.{subst, ◌∙◌, arith, length-append, false, Event, Node, entry_of, MayFollow}
-use Rattle.entangled_log.proofs.Imports.{IsLegal, IsLegal-push, IsLegal-none, greatest_push, new_from_may}
-use Rattle.entangled_log.proofs.Imports.{Contains-map, Places, StandsFor, HasNoDigestTwice, StandsFor-none, IsKept}
+use Rattle.entangled_log.proofs.Imports.{subst, ◌∙◌, arith, length-append, Event, Node, entry_of, MayFollow}
+use Rattle.entangled_log.proofs.Imports.{IsLegal, IsLegal-push, greatest_push, new_from_may}
+use Rattle.entangled_log.proofs.Imports.{Contains-map, Places, StandsFor, HasNoDigestTwice, IsKept}
 use Rattle.entangled_log.proofs.Imports.{own_after}
 use Rattle.entangled_log.proofs.Own.{AreOwn-push}
 
 module _ {T : Type 0} (node : T → Node) (owner capacity : ℕ) where
-  -- a new log
-  pub IsKept-none : (events : List (Event T)) (frontier : Places) (own : List ℕ) (room own_room : ℕ) → events ≡ [] →
-      own ≡ [] → frontier.list ≡ [] →
-      (frontier.noted ≡ []) × (frontier.wanted ≡ record { list = []; scans = false }) →
-      capacity ≤ room → capacity ≤ own_room → capacity ≤ frontier.spare →
-      IsKept node owner capacity events frontier own 0 room own_room
-  IsKept-none events frontier own room own_room none no_own empty tables reserved own_reserved spare =
-      subst (λ (h : List (Event T)). IsKept node owner capacity h frontier own 0 room own_room) (sym none)
-      (subst (λ (ps : List ℕ). IsKept node owner capacity [] frontier ps 0 room own_room) (sym no_own) (
-      record {
-        legal = IsLegal-none node owner;
-        within = omega arith;
-        stands = StandsFor-none (λ x. node (entry_of x)) frontier empty tables;
-        own_places = refl;
-        greatest = refl;
-        reserved = reserved;
-        spare = omega (arith, spare);
-        own_reserved = own_reserved;
-      }))
-
   -- a log with one event more
   pub IsKept-push : (events : List (Event T)) (x : Event T) (before after : Places) (own : List ℕ)
       (top room own_room : ℕ) → IsKept node owner capacity events before own top room own_room →

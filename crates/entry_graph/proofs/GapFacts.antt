@@ -1,24 +1,11 @@
 -- The gaps of entries, by a table of their places.
-use Rattle.entry_graph.proofs.Imports.{◌≡◌, ◌∙◌, ◌++◌, ◌∷◌, [], ◌+◌, ◌<◌, ℕ, Bool, true, false, List, Option, None, Some}
-use Rattle.entry_graph.proofs.Imports.{ap, refl, sym, length, take, get_or, not, filter, is_none}
-use Rattle.entry_graph.proofs.Imports.{Node, filter-append, append-nil, gaps, number_at, ArePlaces}
+use Rattle.entry_graph.proofs.Imports.{◌≡◌, ◌∙◌, ℕ, Bool, true, false, List, Option, None, Some}
+use Rattle.entry_graph.proofs.Imports.{ap, refl, sym, not, filter, is_none}
+use Rattle.entry_graph.proofs.Imports.{Node, gaps, number_at, ArePlaces}
 use Rattle.entry_graph.proofs.Imports.{has_digest, has_digest_of, has_digest_from, member_at, place_of}
 use Rattle.std.specs.List.{flat_map}
-use Rattle.std.proofs.lemmas.List.{take_more}
-use Rattle.std.proofs.lemmas.Grind.{flat_map-append}
 use mathlib.Core.Path.{fun_ext}
 use Rattle.entry_order.specs.Ascending.{ascending}
-
--- of one element more in front, what passes a test is added
-pub filter_after : {X Y : Type 0} (p : Y → Bool) (f : X → List Y) (xs : List X) (i : ℕ) (x : X) → i < length xs →
-    x ≡ get_or xs i x →
-    filter p (flat_map f (take (i + 1) xs)) ≡ filter p (flat_map f (take i xs)) ++ filter p (f x)
-filter_after {X} {Y} p f xs i x within is =
-    ap (λ (ys : List X). filter p (flat_map f ys)) (take_more xs i x within)
-    ∙ ap (λ (y : X). filter p (flat_map f (take i xs ++ y ∷ []))) (sym is)
-    ∙ ap (filter p) (flat_map-append f (take i xs) (x ∷ []) ∙ ap (λ (ys : List Y). flat_map f (take i xs) ++ ys)
-    (append-nil (f x)))
-    ∙ filter-append p (flat_map f (take i xs)) (f x)
 
 module _ {T : Type 0} (node : T → Node) (S : List T) (table : List (List ℕ × ℕ)) (places : ArePlaces node S table) where
   -- a digest is at no place exactly if no entry has it

@@ -3,7 +3,7 @@ use Rattle.entry_graph.proofs.Imports.{◌≡◌, ℕ, true, false, cond, List, 
 use Rattle.entry_graph.proofs.Imports.{arith, refl, sym, ap, subst, ◌∙◌, ◌⊎◌, inl, inr, Some, None, slice_get}
 use Rattle.entry_graph.proofs.Imports.{Contains, bytes_eq, cases_Bool, cond-true, cond-false, length-take-le}
 use Rattle.entry_graph.proofs.Imports.{Contains-push, Contains-push_cases, Contains-append_left, none-some, same_Some}
-use Rattle.entry_graph.proofs.Imports.{bytes_eq-Decides, Node, Contains-none, last_at, push_before, push_cases}
+use Rattle.entry_graph.proofs.Imports.{bytes_eq-Decides, Node, last_at, push_before, push_cases}
 use Rattle.entry_graph.proofs.Imports.{taken_more, number_at, IsTableOf, AreStamps, ArePlaces}
 
 -- the table has this number at the digest, and all else as before
@@ -38,13 +38,6 @@ table_more Belongs More before after digest n set table here keeps parts = recor
 }
 
 module _ {T : Type 0} (node : T → Node) where
-  -- a table without a number is that of no entry
-  pub no_stamps : (table : List (List ℕ × ℕ)) → ((d : List ℕ) → number_at table d ≡ None) → AreStamps node [] table
-  no_stamps table none = record {
-    found = λ d n e. absurd (none-some n (sym (none d) ∙ e));
-    lacks = λ d n e (f, c, is, stamp). absurd (Contains-none f c);
-  }
-
   -- an empty table says the places of no entry
   pub no_places : (table : List (List ℕ × ℕ)) → ((d : List ℕ) → number_at table d ≡ None) → ArePlaces node [] table
   no_places table none = record {

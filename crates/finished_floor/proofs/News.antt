@@ -30,10 +30,6 @@ pub record AreNew {B : Type 0} (f : B → List (Option ℕ)) (script : Script) (
   pub none : (k : ℕ) (row : B) → slice_get by k ≡ Some row → f row ≡ []
 
 module _ {B : Type 0} (f : B → List (Option ℕ)) (script : Script) where
-  -- before the first machine
-  pub new_none : AreNew f script 0 [] []
-  new_none = record { count = refl; each = λ k m is. cc; many = refl; none = λ k row is. cc }
-
   -- one machine more
   pub new_more : (at : ℕ) (ms : List MachineState) (by : List B) (m : MachineState) (row : B) →
       AreNew f script at ms by → IsMachineOf script at m → m.events ≡ [] → f row ≡ [] →

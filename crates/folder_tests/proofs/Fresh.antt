@@ -7,7 +7,7 @@ use Rattle.folder_calls.specs.World.{FolderMoment, Among, IsUnused, Does, does, 
 use Rattle.folder_calls.proofs.Steps.{same_name}
 use Rattle.folder_tests.specs.declared.disk.Call.{Call}
 use Rattle.folder_tests.specs.declared.disk.Call.TheVariants.{Put, Create, Append, Empty, FlushFile, Rename, Remove, FlushName}
-use Rattle.folder_tests.specs.Memory.{effect_of, now_of, moments_of, numbers, is_numbered, has_number}
+use Rattle.folder_tests.specs.Memory.{effect_of, now_of, moments_of, numbers, is_numbered}
 
 abbrev IsThere : Option ℕ → Type 0
 IsThere None = ⊥
@@ -92,16 +92,6 @@ removed_meanwhile name old new call is did =
 pub not_removed : (name : List ℕ) (old new : List Call) → new ≡ old
     → Does (removed name) false (moments_of old) (moments_of new)
 not_removed name old new same = inl (ap moments_of same)
-
--- a number that is put in front
-pub first_has : (i : ℕ) (xs : List ℕ) → has_number (i ∷ xs) i ≡ true
-first_has i xs = ap (λ t. cond t true (has_number xs i)) (eq-eqb i i refl)
-
-pub later_has : (x i : ℕ) (xs : List ℕ) → has_number xs i ≡ true → has_number (x ∷ xs) i ≡ true
-later_has x i xs has = elim (nat_eq x i) as (λ t. cond t true (has_number xs i) ≡ true) [
-  | true ↦ refl
-  | false ↦ has
-]
 
 -- a call that was made did its step
 pub did : (old new : List Call) (call : Call) (step : FolderMoment → FolderMoment) → effect_of call ≡ step

@@ -407,19 +407,12 @@ ok_map (Err e) P Q f p = tt
 pub pushed : (ok err : Bool) (xs ys zs : List Begun) → ok ≡ not err → err ≡ false → zs ≡ cond ok ys xs → zs ≡ ys
 pushed ok err xs ys zs is so items = items ∙ ap (λ t. cond t ys xs) (is ∙ ap not so)
 
-pub not_pushed : (ok err : Bool) (xs ys zs : List Begun) → ok ≡ not err → err ≡ true → zs ≡ cond ok ys xs → zs ≡ xs
-not_pushed ok err xs ys zs is so items = items ∙ ap (λ t. cond t ys xs) (is ∙ ap not so)
-
 pub where_err : {T E : Type 0} (r : Result T E) (P Q : Type 0) → (P → Q) → OnErr r P → OnErr r Q
 where_err (Ok x) P Q f p = tt
 where_err (Err e) P Q f p = f p
 
 pub count_of : (piece : List ℕ) (n : ℕ) → IsCount piece n → IsCountOf piece n
 count_of piece n is = record { some = is.some; at_most = is.at_most }
-
-pub goes_nowhere : (R : FolderMoment → FolderMoment → Type 0) (a : Moments) → Goes R a a
-goes_nowhere R [] = refl
-goes_nowhere R (w ∷ ws) = none_since
 
 pub none_ready : (bs : List Begun) (ws : Moments) → bs ≡ [] → Now ws (StandsInOrder bs)
 none_ready bs ws none = subst (λ l. Now ws (StandsInOrder l)) (sym none) (each ws)

@@ -3,7 +3,7 @@ use Rattle.std.proofs.Common.{◌≡◌, ◌≢◌, ◌∙◌, ℕ, suc, zero, �
 use Rattle.std.proofs.Common.{◌++◌, length, take, drop, get_or, set, Option, Some, None, refl, ap, sym, subst, arith}
 use Rattle.std.proofs.Common.{drop-cons, add-one}
 use Rattle.std.proofs.Math.Seq.{map-set_same}
-use Rattle.std.specs.Prelude.{Result, Ok, Err, is_err, OnErr, unwrap_or}
+use Rattle.std.specs.Prelude.{unwrap_or}
 use Rattle.std.proofs.Math.Path.{fun_ext}
 use Rattle.std.proofs.lemmas.Bool.{false≢true}
 use Rattle.std.specs.Str.{bytes_eq}
@@ -149,11 +149,6 @@ adds files name bytes h =
     is_set (content_of files) (content_of (files ++ (name, bytes) ∷ [])) name bytes (added_at files name bytes h)
     (λ other ne. added_others files name bytes other ne)
 
--- the stored pairs are as many as the files
-pub length-stored : (files : List File) → length (stored files) ≡ length files
-length-stored [] = refl
-length-stored (file ∷ files) = omega (arith, length-stored files)
-
 -- the pair at a place is that of the file there
 pub get_or-stored : (files : List File) (i : ℕ) (file : File)
     → get_or (stored files) i (pair_of file) ≡ pair_of (get_or files i file)
@@ -247,8 +242,3 @@ taken_some files name bytes into copied at room count e before is some fits copy
       some_and (files name) bytes (IsPartFrom at (take count (copied ++ drop count into))) e
           (subst P (sym (take_at copied (drop count into) count long)) part),
     )
-
--- what a failed call says
-pub at_err : {T E P : Type 0} (r : Result T E) → is_err r ≡ true → OnErr r P → P
-at_err (Ok x) h p = absurd (false≢true h)
-at_err (Err e) h p = p

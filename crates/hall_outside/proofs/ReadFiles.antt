@@ -22,19 +22,7 @@ pub any_file : (files : Option Files) (name : List ℕ) → OnFile files name (�
 any_file None name = tt
 any_file (Some files) name = tt
 
--- what follows of any file follows of the exposed one
-pub on_file_weaker : (files : Option Files) (name : List ℕ) (P Q : Option (List ℕ) → Type 0)
-    → ((file : Option (List ℕ)) → P file → Q file) → OnFile files name P → OnFile files name Q
-on_file_weaker None name P Q step holds = tt
-on_file_weaker (Some files) name P Q step holds = step (files name) holds
-
 module _ {S : Type 0} (of : StoreGhosts S) (name : List ℕ) (limit : ℕ) where
-  -- what holds of all files as found holds of the exposed one
-  pub read_exposed : (P : Option (List ℕ) → Type 0) (old new : S) → OnReadFile of name limit P old new
-      → OnFile (of.files old) name P
-  read_exposed P old new (found, read, holds) =
-      on_file_weaker (of.files old) name (IsFound limit found) P holds read.exposed
-
   -- what follows of any file follows of each as found
   pub read_weaker : (P Q : Option (List ℕ) → Type 0) (old new : S)
       → ((file : Option (List ℕ)) → P file → Q file) → OnReadFile of name limit P old new

@@ -1,12 +1,11 @@
 -- Bytes appended, and files set, part by part.
-use Rattle.std.proofs.Common.{◌≡◌, ◌∙◌, ℕ, ◌+◌, Bool, true, false, List, [], ◌++◌, take, drop, Option, Some, None, refl}
-use Rattle.std.proofs.Common.{ap, sym, subst, append_assoc}
-use Rattle.std.specs.Prelude.{unwrap_or, cond, IsSome}
+use Rattle.std.proofs.Common.{◌≡◌, ◌∙◌, ℕ, ◌+◌, true, false, List, [], ◌++◌, take, drop, Option, Some, None, refl}
+use Rattle.std.proofs.Common.{ap, sym, append_assoc}
+use Rattle.std.specs.Prelude.{unwrap_or, cond}
 use Rattle.std.specs.Str.{bytes_eq}
-use Rattle.std.proofs.lemmas.List.{append-nil}
 use Rattle.std.proofs.Math.Seq.{take-add}
 use Rattle.std.proofs.Math.Path.{fun_ext}
-use Rattle.hall_outside.specs.Files.{Files, OnFile, file_set, with_file}
+use Rattle.hall_outside.specs.Files.{Files, file_set, with_file}
 use Rattle.hall_outside.specs.Writing.{appended, file_appended, with_appended}
 use Rattle.hall_outside.proofs.FileLists.{eq_self}
 
@@ -24,11 +23,6 @@ appended_more (Some before) mid new bytes piece at n p m e =
     e ∙ ap (λ w. appended w (take n piece)) m
     ∙ ap Some (append_assoc before (take at bytes) (take n piece)
     ∙ ap (λ q. before ++ q) (front_grows bytes piece at n p))
-
--- nothing appended changes nothing
-pub appended_none : (written : Option (List ℕ)) → written ≡ appended written []
-appended_none None = refl
-appended_none (Some before) = ap Some (sym (append-nil before))
 
 -- the file that was set last is the one that is there
 set_again : (files : Files) (name first last other : List ℕ)
@@ -56,15 +50,3 @@ put_more (Some files) mid new name bytes piece at n p m e =
     e ∙ ap (λ w. with_appended w name (take n piece)) m
     ∙ ap Some (appended_set files name (take at bytes) (take n piece)
     ∙ ap (file_set files name) (front_grows bytes piece at n p))
-
--- a file that was set is there
-there_now : (files : Option Files) (name bytes : List ℕ) → OnFile (with_file files name bytes) name IsSome
-there_now None name bytes = tt
-there_now (Some files) name bytes = let Q : Bool
-    → Type 0 = λ b. IsSome (cond b (Some bytes) (files name)) in subst Q (sym (eq_self name)) refl
-
--- a file that was set is there afterwards
-pub put_there : (files now : Option Files) (name bytes : List ℕ) → now ≡ with_file files name bytes
-    → OnFile now name IsSome
-put_there files now name bytes e = let P : Option Files
-    → Type 0 = λ w. OnFile w name IsSome in subst P (sym e) (there_now files name bytes)

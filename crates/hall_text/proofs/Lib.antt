@@ -2,6 +2,5 @@ pub mod DigestText
 pub mod Numbers
 pub mod SpanLists
 pub mod TokenLemmas
-pub mod OneSpans
 pub mod NextTokens
 pub mod TextLines

@@ -12,13 +12,6 @@ within_chain W2 n h = omega arith
 within_chain W4 n h = omega arith
 within_chain W8 n h = omega arith
 
--- the place of a checkpoint is a byte
-pub place_fits : (kind : OtsKind) (n : ℕ) → n ≤ chain_checkpoints kind → n * stride kind < 256
-place_fits W1 n h = omega arith
-place_fits W2 n h = omega arith
-place_fits W4 n h = omega arith
-place_fits W8 n h = omega arith
-
 -- the last checkpoint up to a place isn't past it
 pub passed_within : (kind : OtsKind) (place : ℕ) → place / stride kind * stride kind ≤ place
 passed_within W1 place = omega arith

@@ -5,7 +5,7 @@ use Imports.{cases_order, codes, element_at, EntriesGiveOneGraph, Err, false≢t
 use Imports.{is_kept, is_unsettled, IsFirstTooWide, IsNarrowOver, IsTooWideAfter, IsTooWideOver, judged_is_narrow}
 use Imports.{length, length-append, length-take-le, List, map, nodes_of, Ok, one_count, one_place, Post, refl, Refusal}
 use Imports.{refused, Result, row_of, RuleSource, RuleTree, same_count, SameVerdict, SealedEntry, slice_get}
-use Imports.{slice_get_within, Some, source_word, standard, subst, suc, Summary, sym, take, take-take, verdicts_agree}
+use Imports.{Some, source_word, standard, subst, suc, Summary, sym, take, take-take, verdicts_agree}
 use Imports.{watch_line, watch_lines, ℕ, ◌++◌, ◌+◌, ◌<◌, ◌∙◌, ◌∷◌, ◌≡◌, ◌≤◌}
 use Rattle.log_commands.proofs.FilesBegun.{same_found}
 
@@ -22,10 +22,6 @@ lines_more n (t ∷ ss) s =
     (let e : n + 1 + length ss ≡ n + suc (length ss) = omega arith in e)
 
 module _ (machines : List Post) (rules : List RuleTree) (entries : List SealedEntry) where
-  -- of no entry nothing is said
-  pub none_said : AreSummaries machines rules (take 0 entries) []
-  none_said = record { one_each = refl; each = λ n s at. absurd (omega (arith, slice_get_within [] n s at)) }
-
   module _ (k : ℕ) (within : k < length entries) (ss : List Summary) (s : Summary)
       (so_far : AreSummaries machines rules (take k entries) ss)
       (next : After machines rules (take (k + 1) entries) s) where

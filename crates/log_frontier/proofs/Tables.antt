@@ -1,11 +1,10 @@
 -- What the tables say of the entries that were noted.
-use Rattle.std.proofs.Common.{◌≡◌, ℕ, ◌+◌, ◌<◌, Bool, true, false, cond, List, [], ◌∷◌, ◌++◌, length, get_or, take}
-use Rattle.std.proofs.Common.{Option, Some, refl, sym, ap, subst, ◌∙◌, not, arith}
+use Rattle.std.proofs.Common.{◌≡◌, ℕ, ◌+◌, Bool, true, false, cond, List, [], ◌∷◌, ◌++◌, length, get_or, take}
+use Rattle.std.proofs.Common.{Option, Some, refl, sym, ap, ◌∙◌, not, arith}
 use Rattle.std.specs.Prelude.{◌&&◌, ◌||◌, ◌↔◌, IsTrue, if◌then◌else◌, is_some, slice_get}
 use Rattle.std.specs.Str.{bytes_eq}
 use Rattle.std.proofs.lemmas.Bool.{true≢false, false_from_ne_true, and_parts, and_from, not_from_false, not_from_true}
 use Rattle.std.proofs.lemmas.Bool.{or_left, not-true}
-use Rattle.std.proofs.lemmas.List.Elements.{All-nil}
 use Rattle.std.proofs.lemmas.List.Folds.{list_any-append}
 use Rattle.std.proofs.lemmas.Option.{slice_get_read, slice_get_within}
 use Rattle.std.proofs.lemmas.Slice.Eq.{bytes_eq-Decides}
@@ -17,8 +16,8 @@ use Rattle.entry_order.proofs.Naming.{names_digest_of, names_digest_from, is_nam
 use Rattle.entry_order.proofs.Naming.{has_digest_of, has_digest_from}
 use Rattle.log_frontier.specs.Digests.{bears, has, place_by, Wanted}
 use Rattle.log_frontier.specs.inside.Noting.{lacks, lacks_some}
-use Rattle.log_frontier.specs.Places.{Places, AreWanted, AreBorne, IsBorneAt, IsFrontierAt}
-use Rattle.log_frontier.specs.Places.{HasNoDigestTwice, NamesUnborne, StandsFor}
+use Rattle.log_frontier.specs.Places.{AreWanted, AreBorne, IsBorneAt}
+use Rattle.log_frontier.specs.Places.{HasNoDigestTwice, NamesUnborne}
 use Rattle.log_frontier.proofs.Notes.{get_append, last_split}
 
 -- whether there is one, by whether one was put in place of another
@@ -80,19 +79,6 @@ module _ {T : Type 0} (node : T → Node) where
   lacks_by_table es (w ∷ ws) are empty is =
       not_from_false empty (false_from_ne_true empty (λ t. (let none = is.0 t in cc)))
       ∙ sym (lacks_if_wanted es w (sym (are w) ∙ or_left (bytes_eq w w) (has ws w) ((bytes_eq-Decides w w).1 refl)))
-
-  -- a frontier that was made has noted no entry
-  pub StandsFor-none : (places : Places) → places.list ≡ [] →
-      (places.noted ≡ []) × (places.wanted ≡ record { list = []; scans = false }) → StandsFor node [] places
-  StandsFor-none places empty tables = record {
-    front = subst (λ (ps : List ℕ). IsFrontierAt node [] ps) (sym empty)
-        (record { inside = All-nil (λ p. p < 0); digests = refl });
-    noted = record {
-      all = λ d. ap (λ (ds : List (List ℕ × ℕ)). bears ds d) tables.0;
-      places = λ d p is. absurd (cc (is, ap (λ (ds : List (List ℕ × ℕ)). place_by ds d) tables.0));
-    };
-    wanted = λ _ d. ap (λ (w : Wanted). has w.list d) tables.1;
-  }
 
   module _ (held : List T) (place : ℕ) (e : T) (last : place + 1 ≡ length held) (is : e ≡ get_or held place e) where
     -- it is after those before it

@@ -1,18 +1,7 @@
 -- Stations that are taken apart, one after another.
-use Rattle.machine_floor.proofs.Imports.{ℕ, List, [], ◌∷◌, ◌++◌, refl, sym, ap, ◌∙◌, arith, Option, InView, OutView}
+use Rattle.machine_floor.proofs.Imports.{ℕ, List, [], ◌∷◌, ◌++◌, sym, ap, ◌∙◌, Option, InView, OutView}
 use Rattle.machine_floor.proofs.Imports.{SealedEntry, Loss, IsStation, StationState, AreParts, by_of, MachineState}
 use Rattle.machine_floor.proofs.Imports.{flat_map-append, append-nil, map-append, All-push, flat_map}
-
--- before the first
-pub parts_none : AreParts [] [] [] [] [] []
-parts_none = record {
-  all = λ k d lt. absurd (omega arith);
-  machines_are = refl;
-  outs_are = refl;
-  inns_are = refl;
-  losses_are = refl;
-  by_are = refl;
-}
 
 -- one more
 pub parts_push : (done : List StationState) (machines : List MachineState) (outs : List (List (OutView SealedEntry)))

@@ -1,17 +1,15 @@
 -- The rows of the first nodes of a graph, and those with one node more.
 use Rattle.std.proofs.Common.{◌≡◌, ℕ, ◌+◌, ◌-◌, ◌<◌, Bool, false, List, [], ◌∷◌, ◌++◌, length, get_or}
 use Rattle.std.proofs.Common.{sym, ap, ◌∙◌, subst, inl, inr, arith, length-append}
-use Rattle.std.specs.Prelude.{◌||◌, ◌&&◌, not, ◌==◌, slice_index_or, if◌then◌else◌}
+use Rattle.std.specs.Prelude.{◌||◌, ◌&&◌, not, ◌==◌, slice_index_or}
 use Rattle.std.specs.List.{All, list_any, list_all}
 use Rattle.std.proofs.lemmas.Bool.{cases_lt}
 use Rattle.std.proofs.lemmas.List.{get_or_append_left}
 use Rattle.std.proofs.Math.Seq.{get_or-append_right}
-use Rattle.entry_order.specs.declared.three.Three.TheVariants.{False, Unknown, True}
 use Rattle.entry_order.specs.Ancestors.{reaches, is_whole}
 use Rattle.precedence.specs.Graph.{Graph}
 use Rattle.precedence.specs.Bits.{has_bit, row_has}
 use Rattle.precedence.specs.inside.Words.{words_below, HasItsWords}
-use Rattle.precedence.specs.Known.{IsKnownOf}
 use Rattle.precedence.proofs.Steps.{any_below, all_below, reaches_by_parents, whole_by_parents}
 
 -- each of these rows is that of its node
@@ -25,15 +23,6 @@ pub record HasRows (graph : Graph) (rows : List (List ℕ)) (wholes : List Bool)
   -- its flag says whether it is whole
   pub settled : (x : ℕ) → x < length rows →
       slice_index_or wholes x false ≡ is_whole graph.parents graph.ragged x x
-
--- before the first node there is nothing to say
-pub no_rows : (graph : Graph) → HasRows graph [] []
-no_rows graph = record {
-  words = λ x l. absurd (omega arith);
-  descends = λ x l. absurd (omega arith);
-  bits = λ x y l. absurd (omega arith);
-  settled = λ x l. absurd (omega arith);
-}
 
 module _ {X : Type 0} (xs : List X) (x d : X) where
   -- the last member is what was added
@@ -130,16 +119,3 @@ next_node graph rows wholes have n many even parents are below seen same row bit
     ∙ ap (λ (ps : List ℕ). not ragged && list_all (λ z. slice_index_or wholes z false) ps) theirs
     ∙ ap (λ b. not b && list_all (λ z. slice_index_or wholes z false) (graph.parents (length rows)))
     (is ∙ ap graph.ragged at))
-
--- all rows of a graph say what is known of it
-pub known_of : (graph : Graph) (rows : List (List ℕ)) (wholes : List Bool) → HasRows graph rows wholes →
-    length rows ≡ graph.count → IsKnownOf graph (record { rows = rows; whole = wholes })
-known_of graph rows wholes have all = record {
-  nodes = all;
-  orders = λ y x l.
-      ap (λ b. if b then True else if slice_index_or wholes x false then False else Unknown)
-      (have.bits x y (omega arith))
-      ∙ ap (λ b. if reaches graph.parents x y x then True else if b then False else Unknown)
-      (have.settled x (omega arith));
-  wholes = λ x l. have.settled x (omega arith);
-}

@@ -37,17 +37,6 @@ pub record AreListed (rows : List Row) (by : Key) (n : ℕ) (found : List Found)
   pub only : (it : Found) → Contains found it →
       (row : Row) × (slice_get rows it.place ≡ Some row) × (it.number ≡ number_in by row)
 
--- no row is listed at first
-pub listed_none : (rows : List Row) (by : Key) → AreListed rows by 0 []
-listed_none rows by = record {
-  each = λ j row below at. absurd (omega (arith, below));
-  only = λ it there. absurd (none it there);
-}
-  where
-    -- nothing is in an empty list
-    none : (it : Found) → Contains [] it → ⊥
-    none it (k, within, is) = omega (arith, within)
-
 -- one row more
 pub listed_more : (rows : List Row) (by : Key) (n number : ℕ) (found : List Found) (d : Row) → n < length rows →
     number ≡ number_in by (get_or rows n d) → AreListed rows by n found →

@@ -1,7 +1,7 @@
 -- Over which rows the quantifiers of formulas go.
 use Rattle.std.proofs.Common.{◌||◌}
-use Rattle.rule_engine.proofs.Imports.{◌≡◌, ◌∙◌, ap, refl, sym, ℕ, ◌+◌, ◌<◌, ◌≤◌, Bool, true, false, List, ◌∷◌}
-use Rattle.rule_engine.proofs.Imports.{length, Box, Global, rules, drop, get_or, or-false, drop_more, drop_all, Row}
+use Rattle.rule_engine.proofs.Imports.{◌≡◌, ◌∙◌, ap, refl, sym, ℕ, ◌+◌, ◌<◌, Bool, true, false, List, ◌∷◌}
+use Rattle.rule_engine.proofs.Imports.{length, Box, Global, rules, drop, get_or, or-false, drop_more, Row}
 use Rattle.rule_engine.proofs.Imports.{Formula, Implies, the_lemmas, Trees, no_trees, tree_then, in_front, tree_of}
 use Rattle.rule_engine.proofs.Imports.{trees_of, shape, reaches_row, is_of, kind_of_all}
 use Rattle.rule_language.specs.declared.form.Form.TheVariants as form
@@ -41,7 +41,3 @@ module _ (row : Row) where
       ap (λ (gs : List Formula). reach (trees_of gs))
       (drop_more fs i f within ∙ ap (λ (g : Formula). g ∷ drop (i + 1) fs) (sym is))
       ∙ reach-in_front f (trees_of (drop (i + 1) fs))
-
-  -- after the last formula there is none
-  pub reach_none : (fs : List Formula) (i : ℕ) → length fs ≤ i → reach (trees_of (drop i fs)) ≡ false
-  reach_none fs i over = ap (λ (gs : List Formula). reach (trees_of gs)) (drop_all i fs over)

@@ -1,8 +1,8 @@
 -- The values that the code comes to, step by step.
-use Rattle.rule_meaning.proofs.Imports.{◌≡◌, ◌∙◌, ap, sym, refl, ℕ, zero, suc, ◌+◌, ◌-◌, ◌<◌, ◌≤◌, Bool, true, false}
-use Rattle.rule_meaning.proofs.Imports.{cond, Option, Some, None, ◌++◌, ◌&&◌, List, [], ◌∷◌, map, drop, get_or}
+use Rattle.rule_meaning.proofs.Imports.{◌≡◌, ◌∙◌, ap, sym, refl, ℕ, zero, suc, ◌+◌, ◌-◌, ◌<◌, Bool, true, false}
+use Rattle.rule_meaning.proofs.Imports.{cond, Option, Some, None, ◌++◌, ◌&&◌, List, [], ◌∷◌, map}
 use Rattle.rule_meaning.proofs.Imports.{length, Vec, Global, Box, rules, arith, slice_get, filter, range_with_len}
-use Rattle.rule_meaning.proofs.Imports.{drop_more, drop_all, and-true, Three, False, Unknown, True, Row, Kind}
+use Rattle.rule_meaning.proofs.Imports.{and-true, Three, False, Unknown, True, Row, Kind}
 use Rattle.rule_meaning.proofs.Imports.{Formula, And, Or, Implies, ForEvery, ForSome, EveryBefore, SomeBefore, Before}
 use Rattle.rule_meaning.proofs.Imports.{Next, Is, OfKind, Equal, Less, the_lemmas, Term, Role, fun_ext, Trees}
 use Rattle.rule_meaning.proofs.Imports.{no_trees, tree_then, in_front, tree_of, both, either, opposite, least}
@@ -30,20 +30,6 @@ both_assoc Unknown True z = refl
 both_assoc Unknown Unknown False = refl
 both_assoc Unknown Unknown Unknown = refl
 both_assoc Unknown Unknown True = refl
-
--- one member more
-pub least_more : {X : Type 0} (f : X → Three) (xs : List X) (i : ℕ) (x : X) (acc : Three) → i < length xs →
-    x ≡ get_or xs i x →
-    both acc (least (map f (drop i xs))) ≡ both (both acc (f x)) (least (map f (drop (i + 1) xs)))
-least_more f xs i x acc within is =
-    ap (λ (ys : List _). both acc (least (map f ys)))
-    (drop_more xs i x within ∙ ap (λ y. y ∷ drop (i + 1) xs) (sym is))
-    ∙ both_assoc acc (f x) (least (map f (drop (i + 1) xs)))
-
--- after the last member the least so far is the whole
-pub least_done : {X : Type 0} (f : X → Three) (xs : List X) (i : ℕ) (acc : Three) → length xs ≤ i →
-    both acc (least (map f (drop i xs))) ≡ acc
-least_done f xs i acc over = ap (λ (ys : List _). both acc (least (map f ys))) (drop_all i xs over) ∙ both_true acc
 
 -- one place more
 pub over_more : (f : ℕ → Three) (p : ℕ → Bool) (i n : ℕ) (acc : Three) (b : Bool) → p i ≡ b → 0 < n →

@@ -1,6 +1,6 @@
 -- Values over some rows in place of all.
 use Rattle.rule_meaning.proofs.Imports.{◌≡◌, ◌∙◌, ap, sym, refl, subst, ℕ, zero, suc, ◌+◌, ◌-◌, ◌<◌, ◌≤◌, Bool}
-use Rattle.rule_meaning.proofs.Imports.{true, false, ◌&&◌, cond, Option, Some, None, List, length, get_or, arith, inl, inr}
+use Rattle.rule_meaning.proofs.Imports.{true, false, ◌&&◌, cond, Option, Some, List, length, get_or, arith, inl, inr}
 use Rattle.rule_meaning.proofs.Imports.{slice_get, Contains, false≢true, Three, False, Unknown, True, Row, Kind, Formula}
 use Rattle.rule_meaning.proofs.Imports.{filter, range_with_len, get_or-range_with_len, length-range_with_len, places}
 use Rattle.rule_meaning.proofs.Imports.{Contains-filter, Contains-filter_cases, slice_get_within}
@@ -80,11 +80,6 @@ module _ (rows : List Row) (order : ℕ → ℕ → Three) (wholes : ℕ → Boo
   -- the least from a row on
   abbrev pub rest : ℕ → Three
   rest i = over_from rows order wholes some body v kind within env i (length rows - i)
-
-  -- where no row is nothing is added
-  no_row : (j : ℕ) → slice_get rows j ≡ None → at j ≡ True
-  no_row j lost = ap (λ (o : Option Row). cond (has_kind kind o && is_in order within j) (signed some (value j)) True)
-      lost
 
   -- a row at which the body's value changes nothing adds nothing
   pub settled_at : (j : ℕ) → value j ≡ as_three (not some) → at j ≡ True

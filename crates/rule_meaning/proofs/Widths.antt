@@ -1,8 +1,8 @@
 -- How wide rules are, step by step.
-use Rattle.rule_meaning.proofs.Imports.{◌≡◌, ◌∙◌, ap, sym, ℕ, ◌+◌, ◌<◌, ◌≤◌, Bool, true, false, ◌||◌, List, ◌∷◌}
-use Rattle.rule_meaning.proofs.Imports.{length, drop, get_or, Box, Global, rules, or-false, drop_more, drop_all, Row}
+use Rattle.rule_meaning.proofs.Imports.{◌≡◌, ◌∙◌, ap, sym, ℕ, Bool, true, false, ◌||◌, List}
+use Rattle.rule_meaning.proofs.Imports.{length, Box, Global, rules, or-false, Row}
 use Rattle.rule_meaning.proofs.Imports.{Kind, Formula, ForEvery, ForSome, EveryBefore, SomeBefore, Implies}
-use Rattle.rule_meaning.proofs.Imports.{the_lemmas, Trees, no_trees, tree_then, in_front, tree_of, trees_of, shape}
+use Rattle.rule_meaning.proofs.Imports.{the_lemmas, Trees, no_trees, tree_then, in_front, tree_of, shape}
 use Rattle.rule_meaning.proofs.Imports.{is_too_wide, widens, widens_by, quantified_kind, count_of_rows, has_kind}
 use Rattle.rule_meaning.proofs.Imports.{Some, refl, arith}
 use Rattle.std.proofs.lemmas.List.Recursion.{is_count_by}
@@ -31,18 +31,6 @@ module _ (rows : List Row) (width : ℕ) where
       search (rules, the_lemmas) in
       ap wide view ∙ or-false (wide (in_front f.value (in_front g.value no_trees)))
       ∙ wide-in_front f.value (in_front g.value no_trees)
-
-  -- one formula more
-  pub wide_more : (fs : List Formula) (i : ℕ) (f : Formula) → i < length fs → f ≡ get_or fs i f →
-      wide (trees_of (drop i fs)) ≡ (wide (tree_of f) || wide (trees_of (drop (i + 1) fs)))
-  wide_more fs i f within is =
-      ap (λ (gs : List Formula). wide (trees_of gs))
-      (drop_more fs i f within ∙ ap (λ (g : Formula). g ∷ drop (i + 1) fs) (sym is))
-      ∙ wide-in_front f (trees_of (drop (i + 1) fs))
-
-  -- after the last formula nothing is too wide
-  pub wide_none : (fs : List Formula) (i : ℕ) → length fs ≤ i → wide (trees_of (drop i fs)) ≡ false
-  wide_none fs i over = ap (λ (gs : List Formula). wide (trees_of gs)) (drop_all i fs over)
 
   -- an `every` widens what is in it by the rows of its kind
   pub wide-ForEvery : (v : ℕ) (kind : Kind) (body : Box Formula Global) →

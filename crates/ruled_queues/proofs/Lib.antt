@@ -1,2 +1,1 @@
-pub mod SameQueue
 pub mod Views
