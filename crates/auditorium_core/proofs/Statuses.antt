@@ -1,10 +1,9 @@
 -- What the status of an answer says of the words.
-use Rattle.auditorium_core.proofs.Imports.{All-contains, Answer, AnswersWords, AreGood, Command, command_parts}
-use Rattle.auditorium_core.proofs.Imports.{Contains, Files, HasItsWords, inl, inr, IsOfAnswers, IsOfCommands, List, map}
-use Rattle.auditorium_core.proofs.Imports.{Means, None, OnExposed, Option, refl, Some, Status, subst, usage_answer, ℕ}
-use Rattle.auditorium_core.proofs.Imports.{◌≡◌}
-use Rattle.auditorium_core.proofs.Commands.{have_statuses}
 use Rattle.command_line.specs.declared.status.Status.TheVariants as status
+use Rattle.auditorium_core.proofs.{Commands.have_statuses, Imports.All-contains}
+use Rattle.auditorium_core.proofs.Imports.{Answer, AnswersWords, AreGood, Command, command_parts, Contains, Files}
+use Rattle.auditorium_core.proofs.Imports.{HasItsWords, inl, inr, IsOfAnswers, IsOfCommands, List, map, Means, None}
+use Rattle.auditorium_core.proofs.Imports.{OnExposed, Option, refl, Some, Status, subst, usage_answer, ℕ, ◌≡◌}
 
 -- a status that a command can have is one that an answer can have
 of_command : (how : Status) → IsOfCommands how → IsOfAnswers how

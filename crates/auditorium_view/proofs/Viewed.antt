@@ -1,25 +1,17 @@
 -- What is answered for what is read.
-use Rattle.std.proofs.Common.{◌≡◌, ◌≢◌, ◌∙◌, ◌↔◌, ℕ, List, Option, Some, sym, ap, subst}
-use Rattle.std.specs.Prelude.{Result, Ok, Err, IfOk, IfErr}
-use Rattle.hall_outside.specs.declared.stores.Store.{Ghosts as StoreGhosts}
-use Rattle.evidence.specs.declared.fault.InputFault.{InputFault}
 use Rattle.evidence.specs.declared.fault.InputFault.TheVariants as audit
-use Rattle.evidence.specs.Refusal.{Refusal}
-use Rattle.evidence.specs.Reading.{IsReadFrom}
-use Rattle.auditor.specs.Report.{AuditReport, ReportParts, report_of}
-use Rattle.auditor.specs.Outcomes.{outcome_of}
-use Rattle.auditor.specs.Audits.{GivesReport, audit_files}
-use Rattle.auditor.specs.Sources.{RuleSource}
-use Rattle.command_line.specs.declared.answer.Fault.{Fault}
-use Rattle.command_line.specs.declared.answer.Fault.TheVariants.{ReadFault, Memory}
 use Rattle.command_line.specs.declared.status.Status.TheVariants as status
-use Rattle.command_line.specs.Lines.{Answer}
-use Rattle.command_line.specs.Reports.{source_named}
+use Rattle.auditor.specs.{Audits.audit_files, Audits.GivesReport, Outcomes.outcome_of, Report.AuditReport}
+use Rattle.auditor.specs.{Report.report_of, Report.ReportParts, Sources.RuleSource}
+use Rattle.auditorium_view.specs.{Shown.IsViewedBy, View.view_answer, ViewWords.ViewRequest}
 use Rattle.command_line.proofs.Faults.{IsAnswerOfFault, or_answered, or_refused}
 use Rattle.command_line.proofs.ReportStatuses.{not_absent}
-use Rattle.auditorium_view.specs.ViewWords.{ViewRequest}
-use Rattle.auditorium_view.specs.View.{view_answer}
-use Rattle.auditorium_view.specs.Shown.{IsViewedBy}
+use Rattle.command_line.specs.{Lines.Answer, Reports.source_named, declared.answer.Fault.Fault}
+use Rattle.command_line.specs.declared.answer.Fault.TheVariants.{Memory, ReadFault}
+use Rattle.evidence.specs.{Reading.IsReadFrom, Refusal.Refusal, declared.fault.InputFault.InputFault}
+use Rattle.hall_outside.specs.declared.stores.Store.{Ghosts as StoreGhosts}
+use Rattle.std.proofs.Common.{ap, List, Option, Some, subst, sym, ℕ, ◌↔◌, ◌∙◌, ◌≡◌, ◌≢◌}
+use Rattle.std.specs.Prelude.{Err, IfErr, IfOk, Ok, Result}
 
 module _ {S : Type 0} (of : StoreGhosts S) (digests : List (Option (List ℕ))) (request : ViewRequest)
     (old new : S) where

@@ -1,23 +1,19 @@
 -- Each deed has an answer after each history.
-use Rattle.std.proofs.Common.{◌≡◌, ℕ, Bool, List}
-use Rattle.std.specs.Prelude.{Result}
-use Rattle.std.specs.Bool.{Decides}
-use Rattle.entry_format.specs.declared.deed.Deed.{Deed}
-use Rattle.entry_format.specs.declared.deed.Deed.TheVariants.{Authorise, Override, Closed, Activate, Commit}
-use Rattle.entry_format.specs.declared.deed.Deed.TheVariants.{Cast, Cancel, Challenge}
-use Rattle.entry_format.specs.declared.deed.How.{How}
 use Rattle.entry_format.specs.declared.deed.How.TheVariants as word
-use Rattle.entry_format.specs.declared.entry.Entry.{Entry}
-use Rattle.deed_history.specs.Deeds.{Overrides, Commits, Ends}
-use Rattle.deed_history.proofs.Deciding.{Decided, some_is, own_is, not_is, AreDecided, first_decided}
-use Rattle.deed_history.proofs.Deciding.{is_closed, closed_decides, authorises_booth, authorises_booth_decides}
-use Rattle.deed_history.proofs.Deciding.{overrides, overrides_decides, overrides_by, overrides_by_decides}
-use Rattle.deed_history.proofs.Deciding.{activates, activates_decides, commits, commits_decides, commits_to}
-use Rattle.deed_history.proofs.Deciding.{commits_to_decides, ends, ends_decides}
-use Rattle.booth_core.specs.declared.state.BoothNot.{BoothNot}
-use Rattle.booth_core.specs.Causes.{IsAuthorised, IsOverridden, IsOverriddenTo, IsClosed, HasActivated}
-use Rattle.booth_core.specs.Causes.{HasCommitted, HasCommittedTo, HasEndedOwn}
-use Rattle.booth_core.specs.Table.{causes_of, Refuses}
+use Rattle.booth_core.specs.Causes.{HasActivated, HasCommitted, HasCommittedTo, HasEndedOwn, IsAuthorised, IsClosed}
+use Rattle.booth_core.specs.Causes.{IsOverridden, IsOverriddenTo}
+use Rattle.booth_core.specs.{Table.causes_of, Table.Refuses, declared.state.BoothNot.BoothNot}
+use Rattle.deed_history.proofs.Deciding.{activates, activates_decides, AreDecided, authorises_booth}
+use Rattle.deed_history.proofs.Deciding.{authorises_booth_decides, closed_decides, commits, commits_decides, commits_to}
+use Rattle.deed_history.proofs.Deciding.{commits_to_decides, Decided, ends, ends_decides, first_decided, is_closed}
+use Rattle.deed_history.proofs.Deciding.{not_is, overrides, overrides_by, overrides_by_decides, overrides_decides}
+use Rattle.deed_history.proofs.Deciding.{own_is, some_is}
+use Rattle.deed_history.specs.Deeds.{Commits, Ends, Overrides}
+use Rattle.entry_format.specs.declared.deed.Deed.{Deed, TheVariants.Activate, TheVariants.Authorise}
+use Rattle.entry_format.specs.declared.deed.Deed.TheVariants.{Cancel, Cast, Challenge, Closed, Commit, Override}
+use Rattle.entry_format.specs.declared.{deed.How.How, entry.Entry.Entry}
+use Rattle.std.proofs.Common.{Bool, List, ℕ, ◌≡◌}
+use Rattle.std.specs.{Bool.Decides, Prelude.Result}
 
 -- a test decides whether the session is authorised at this booth
 authorised_is : (owner : ℕ) (entries : List Entry) (session : ℕ) → Decided (IsAuthorised owner entries session)

@@ -1,18 +1,14 @@
 -- The state after one entry more.
-use Rattle.std.proofs.Common.{◌≡◌, ℕ, Bool, true, false, cond, ◌||◌, List, [], ◌∷◌, ◌++◌, refl, sym, subst, ap}
-use Rattle.std.specs.Prelude.{◌↔◌, Option, Some, None}
-use Rattle.std.specs.Bool.{Decides}
-use Rattle.entry_format.specs.declared.deed.Deed.{Deed}
-use Rattle.entry_format.specs.declared.deed.Deed.TheVariants.{Authorise, Override, Closed, Activate, Commit}
 use Rattle.entry_format.specs.declared.deed.How.TheVariants as word
-use Rattle.entry_format.specs.declared.entry.Entry.{Entry}
+use Rattle.booth_core.specs.{Notes.Notes, State.StandsFor, declared.commitment.Commitment.Commitment}
+use Rattle.deed_history.proofs.Deciding.{closed_decides, is_closed}
+use Rattle.deed_history.proofs.Entries.{added, if_own, own_listed, some_listed, some_marked}
+use Rattle.deed_history.proofs.Told.{activated_in, activated_says, ended_in, ended_says, overridden_in, overridden_says}
 use Rattle.deed_history.specs.Deeds.{Ends}
-use Rattle.deed_history.proofs.Deciding.{is_closed, closed_decides}
-use Rattle.deed_history.proofs.Entries.{added, if_own, some_marked, own_listed, some_listed}
-use Rattle.deed_history.proofs.Told.{overridden_in, overridden_says, activated_in, activated_says, ended_in, ended_says}
-use Rattle.booth_core.specs.declared.commitment.Commitment.{Commitment}
-use Rattle.booth_core.specs.Notes.{Notes}
-use Rattle.booth_core.specs.State.{StandsFor}
+use Rattle.entry_format.specs.declared.deed.Deed.{Deed, TheVariants.Activate, TheVariants.Authorise, TheVariants.Closed}
+use Rattle.entry_format.specs.declared.{deed.Deed.TheVariants.Commit, deed.Deed.TheVariants.Override, entry.Entry.Entry}
+use Rattle.std.proofs.Common.{[], ap, Bool, cond, false, List, refl, subst, sym, true, ℕ, ◌++◌, ◌||◌, ◌∷◌, ◌≡◌}
+use Rattle.std.specs.{Bool.Decides, Prelude.None, Prelude.Option, Prelude.Some, Prelude.◌↔◌}
 
 -- the session of an Authorise, where a test says whether that is of this booth
 abbrev authorised_here : Bool → Deed → Option ℕ

@@ -1,20 +1,16 @@
 -- A booth's table over histories and deeds of version 1.
-use Rattle.std.proofs.Common.{◌≡◌, ℕ, List, refl, subst}
-use Rattle.std.specs.Prelude.{All, ◌↔◌}
-use Rattle.entry_format.specs.declared.deed.Deed.{Deed}
-use Rattle.entry_format.specs.declared.deed.Deed.TheVariants.{Opened, Authorise, Override, Closed, Activate, Commit}
-use Rattle.entry_format.specs.declared.deed.Deed.TheVariants.{Cast, Cancel, Challenge}
 use Rattle.entry_format.specs.declared.deed.How.TheVariants as word
-use Rattle.entry_format.specs.declared.entry.Entry.{Entry}
-use Rattle.entry_format.specs.EntryText.{IsDeedIn}
-use Rattle.deed_history.specs.Deeds.{Overrides, Ends}
-use Rattle.deed_history.specs.VersionOne.{EndsInVersion1}
-use Rattle.deed_history.proofs.VersionOne.{any_alike, no_challenge, no_cast_override, overrides_alike, ends_alike}
-use Rattle.deed_history.proofs.VersionOne.{IsAlike, IsNoneOf}
+use Rattle.booth_core.specs.{Causes.HasEndedOwn, Causes.IsOverridden, Causes.IsOverriddenTo, Table.causes_of}
+use Rattle.booth_core.specs.VersionOne.{causes_in_version_1, HasEndedInVersion1, IsOverriddenInVersion1}
 use Rattle.booth_core.specs.declared.state.BoothNot.TheVariants.{CastForced}
-use Rattle.booth_core.specs.Causes.{IsOverridden, IsOverriddenTo, HasEndedOwn}
-use Rattle.booth_core.specs.Table.{causes_of}
-use Rattle.booth_core.specs.VersionOne.{HasEndedInVersion1, IsOverriddenInVersion1, causes_in_version_1}
+use Rattle.deed_history.proofs.VersionOne.{any_alike, ends_alike, IsAlike, IsNoneOf, no_cast_override, no_challenge}
+use Rattle.deed_history.proofs.VersionOne.{overrides_alike}
+use Rattle.deed_history.specs.{Deeds.Ends, Deeds.Overrides, VersionOne.EndsInVersion1}
+use Rattle.entry_format.specs.{EntryText.IsDeedIn, declared.deed.Deed.Deed, declared.deed.Deed.TheVariants.Activate}
+use Rattle.entry_format.specs.declared.deed.Deed.TheVariants.{Authorise, Cancel, Cast, Challenge, Closed, Commit}
+use Rattle.entry_format.specs.declared.{deed.Deed.TheVariants.Opened, deed.Deed.TheVariants.Override, entry.Entry.Entry}
+use Rattle.std.proofs.Common.{List, refl, subst, ℕ, ◌≡◌}
+use Rattle.std.specs.Prelude.{All, ◌↔◌}
 
 -- the entries have deeds of version 1 alone
 abbrev AreOfVersion1 : List Entry → Type 0

@@ -1,15 +1,11 @@
 -- What the tests of a booth's rows decide.
-use Rattle.std.proofs.Common.{◌≡◌, ◌⊎◌, ℕ, Bool, List, inl, inr, refl, subst, ap}
-use Rattle.std.specs.Prelude.{Any, Contains, IsTrue, ◌↔◌}
-use Rattle.entry_format.specs.declared.deed.Deed.TheVariants.{Override}
-use Rattle.entry_format.specs.declared.deed.How.{How}
 use Rattle.entry_format.specs.declared.deed.How.TheVariants as word
-use Rattle.entry_format.specs.declared.entry.Entry.{Entry}
+use Rattle.booth_core.specs.Causes.{HasCommitted, HasCommittedTo, IsOverridden, IsOverriddenTo}
+use Rattle.booth_core.specs.{Notes.Notes, State.StandsFor, declared.commitment.Commitment.Commitment}
 use Rattle.deed_history.proofs.Deciding.{Decided}
-use Rattle.booth_core.specs.declared.commitment.Commitment.{Commitment}
-use Rattle.booth_core.specs.Causes.{IsOverridden, IsOverriddenTo, HasCommitted, HasCommittedTo}
-use Rattle.booth_core.specs.Notes.{Notes}
-use Rattle.booth_core.specs.State.{StandsFor}
+use Rattle.entry_format.specs.declared.{deed.Deed.TheVariants.Override, deed.How.How, entry.Entry.Entry}
+use Rattle.std.proofs.Common.{ap, Bool, inl, inr, List, refl, subst, ℕ, ◌≡◌, ◌⊎◌}
+use Rattle.std.specs.Prelude.{Any, Contains, IsTrue, ◌↔◌}
 
 -- a commitment
 abbrev to : List ℕ → ℕ → Commitment

@@ -1,9 +1,8 @@
 -- The calls by which files are put.
-use Rattle.std.proofs.Common.{length, Bool, true, false}
-use Rattle.std.proofs.Common.{Option}
-use Rattle.command_line.proofs.Imports.{◌≡◌, ◌∙◌, ℕ, ◌+◌, ◌<◌, List, [], ◌∷◌, get_or, drop, sym, subst, ap, inr}
-use Rattle.command_line.proofs.Imports.{refl, Result, drop_more, PutsFile, Failed, with_files, SetsSome, PutsAll}
-use Rattle.command_line.proofs.Imports.{inl, PlacesAll, StoreGhosts, Files, with_file}
+use Rattle.command_line.proofs.Imports.{[], ap, drop, drop_more, Failed, Files, get_or, inl, inr, List, PlacesAll}
+use Rattle.command_line.proofs.Imports.{PutsAll, PutsFile, refl, Result, SetsSome, StoreGhosts, subst, sym, with_file}
+use Rattle.command_line.proofs.Imports.{with_files, ℕ, ◌+◌, ◌<◌, ◌∙◌, ◌∷◌, ◌≡◌}
+use Rattle.std.proofs.Common.{Bool, false, length, Option, true}
 
 -- the rest of the files begins with the one at its place
 rest_from : (files : List (List ℕ × List ℕ)) (i : ℕ) (file : List ℕ × List ℕ) → i < length files →

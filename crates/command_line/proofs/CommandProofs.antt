@@ -1,10 +1,9 @@
 -- What is shown of each command.
-use Rattle.std.proofs.Common.{Option}
-use Rattle.command_line.proofs.Imports.{◌≡◌, List, ℕ, inl, inr, ap, sym, subst, Result, ⊤, Refusal}
-use Rattle.command_line.proofs.Imports.{absent, refused, Status, Answer, OrRefused, refusal_answer, CommandParts}
-use Rattle.command_line.proofs.Imports.{IsCarriedOut}
-use Rattle.std.specs.List.{All, Contains}
 use Rattle.command_line.specs.declared.status.Status.TheVariants as status
+use Rattle.command_line.proofs.Imports.{absent, Answer, ap, CommandParts, inl, inr, IsCarriedOut, List, OrRefused}
+use Rattle.command_line.proofs.Imports.{Refusal, refusal_answer, refused, Result, Status, subst, sym, ℕ, ⊤, ◌≡◌}
+use Rattle.std.proofs.Common.{Option}
+use Rattle.std.specs.List.{All, Contains}
 
 -- the statuses that the answer of a command can have
 abbrev pub IsOfCommands : Status → Type 0

@@ -1,13 +1,12 @@
 -- The answers where what an audit goes on is refused.
-use Rattle.std.proofs.Common.{◌↔◌, Option, Some}
-use Rattle.command_line.proofs.Imports.{◌≡◌, ◌≢◌, ◌∙◌, ℕ, List, None, inl, inr, refl, sym, ap, subst, Result, Ok}
-use Rattle.command_line.proofs.Imports.{Err, IfOk, IfOk-weaker, IfErr, IfSome, IsSomeAnd, InputFault, Refusal}
-use Rattle.command_line.proofs.Imports.{refusal_of, IsAbsent}
-use Rattle.command_line.proofs.Imports.{StoreGhosts, OnRead, on_weaker, IsReadFrom, stands, no_cause}
-use Rattle.command_line.proofs.Imports.{cause_as, Fault, Answer, OrRefused, refusal_answer, IsAnswered}
 use Rattle.evidence.specs.declared.fault.InputFault.TheVariants as audit
-use Rattle.command_line.specs.declared.answer.Fault.TheVariants.{ReadFault, Memory}
 use Rattle.command_line.specs.declared.status.Status.TheVariants as status
+use Rattle.command_line.proofs.Imports.{Answer, ap, cause_as, Err, Fault, IfErr, IfOk, IfOk-weaker, IfSome, inl}
+use Rattle.command_line.proofs.Imports.{InputFault, inr, IsAbsent, IsAnswered, IsReadFrom, IsSomeAnd, List, no_cause}
+use Rattle.command_line.proofs.Imports.{None, Ok, on_weaker, OnRead, OrRefused, refl, Refusal, refusal_answer}
+use Rattle.command_line.proofs.Imports.{refusal_of, Result, stands, StoreGhosts, subst, sym, ℕ, ◌∙◌, ◌≡◌, ◌≢◌}
+use Rattle.command_line.specs.declared.answer.Fault.TheVariants.{Memory, ReadFault}
+use Rattle.std.proofs.Common.{Option, Some, ◌↔◌}
 
 -- the answer of a fault is a refusal's
 abbrev pub IsAnswerOfFault : InputFault → Answer → Type 0

@@ -1,13 +1,12 @@
 -- The supervisor names none of its own entries.
-use Rattle.counterexamples.proofs.Imports.{opened_decides, ◌≡◌, ℕ, zero, suc, false, List, [], ◌∷◌, ◌++◌, inl, inr}
-use Rattle.counterexamples.proofs.Imports.{refl, arith, Deed, node_of_sealed, SealedEntry, Event, Sent, Got, held}
-use Rattle.counterexamples.proofs.Imports.{IsNew, Distinct, World, history, sent_in, IsNew-from_test, Post, Supervisor}
-use Rattle.counterexamples.proofs.Imports.{Booth, k2_body, Holds, row_of, MayAs, role_at, FailsAtSome, IsNextUnchained}
-use Rattle.counterexamples.proofs.Imports.{IsHonestUnchained}
-use Rattle.counterexamples.proofs.ExampleFacts.{distinct_two, no_path}
-use Rattle.counterexamples.proofs.NotHeld.{may_authorise, no_own}
-use Rattle.counterexamples.proofs.SmallPlaces.{EachSent, each_sent, machine, made}
 use Rattle.entry_format.specs.declared.deed.Deed.TheVariants as deed
+use Rattle.counterexamples.proofs.{ExampleFacts.distinct_two, ExampleFacts.no_path, Imports.[]}
+use Rattle.counterexamples.proofs.Imports.{arith, Booth, Deed, Distinct, Event, FailsAtSome, false, Got, held, history}
+use Rattle.counterexamples.proofs.Imports.{Holds, inl, inr, IsHonestUnchained, IsNew, IsNew-from_test, IsNextUnchained}
+use Rattle.counterexamples.proofs.Imports.{k2_body, List, MayAs, node_of_sealed, opened_decides, Post, refl, role_at}
+use Rattle.counterexamples.proofs.Imports.{row_of, SealedEntry, Sent, sent_in, suc, Supervisor, World, zero, ℕ, ◌++◌}
+use Rattle.counterexamples.proofs.{Imports.◌∷◌, Imports.◌≡◌, NotHeld.may_authorise, NotHeld.no_own}
+use Rattle.counterexamples.proofs.SmallPlaces.{each_sent, EachSent, machine, made}
 
 -- a supervisor, and a booth that sends nothing
 abbrev posts : List Post

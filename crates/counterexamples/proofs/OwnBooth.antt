@@ -1,12 +1,11 @@
 -- A rule that compares the booth of the wrong entry.
-use Rattle.counterexamples.proofs.Imports.{opened_decides, closed_decides, ends_decides, activates_decides}
-use Rattle.counterexamples.proofs.Imports.{overrides_decides, ℕ, zero, suc, List, [], ◌∷◌, inr, refl, arith, Deed}
-use Rattle.counterexamples.proofs.Imports.{node_of_sealed, SealedEntry, Event, Step, Act, Hear, World, history, sent_in}
-use Rattle.counterexamples.proofs.Imports.{Post, Supervisor, Booth, Holds, row_of, IsHonest, MayAs, role_at}
-use Rattle.counterexamples.proofs.Imports.{FailsAtSome, own_booth}
-use Rattle.counterexamples.proofs.NotHeld.{may_authorise, no_any, no_own}
-use Rattle.counterexamples.proofs.SmallPlaces.{EachSent, each_sent, machine, made, place, place_orderly, place_distinct}
 use Rattle.entry_format.specs.declared.deed.Deed.TheVariants as deed
+use Rattle.counterexamples.proofs.Imports.{[], Act, activates_decides, arith, Booth, closed_decides, Deed, ends_decides}
+use Rattle.counterexamples.proofs.Imports.{Event, FailsAtSome, Hear, history, Holds, inr, IsHonest, List, MayAs}
+use Rattle.counterexamples.proofs.Imports.{node_of_sealed, opened_decides, overrides_decides, own_booth, Post, refl}
+use Rattle.counterexamples.proofs.Imports.{role_at, row_of, SealedEntry, sent_in, Step, suc, Supervisor, World, zero, ℕ}
+use Rattle.counterexamples.proofs.{Imports.◌∷◌, NotHeld.may_authorise, NotHeld.no_any, NotHeld.no_own}
+use Rattle.counterexamples.proofs.SmallPlaces.{each_sent, EachSent, machine, made, place, place_distinct, place_orderly}
 
 -- a supervisor and a booth
 abbrev posts : List Post

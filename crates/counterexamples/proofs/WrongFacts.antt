@@ -1,11 +1,9 @@
 -- The wrong definitions fail at their examples.
-use Rattle.counterexamples.proofs.Imports.{[], ◌∷◌, refl, arith, Contains, Got, IsNamedIn, Distinct, sent_in}
-use Rattle.counterexamples.proofs.Imports.{HeldBefore.itself, OrderIsReceiptIn, IsFrontier, digest_of, shown}
-use Rattle.counterexamples.proofs.Imports.{example_entry, b1, OwnLastFails, frontier_by_arrival, heard, ArrivalFails}
-use Rattle.counterexamples.proofs.Imports.{ByOthersFails}
-use Rattle.counterexamples.specs.Example.{Entry}
-use Rattle.counterexamples.specs.WrongNames.{world}
 use Rattle.counterexamples.proofs.ExampleFacts.{distinct_two, no_path}
+use Rattle.counterexamples.proofs.Imports.{[], arith, ArrivalFails, b1, ByOthersFails, Contains, digest_of, Distinct}
+use Rattle.counterexamples.proofs.Imports.{example_entry, frontier_by_arrival, Got, heard, IsFrontier, IsNamedIn}
+use Rattle.counterexamples.proofs.Imports.{OrderIsReceiptIn, OwnLastFails, refl, sent_in, shown, ◌∷◌, HeldBefore.itself}
+use Rattle.counterexamples.specs.{Example.Entry, WrongNames.world}
 
 -- what A sends
 abbrev sent_by_a : Entry

@@ -1,21 +1,15 @@
 -- Tests that decide what entries say, and so which cause is the first.
-use Rattle.std.proofs.Common.{◌≡◌, ℕ, Bool, true, false, not, ◌&&◌, ◌==◌, List, [], ◌∷◌, refl, inl, inr, ap}
-use Rattle.std.specs.Prelude.{Any, Result, Ok, Err}
-use Rattle.std.specs.Bool.{Decides}
-use Rattle.std.specs.List.{list_any}
-use Rattle.std.specs.Str.{bytes_eq}
-use Rattle.std.proofs.lemmas.Bool.Decides.{Decides-eqb, Decides-and, Decides-not}
-use Rattle.std.proofs.lemmas.List.Folds.{Any-from_list_any, list_any-from_Any}
-use Rattle.std.proofs.lemmas.Slice.Eq.{bytes_eq-Decides}
-use Rattle.entry_format.specs.declared.deed.Deed.{Deed}
-use Rattle.entry_format.specs.declared.deed.Deed.TheVariants.{Opened, Authorise, Override, Closed, Activate, Commit}
-use Rattle.entry_format.specs.declared.deed.Deed.TheVariants.{Cast, Cancel, Challenge}
-use Rattle.entry_format.specs.declared.deed.How.{How}
 use Rattle.entry_format.specs.declared.deed.How.TheVariants as word
-use Rattle.entry_format.specs.declared.entry.Entry.{Entry}
-use Rattle.deed_history.specs.Deeds.{Authorises, Overrides, Commits, Ends}
-use Rattle.deed_history.specs.Held.{HoldsSome, HoldsOwn, HasEnded}
+use Rattle.deed_history.specs.Deeds.{Authorises, Commits, Ends, Overrides}
+use Rattle.deed_history.specs.Held.{HasEnded, HoldsOwn, HoldsSome}
+use Rattle.entry_format.specs.declared.deed.Deed.{Deed, TheVariants.Activate, TheVariants.Authorise}
+use Rattle.entry_format.specs.declared.deed.Deed.TheVariants.{Cancel, Cast, Challenge, Closed, Commit, Opened, Override}
+use Rattle.entry_format.specs.declared.{deed.How.How, entry.Entry.Entry}
 use Rattle.item_list.specs.Causes.{IsFirstOf, tests_of}
+use Rattle.std.proofs.Common.{[], ap, Bool, false, inl, inr, List, not, refl, true, ℕ, ◌&&◌, ◌==◌, ◌∷◌, ◌≡◌}
+use Rattle.std.proofs.lemmas.Bool.Decides.{Decides-and, Decides-eqb, Decides-not}
+use Rattle.std.proofs.lemmas.{List.Folds.Any-from_list_any, List.Folds.list_any-from_Any, Slice.Eq.bytes_eq-Decides}
+use Rattle.std.specs.{Bool.Decides, List.list_any, Prelude.Any, Prelude.Err, Prelude.Ok, Prelude.Result, Str.bytes_eq}
 
 -- where a test decides a sentence of each member, one decides whether it holds of any
 pub any_decides : {X : Type 0} (p : X → Bool) (P : X → Type 0) → ((x : X) → Decides (p x) (P x)) → (xs : List X)

@@ -1,13 +1,11 @@
 -- What one entry more says, and what a state that keeps marks and lists notes of it.
-use Rattle.std.proofs.Common.{◌≡◌, ℕ, List, [], ◌∷◌, ◌++◌, ◌⊎◌, inl, inr, Bool, true, false, cond, ◌||◌, refl, sym}
-use Rattle.std.proofs.Common.{subst, ap}
-use Rattle.std.specs.Prelude.{Any, Contains, IsTrue, ◌↔◌, Option, Some, None}
+use Rattle.deed_history.specs.Held.{HoldsOwn, HoldsSome}
+use Rattle.entry_format.specs.declared.{deed.Deed.Deed, entry.Entry.Entry}
+use Rattle.std.proofs.Common.{[], ap, Bool, cond, false, inl, inr, List, refl, subst, sym, true, ℕ, ◌++◌, ◌||◌, ◌∷◌}
+use Rattle.std.proofs.{Common.◌≡◌, Common.◌⊎◌, lemmas.List.Elements.Contains-append_left}
+use Rattle.std.proofs.lemmas.List.{Elements.Contains-push, Elements.Contains-push_cases, Quantifiers.Any-push}
 use Rattle.std.specs.Bool.{Decides}
-use Rattle.entry_format.specs.declared.deed.Deed.{Deed}
-use Rattle.entry_format.specs.declared.entry.Entry.{Entry}
-use Rattle.std.proofs.lemmas.List.Quantifiers.{Any-push}
-use Rattle.std.proofs.lemmas.List.Elements.{Contains-push, Contains-push_cases, Contains-append_left}
-use Rattle.deed_history.specs.Held.{HoldsSome, HoldsOwn}
+use Rattle.std.specs.Prelude.{Any, Contains, IsTrue, None, Option, Some, ◌↔◌}
 
 -- an own entry with such a deed
 abbrev pub IsOwnSuch : ℕ → (Deed → Type 0) → Entry → Type 0

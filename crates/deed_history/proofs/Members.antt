@@ -1,11 +1,10 @@
 -- Which members a list has.
-use Rattle.std.proofs.Common.{◌≡◌, ℕ, Bool, true, false, cond, List, [], ◌∷◌, ◌⊎◌, inl, inr, refl, sym, subst, arith}
-use Rattle.std.specs.Prelude.{Contains, IsTrue, ◌↔◌, nat_eq, filter}
-use Rattle.std.specs.List.{list_any}
-use Rattle.std.proofs.lemmas.Bool.{eqb-true, eq-eqb}
-use Rattle.std.proofs.lemmas.List.Folds.{Any-from_list_any, list_any-from_Any}
-use Rattle.std.proofs.lemmas.List.Elements.{Contains-append_right, Contains-append_cases, Contains-push_cases}
 use Rattle.deed_history.proofs.Deciding.{Decided}
+use Rattle.std.proofs.Common.{[], arith, Bool, cond, false, inl, inr, List, refl, subst, sym, true, ℕ, ◌∷◌, ◌≡◌, ◌⊎◌}
+use Rattle.std.proofs.lemmas.Bool.{eq-eqb, eqb-true}
+use Rattle.std.proofs.lemmas.List.Elements.{Contains-append_cases, Contains-append_right, Contains-push_cases}
+use Rattle.std.proofs.lemmas.List.Folds.{Any-from_list_any, list_any-from_Any}
+use Rattle.std.specs.{List.list_any, Prelude.Contains, Prelude.filter, Prelude.IsTrue, Prelude.nat_eq, Prelude.◌↔◌}
 
 -- a place where the member is
 at_place : (xs : List ℕ) (x y : ℕ) → Contains xs y → y ≡ x → Contains xs x

@@ -1,12 +1,11 @@
 -- The session that a deed speaks of, for each kind of deed: none where the deed is of another kind.
-use Rattle.std.proofs.Common.{◌≡◌, ℕ, inl, inr}
-use Rattle.std.specs.Prelude.{◌↔◌, Option, Some, None}
-use Rattle.entry_format.specs.declared.deed.Deed.{Deed}
-use Rattle.entry_format.specs.declared.deed.Deed.TheVariants.{Authorise, Override, Activate, Commit}
-use Rattle.entry_format.specs.declared.deed.Deed.TheVariants.{Cast, Cancel, Challenge}
-use Rattle.entry_format.specs.declared.deed.How.{How}
 use Rattle.entry_format.specs.declared.deed.How.TheVariants as word
 use Rattle.deed_history.specs.Deeds.{Authorises, Commits, Ends}
+use Rattle.entry_format.specs.declared.deed.Deed.{Deed, TheVariants.Activate}
+use Rattle.entry_format.specs.declared.deed.Deed.TheVariants.{Authorise, Cancel, Cast, Challenge, Commit, Override}
+use Rattle.entry_format.specs.declared.deed.How.{How}
+use Rattle.std.proofs.Common.{inl, inr, ℕ, ◌≡◌}
+use Rattle.std.specs.Prelude.{None, Option, Some, ◌↔◌}
 
 -- the session that an Authorise is of
 abbrev pub authorised_in : Deed → Option ℕ

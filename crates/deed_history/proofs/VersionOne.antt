@@ -1,14 +1,11 @@
 -- Two tables that answer alike where every deed is of version 1.
-use Rattle.std.proofs.Common.{◌≡◌, ◌∙◌, ℕ, List, [], ◌∷◌, inl, inr, ap, refl, sym, subst, arith}
-use Rattle.std.specs.Prelude.{All, Any, Result, Err, ◌↔◌}
-use Rattle.entry_format.specs.declared.deed.Deed.{Deed}
-use Rattle.entry_format.specs.declared.deed.Deed.TheVariants.{Override, Challenge}
-use Rattle.entry_format.specs.declared.deed.How.{How}
 use Rattle.entry_format.specs.declared.deed.How.TheVariants as word
+use Rattle.deed_history.specs.{Deeds.Ends, Deeds.Overrides, VersionOne.EndsInVersion1}
 use Rattle.entry_format.specs.EntryText.{IsDeedIn}
+use Rattle.entry_format.specs.declared.deed.{Deed.Deed, Deed.TheVariants.Challenge, Deed.TheVariants.Override, How.How}
 use Rattle.item_list.specs.Causes.{IsFirstOf}
-use Rattle.deed_history.specs.Deeds.{Overrides, Ends}
-use Rattle.deed_history.specs.VersionOne.{EndsInVersion1}
+use Rattle.std.proofs.Common.{[], ap, arith, inl, inr, List, refl, subst, sym, ℕ, ◌∙◌, ◌∷◌, ◌≡◌}
+use Rattle.std.specs.Prelude.{All, Any, Err, Result, ◌↔◌}
 
 -- where all elements have R, and P and Q are alike for those
 pub any_alike : {X : Type 0} (R P Q : X → Type 0) (xs : List X) → All R xs → ((x : X) → R x → P x ↔ Q x) →

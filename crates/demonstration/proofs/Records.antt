@@ -1,9 +1,7 @@
 -- The bytes of records, one right after another.
-use Rattle.demonstration.proofs.Imports.{take, ◌≡◌, ◌∙◌, ℕ, ◌+◌, ◌-◌, ◌≤◌, List, length, drop, ap, sym}
-use Rattle.demonstration.proofs.Imports.{arith, length-append, flat_map, flat_map-append}
-use Rattle.demonstration.proofs.Imports.{length-drop, take-append-drop, take_all}
-use Rattle.demonstration.proofs.Imports.{text_of, SealedEntry, Event, header_tree, log_text}
-use Rattle.demonstration.proofs.Imports.{record_text, end_of}
+use Rattle.demonstration.proofs.Imports.{ap, arith, drop, end_of, Event, flat_map, flat_map-append, header_tree, length}
+use Rattle.demonstration.proofs.Imports.{length-append, length-drop, List, log_text, record_text, SealedEntry, sym}
+use Rattle.demonstration.proofs.Imports.{take, take-append-drop, take_all, text_of, ℕ, ◌+◌, ◌-◌, ◌∙◌, ◌≡◌, ◌≤◌}
 
 -- how many bytes the records of these events have
 abbrev pub size : List (Event SealedEntry) → ℕ

@@ -1,9 +1,8 @@
 -- What the type of a log keeps, when it is made and when an event is appended.
-use Rattle.entangled_log.proofs.Imports.{◌≡◌, ℕ, ◌+◌, ◌<◌, ◌≤◌, max, List, [], ◌∷◌, ◌++◌, take, length, refl, sym, ap}
-use Rattle.entangled_log.proofs.Imports.{subst, ◌∙◌, arith, length-append, Event, Node, entry_of, MayFollow}
-use Rattle.entangled_log.proofs.Imports.{IsLegal, IsLegal-push, greatest_push, new_from_may}
-use Rattle.entangled_log.proofs.Imports.{Contains-map, Places, StandsFor, HasNoDigestTwice, IsKept}
-use Rattle.entangled_log.proofs.Imports.{own_after}
+use Rattle.entangled_log.proofs.Imports.{[], ap, arith, Contains-map, entry_of, Event, greatest_push, HasNoDigestTwice}
+use Rattle.entangled_log.proofs.Imports.{IsKept, IsLegal, IsLegal-push, length, length-append, List, max, MayFollow}
+use Rattle.entangled_log.proofs.Imports.{new_from_may, Node, own_after, Places, refl, StandsFor, subst, sym, take, ℕ}
+use Rattle.entangled_log.proofs.Imports.{◌++◌, ◌+◌, ◌<◌, ◌∙◌, ◌∷◌, ◌≡◌, ◌≤◌}
 use Rattle.entangled_log.proofs.Own.{AreOwn-push}
 
 module _ {T : Type 0} (node : T → Node) (owner capacity : ℕ) where

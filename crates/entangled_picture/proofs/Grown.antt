@@ -1,9 +1,7 @@
 -- Lists that grow by a place at a time.
-use Rattle.entangled_picture.proofs.Imports.{◌≡◌, ℕ, ◌+◌, ◌-◌, ◌<◌, [], ◌∷◌, ◌++◌, arith, suc, range_with_len}
-use Rattle.entangled_picture.proofs.Imports.{map-range_with_len_more}
-use Rattle.std.proofs.lemmas.Grind.{common_steps}
-use Rattle.std.proofs.lemmas.List.{map-id, map_more}
-use Rattle.std.proofs.lemmas.List.FromFn.{length-range_with_len}
+use Rattle.entangled_picture.proofs.Imports.{[], arith, map-range_with_len_more, range_with_len, suc, ℕ, ◌++◌, ◌+◌, ◌-◌}
+use Rattle.entangled_picture.proofs.Imports.{◌<◌, ◌∷◌, ◌≡◌}
+use Rattle.std.proofs.lemmas.{Grind.common_steps, List.map-id, List.map_more, List.FromFn.length-range_with_len}
 use Rattle.std.proofs.lemmas.Option.{gets}
 
 -- the places up to one, with one more behind

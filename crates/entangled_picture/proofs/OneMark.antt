@@ -1,23 +1,22 @@
 -- Each finding has one mark.
-use Rattle.entangled_picture.proofs.Imports.{◌≡◌, ℕ, suc, ◌+◌, ◌≤◌, Bool, true, List, [], ◌∷◌, ◌++◌, length, map, ap}
-use Rattle.entangled_picture.proofs.Imports.{refl, arith, zip, take, Option, Some, None, option_to_list, slice_get}
-use Rattle.entangled_picture.proofs.Imports.{flat_map, range_with_len, flat_map-append, get_or_from_slice_get}
-use Rattle.entangled_picture.proofs.Imports.{SealedEntry, EntryFault, End, LogRead, Spot, Shape, Seen, Placed, seen_of}
-use Rattle.entangled_picture.proofs.Imports.{placed_after, is_drawn, log_at}
-use Rattle.std.proofs.Common.{le-leb}
-use Rattle.std.proofs.lemmas.List.{length-map, length-append, nil_from_length, take-append-drop}
-use Rattle.std.proofs.lemmas.List.Concat.{flat_map_single}
-use Rattle.std.specs.Prelude.{nat_le}
-use Rattle.entry_graph.specs.EntryGraph.{EntryGraph}
-use Rattle.auditor.specs.Report.{AuditReport}
 use Rattle.entangled_picture.specs.declared.shape.Shape.TheVariants as shape
-use Rattle.entangled_picture.specs.Places.{placed_of, most_drawn, most_arrows, most_losses}
-use Rattle.entangled_picture.specs.Marks.{lights_of, arrows_of, bars_of, forks_of, losses_of, gap_spot, gap_of}
-use Rattle.entangled_picture.specs.Marks.{gaps_of, strays_of, entry_in, entry_marks}
-use Rattle.entangled_picture.specs.LogMarks.{lanes_of, logs_of, refused_marks, break_of, ending_of, edge_of}
-use Rattle.entangled_picture.specs.Shapes.{shapes_with, last_column}
-use Rattle.entangled_picture.specs.OneMark.{Finding, survivor, gap, stray, refused, stands_for, break_found, end_found}
-use Rattle.entangled_picture.specs.OneMark.{found_in, findings_of, EachHasOneMark}
+use Rattle.auditor.specs.Report.{AuditReport}
+use Rattle.entangled_picture.proofs.Imports.{[], ap, arith, Bool, End, EntryFault, flat_map, flat_map-append}
+use Rattle.entangled_picture.proofs.Imports.{get_or_from_slice_get, is_drawn, length, List, log_at, LogRead, map, None}
+use Rattle.entangled_picture.proofs.Imports.{Option, option_to_list, Placed, placed_after, range_with_len, refl}
+use Rattle.entangled_picture.proofs.Imports.{SealedEntry, Seen, seen_of, Shape, slice_get, Some, Spot, suc, take, true}
+use Rattle.entangled_picture.proofs.Imports.{zip, ℕ, ◌++◌, ◌+◌, ◌∷◌, ◌≡◌, ◌≤◌}
+use Rattle.entangled_picture.specs.LogMarks.{break_of, edge_of, ending_of, lanes_of, logs_of, refused_marks}
+use Rattle.entangled_picture.specs.Marks.{arrows_of, bars_of, entry_in, entry_marks, forks_of, gap_of, gap_spot}
+use Rattle.entangled_picture.specs.Marks.{gaps_of, lights_of, losses_of, strays_of}
+use Rattle.entangled_picture.specs.OneMark.{break_found, EachHasOneMark, end_found, Finding, findings_of, found_in, gap}
+use Rattle.entangled_picture.specs.OneMark.{refused, stands_for, stray, survivor}
+use Rattle.entangled_picture.specs.Places.{most_arrows, most_drawn, most_losses, placed_of}
+use Rattle.entangled_picture.specs.Shapes.{last_column, shapes_with}
+use Rattle.entry_graph.specs.EntryGraph.{EntryGraph}
+use Rattle.std.proofs.Common.{le-leb}
+use Rattle.std.proofs.lemmas.List.{length-append, length-map, nil_from_length, take-append-drop, Concat.flat_map_single}
+use Rattle.std.specs.Prelude.{nat_le}
 
 -- what shapes stand for
 record Stand (shapes : List Shape) (found : List Finding) : Type 0 where

@@ -1,11 +1,10 @@
 -- The gaps of entries, by a table of their places.
-use Rattle.entry_graph.proofs.Imports.{◌≡◌, ◌∙◌, ℕ, Bool, true, false, List, Option, None, Some}
-use Rattle.entry_graph.proofs.Imports.{ap, refl, sym, not, filter, is_none}
-use Rattle.entry_graph.proofs.Imports.{Node, gaps, number_at, ArePlaces}
-use Rattle.entry_graph.proofs.Imports.{has_digest, has_digest_of, has_digest_from, member_at, place_of}
+use Rattle.entry_graph.proofs.Imports.{ap, ArePlaces, Bool, false, filter, gaps, has_digest, has_digest_from}
+use Rattle.entry_graph.proofs.Imports.{has_digest_of, is_none, List, member_at, Node, None, not, number_at, Option}
+use Rattle.entry_graph.proofs.Imports.{place_of, refl, Some, sym, true, ℕ, ◌∙◌, ◌≡◌}
+use Rattle.entry_order.specs.Ascending.{ascending}
 use Rattle.std.specs.List.{flat_map}
 use mathlib.Core.Path.{fun_ext}
-use Rattle.entry_order.specs.Ascending.{ascending}
 
 module _ {T : Type 0} (node : T → Node) (S : List T) (table : List (List ℕ × ℕ)) (places : ArePlaces node S table) where
   -- a digest is at no place exactly if no entry has it

@@ -1,11 +1,10 @@
 -- The graph of distinct entries from its parts.
-use Rattle.entry_graph.proofs.Imports.{◌≡◌, ◌≤◌, Bool, true, false, cond, not, List, [], ◌∷◌, length, refl, sym, ap}
-use Rattle.entry_graph.proofs.Imports.{subst, arith, AllPairs, filter, IsPermutation, Contains-permutation}
-use Rattle.entry_graph.proofs.Imports.{IsPermutation-sym, length_permutation, Node, is_stray, survivors, gaps}
-use Rattle.entry_graph.proofs.Imports.{EntryGraph, IsLower, AreLinks, AreForks, AreStrays, IsEntryGraph}
-use Rattle.entry_graph.proofs.Imports.{IsGraphOfGiven, HasNoDigestTwice, survivors_are_no_strays}
-use Rattle.entry_graph.proofs.Places.{one_place, single_filter}
-use Rattle.entry_graph.proofs.NumberFacts.{single_moved}
+use Rattle.entry_graph.proofs.Imports.{[], AllPairs, ap, AreForks, AreLinks, AreStrays, arith, Bool, cond}
+use Rattle.entry_graph.proofs.Imports.{Contains-permutation, EntryGraph, false, filter, gaps, HasNoDigestTwice}
+use Rattle.entry_graph.proofs.Imports.{is_stray, IsEntryGraph, IsGraphOfGiven, IsLower, IsPermutation}
+use Rattle.entry_graph.proofs.Imports.{IsPermutation-sym, length, length_permutation, List, Node, not, refl, subst}
+use Rattle.entry_graph.proofs.Imports.{survivors, survivors_are_no_strays, sym, true, ◌∷◌, ◌≡◌, ◌≤◌}
+use Rattle.entry_graph.proofs.{NumberFacts.single_moved, Places.one_place, Places.single_filter}
 
 -- a part isn't longer than the whole
 filter_shorter : {X : Type 0} (p : X → Bool) (xs : List X) → length (filter p xs) ≤ length xs

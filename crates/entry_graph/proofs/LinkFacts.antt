@@ -1,17 +1,16 @@
 -- Links by the table of places.
-use Rattle.entry_graph.proofs.Imports.{◌≡◌, ℕ, zero, suc, ◌+◌, ◌<◌, ◌≤◌, Bool, true, false, List, [], ◌∷◌, ◌++◌}
-use Rattle.entry_graph.proofs.Imports.{length, get_or, take, refl, sym, ap, subst, ◌∙◌, inl, inr, Some, None, Option}
-use Rattle.entry_graph.proofs.Imports.{arith, ◌↔◌, slice_get, is_none, AllPairs, Contains, list_any, cases_lt}
-use Rattle.entry_graph.proofs.Imports.{cases_order, true≢false, false_from_ne_true}
-use Rattle.entry_graph.proofs.Imports.{none-some, same_Some}
-use Rattle.entry_graph.proofs.Imports.{slice_get_within, slice_get_past, get_or_from_slice_get, Node, Names}
-use Rattle.entry_graph.proofs.Imports.{IsBorneIn, gaps, NamesNoGap, gaps_are_unique, Contains-none, list_any_some}
-use Rattle.entry_graph.proofs.Imports.{list_any_of, member_at, place_of, taken_more, Links, IsLower, AreLinks}
-use Rattle.entry_graph.proofs.Imports.{parents_of, ragged_of, parents_in, ragged_in, HasNoDigestTwice, NamesLower}
-use Rattle.entry_graph.proofs.Imports.{number_at, ArePlaces, links_by, links_of, place_in, with_next, filter_map, filter_map-append, cons_option}
-use Rattle.entry_graph.proofs.Imports.{Contains-cons_cases, Contains-head, Contains-later, bytes_eq, bytes_eq-Decides}
-use Rattle.entry_graph.proofs.Imports.{cond, length-map, map, option_map, position_from, slice_get-map}
-use Rattle.entry_graph.proofs.Places.{any_push, one_place}
+use Rattle.entry_graph.proofs.Imports.{[], AllPairs, ap, AreLinks, ArePlaces, arith, Bool, bytes_eq, bytes_eq-Decides}
+use Rattle.entry_graph.proofs.Imports.{cases_lt, cases_order, cond, cons_option, Contains, Contains-cons_cases}
+use Rattle.entry_graph.proofs.Imports.{Contains-head, Contains-later, Contains-none, false, false_from_ne_true}
+use Rattle.entry_graph.proofs.Imports.{filter_map, filter_map-append, gaps, gaps_are_unique, get_or}
+use Rattle.entry_graph.proofs.Imports.{get_or_from_slice_get, HasNoDigestTwice, inl, inr, is_none, IsBorneIn, IsLower}
+use Rattle.entry_graph.proofs.Imports.{length, length-map, Links, links_by, links_of, List, list_any, list_any_of}
+use Rattle.entry_graph.proofs.Imports.{list_any_some, map, member_at, Names, NamesLower, NamesNoGap, Node, None}
+use Rattle.entry_graph.proofs.Imports.{none-some, number_at, Option, option_map, parents_in, parents_of, place_in}
+use Rattle.entry_graph.proofs.Imports.{place_of, position_from, ragged_in, ragged_of, refl, same_Some, slice_get}
+use Rattle.entry_graph.proofs.Imports.{slice_get-map, slice_get_past, slice_get_within, Some, subst, suc, sym, take}
+use Rattle.entry_graph.proofs.Imports.{taken_more, true, true≢false, with_next, zero, ℕ, ◌++◌, ◌+◌, ◌<◌, ◌↔◌, ◌∙◌, ◌∷◌}
+use Rattle.entry_graph.proofs.{Imports.◌≡◌, Imports.◌≤◌, Places.any_push, Places.one_place}
 
 -- the links by the first names and one more
 pub next_links : (place : List ℕ → Option ℕ) (names : List (List ℕ)) (i : ℕ) (name : List ℕ) (links : Links)

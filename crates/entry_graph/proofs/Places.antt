@@ -1,14 +1,13 @@
 -- Places of entries, and entries of which no two have one digest.
-use Rattle.entry_graph.proofs.Imports.{◌≡◌, ℕ, zero, suc, Bool, true, false, cond, List, [], ◌∷◌, ◌++◌, map}
-use Rattle.entry_graph.proofs.Imports.{get_or, refl, sym, ap, subst, ◌∙◌, Some, arith, ◌||◌, slice_get, IfOk, Result}
-use Rattle.entry_graph.proofs.Imports.{Ok, Err, All, Contains, IsDistinct, filter, list_any, is_eq, bytes_eq}
-use Rattle.entry_graph.proofs.Imports.{Ordering, Less, Equal, Greater, true≢false, false_from_ne_true, map_push}
-use Rattle.entry_graph.proofs.Imports.{list_any-append, or-false, All-from_recursion, recursion_from_All}
-use Rattle.entry_graph.proofs.Imports.{All-contains, All-map, All-filter, Contains-get_or, IsDistinct-head}
-use Rattle.entry_graph.proofs.Imports.{IsDistinct-tail, IsDistinct-cons, IsDistinct-from_apart, IsDistinct-push}
-use Rattle.entry_graph.proofs.Imports.{nat_list_eq_equiv, none-some, same_Some, bytes_eq-Decides, Node, Contains-map}
-use Rattle.entry_graph.proofs.Imports.{Contains-map_cases, list_any_some, member_at, place_of, IsBorneIn}
-use Rattle.entry_graph.proofs.Imports.{HasNoDigestTwice}
+use Rattle.entry_graph.proofs.Imports.{[], All, All-contains, All-filter, All-from_recursion, All-map, ap, arith, Bool}
+use Rattle.entry_graph.proofs.Imports.{bytes_eq, bytes_eq-Decides, cond, Contains, Contains-get_or, Contains-map}
+use Rattle.entry_graph.proofs.Imports.{Contains-map_cases, Equal, Err, false, false_from_ne_true, filter, get_or}
+use Rattle.entry_graph.proofs.Imports.{Greater, HasNoDigestTwice, IfOk, is_eq, IsBorneIn, IsDistinct, IsDistinct-cons}
+use Rattle.entry_graph.proofs.Imports.{IsDistinct-from_apart, IsDistinct-head, IsDistinct-push, IsDistinct-tail, Less}
+use Rattle.entry_graph.proofs.Imports.{List, list_any, list_any-append, list_any_some, map, map_push, member_at}
+use Rattle.entry_graph.proofs.Imports.{nat_list_eq_equiv, Node, none-some, Ok, or-false, Ordering, place_of}
+use Rattle.entry_graph.proofs.Imports.{recursion_from_All, refl, Result, same_Some, slice_get, Some, subst, suc, sym}
+use Rattle.entry_graph.proofs.Imports.{true, true≢false, zero, ℕ, ◌++◌, ◌||◌, ◌∙◌, ◌∷◌, ◌≡◌}
 
 -- a test of equality that passes
 pub equal_from : (o : Ordering) → is_eq o ≡ true → o ≡ Equal

@@ -1,19 +1,16 @@
 -- What a sweep keeps when a machine does its next action, and what is known where it doesn't.
-use Rattle.finished_floor.proofs.Imports.{Lose, node_of_sealed, SealedEntry, Contains-head, Contains-none, one_at, sent}
-use Rattle.finished_floor.proofs.Imports.{history, Sent, is_lost, is_of, did, AreOfSent, count_sent, Loss, AreNumbered}
-use Rattle.finished_floor.proofs.Imports.{IsStillAt, IsSwept, IsWaiting, actions_left, no_waits, waits_from, may_follow}
-use Rattle.finished_floor.proofs.Imports.{history_there, set_same, IsActed, IsDone, MachineState, world_of, Acted, Bool}
-use Rattle.finished_floor.proofs.Imports.{Global, List, Some, Vec, [], ap, arith, false, inl, inr, length, refl, sym}
-use Rattle.finished_floor.proofs.Imports.{true, ℕ, cases_lt, eqb-true, true≢false, All-replicate, All-weaker, slice_get}
-use Rattle.finished_floor.proofs.Imports.{slice_set, nat_tests, list_any_none, ◌+◌, ◌<◌, ◌∙◌, ◌≡◌, ◌≤◌, ◌==◌}
-use Rattle.std.specs.Prelude.{All}
 use Rattle.polling_world.specs.declared.acted.Acted.TheVariants as acted
-use Rattle.finished_floor.proofs.Events.{count_event, swept_event}
-use Rattle.finished_floor.proofs.Handed.{numbered_set}
-use Rattle.finished_floor.proofs.Left.{left_done}
-use Rattle.finished_floor.proofs.Lists.{only_if}
-use Rattle.finished_floor.proofs.Places.{history_event}
-use Rattle.finished_floor.proofs.Sweeps.{balanced_sent}
+use Rattle.finished_floor.proofs.{Events.count_event, Events.swept_event, Handed.numbered_set}
+use Rattle.finished_floor.proofs.Imports.{[], Acted, actions_left, All-replicate, All-weaker, ap, AreNumbered}
+use Rattle.finished_floor.proofs.Imports.{AreOfSent, arith, Bool, cases_lt, Contains-head, Contains-none, count_sent}
+use Rattle.finished_floor.proofs.Imports.{did, eqb-true, false, Global, history, history_there, inl, inr, is_lost}
+use Rattle.finished_floor.proofs.Imports.{is_of, IsActed, IsDone, IsStillAt, IsSwept, IsWaiting, length, List}
+use Rattle.finished_floor.proofs.Imports.{list_any_none, Lose, Loss, MachineState, may_follow, nat_tests, no_waits}
+use Rattle.finished_floor.proofs.Imports.{node_of_sealed, one_at, refl, SealedEntry, Sent, sent, set_same, slice_get}
+use Rattle.finished_floor.proofs.Imports.{slice_set, Some, sym, true, true≢false, Vec, waits_from, world_of, ℕ, ◌+◌}
+use Rattle.finished_floor.proofs.Imports.{◌<◌, ◌==◌, ◌∙◌, ◌≡◌, ◌≤◌}
+use Rattle.finished_floor.proofs.{Left.left_done, Lists.only_if, Places.history_event, Sweeps.balanced_sent}
+use Rattle.std.specs.Prelude.{All}
 
 -- what wasn't sent yet isn't lost
 fresh_of : (ms : List MachineState) (losses : List Loss) (from number to : ℕ) → AreOfSent ms losses →

@@ -1,23 +1,20 @@
 -- What was lost before a sweep and in it: each loss keeps its cause, in whatever order losses are
 -- reported.
-use Rattle.finished_floor.proofs.Imports.{Script, SealedEntry, list_any_of, list_any_some, sent, history, is_of}
-use Rattle.finished_floor.proofs.Imports.{IsCauseSoFar, AreLostAsScripted, IsOnWay, is_before_link, is_kept_off}
-use Rattle.finished_floor.proofs.Imports.{put_before, ArePlaced, HaveGrown, count_sent, AreMachinesOf, AreScripted}
-use Rattle.finished_floor.proofs.Imports.{IsLicensed, IsLossCause, Loss, LossWhy, LinkFull, LogFull, SameDigest}
-use Rattle.finished_floor.proofs.Imports.{Scripted, ToStopped, IsWithinStop, MachineState, world_of, Bool, List, Some}
-use Rattle.finished_floor.proofs.Imports.{ap, arith, false, get_or, inl, inr, length, length-append, refl, sym, true, ℕ}
-use Rattle.finished_floor.proofs.Imports.{and_parts, cases_lt, All-contains, Contains-append_cases}
-use Rattle.finished_floor.proofs.Imports.{Contains-append_left, Contains-get_or, filter-append, list_any-append}
-use Rattle.finished_floor.proofs.Imports.{Contains-permutation, IsPermutation-sym, list_any-IsPermutation, Contains}
-use Rattle.finished_floor.proofs.Imports.{filter, IsPermutation, nat_lt, not, list_any, ◌++◌, ◌<◌, ◌∙◌, ◌≡◌, ◌≤◌, ◌&&◌}
-use Rattle.finished_floor.proofs.Imports.{◌||◌}
+use Rattle.finished_floor.proofs.Arriving.{is_of_parts, itself}
+use Rattle.finished_floor.proofs.Grown.{are_placed, count_more, held_still, log_is, longer, machines_still, now_at}
+use Rattle.finished_floor.proofs.{Grown.sent_more, Grown.sent_still, Imports.All-contains}
+use Rattle.finished_floor.proofs.Imports.{and_parts, ap, AreLostAsScripted, AreMachinesOf, ArePlaced, AreScripted}
+use Rattle.finished_floor.proofs.Imports.{arith, Bool, cases_lt, Contains, Contains-append_cases, Contains-append_left}
+use Rattle.finished_floor.proofs.Imports.{Contains-get_or, Contains-permutation, count_sent, false, filter}
+use Rattle.finished_floor.proofs.Imports.{filter-append, get_or, HaveGrown, history, inl, inr, is_before_link}
+use Rattle.finished_floor.proofs.Imports.{is_kept_off, is_of, IsCauseSoFar, IsLicensed, IsLossCause, IsOnWay}
+use Rattle.finished_floor.proofs.Imports.{IsPermutation, IsPermutation-sym, IsWithinStop, length, length-append}
+use Rattle.finished_floor.proofs.Imports.{LinkFull, List, list_any, list_any-append, list_any-IsPermutation}
+use Rattle.finished_floor.proofs.Imports.{list_any_of, list_any_some, LogFull, Loss, LossWhy, MachineState, nat_lt, not}
+use Rattle.finished_floor.proofs.Imports.{put_before, refl, SameDigest, Script, Scripted, SealedEntry, sent, Some, sym}
+use Rattle.finished_floor.proofs.Imports.{ToStopped, true, world_of, ℕ, ◌&&◌, ◌++◌, ◌<◌, ◌||◌, ◌∙◌, ◌≡◌, ◌≤◌}
+use Rattle.finished_floor.proofs.{Lists.filter_same, Numbers.numbers_below, Places.legal_at}
 use Rattle.std.specs.Prelude.{All}
-use Rattle.finished_floor.proofs.Arriving.{itself, is_of_parts}
-use Rattle.finished_floor.proofs.Grown.{log_is, are_placed, held_still, longer, now_at, machines_still, sent_more}
-use Rattle.finished_floor.proofs.Grown.{sent_still, count_more}
-use Rattle.finished_floor.proofs.Lists.{filter_same}
-use Rattle.finished_floor.proofs.Numbers.{numbers_below}
-use Rattle.finished_floor.proofs.Places.{legal_at}
 
 -- what is true of each member is true of all
 pub all_by : {X : Type 0} (P : X → Type 0) (xs : List X) → ((x : X) → Contains xs x → P x) → All P xs

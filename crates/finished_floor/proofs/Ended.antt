@@ -1,13 +1,11 @@
 -- A whole run of a floor's machines has no stamp that is spent.
-use Rattle.finished_floor.proofs.Imports.{IsLawful, max_events, Script, node_of_sealed, SealedEntry, held, IsOrderly}
-use Rattle.finished_floor.proofs.Imports.{StampsAreFew, Machine, sent_in, AreMachinesOf, IsAtEnd, IsWholeRun}
-use Rattle.finished_floor.proofs.Imports.{sent_in_few, get-map_from, MachineState, IsStampSpent, machine_of, world_of}
-use Rattle.finished_floor.proofs.Imports.{List, Some, ap, arith, inl, inr, length, ℕ, slice_get-get_or, slice_get}
-use Rattle.finished_floor.proofs.Imports.{slice_index_or, ◌*◌, ◌≡◌, ◌≤◌}
+use Rattle.finished_floor.proofs.{Grown.are_placed, Grown.log_is, Imports.ap, Imports.AreMachinesOf, Imports.arith}
+use Rattle.finished_floor.proofs.Imports.{get-map_from, held, inl, inr, IsAtEnd, IsLawful, IsOrderly, IsStampSpent}
+use Rattle.finished_floor.proofs.Imports.{IsWholeRun, length, List, Machine, machine_of, MachineState, max_events}
+use Rattle.finished_floor.proofs.Imports.{node_of_sealed, Script, SealedEntry, sent_in, sent_in_few, slice_get}
+use Rattle.finished_floor.proofs.Imports.{slice_get-get_or, slice_index_or, Some, StampsAreFew, world_of, ℕ, ◌*◌, ◌≡◌}
+use Rattle.finished_floor.proofs.{Imports.◌≤◌, Places.length_world, Roomy.held_sent}
 use Rattle.std.specs.Prelude.{All}
-use Rattle.finished_floor.proofs.Grown.{log_is, are_placed}
-use Rattle.finished_floor.proofs.Places.{length_world}
-use Rattle.finished_floor.proofs.Roomy.{held_sent}
 
 module _ (script : Script) (lawful : IsLawful script) (ms : List MachineState) (of : AreMachinesOf script ms)
     (orderly : IsOrderly node_of_sealed (world_of ms)) (law : StampsAreFew node_of_sealed) where

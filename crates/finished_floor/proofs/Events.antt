@@ -1,15 +1,14 @@
 -- What stays true of machines when one of them has one event more.
-use Rattle.finished_floor.proofs.Imports.{Lose, node_of_sealed, SealedEntry, sent-append, one_at, MayFollow, entry_of}
-use Rattle.finished_floor.proofs.Imports.{held, sent, history, Event, Got, Sent, IsBalanced, count_sent, is_scripted}
-use Rattle.finished_floor.proofs.Imports.{IsLicensed, IsLossCause, Loss, LossWhy, LinkFull, LogFull, SameDigest}
-use Rattle.finished_floor.proofs.Imports.{Scripted, ToStopped, IsSwept, IsWaiting, Waits, IsMachine-event, set_cases}
-use Rattle.finished_floor.proofs.Imports.{set_get, MachineState, is_reached, with_event, MaySend, IsGoing, world_of}
-use Rattle.finished_floor.proofs.Imports.{Bool, List, Some, [], ap, arith, inl, inr, length, length-append, sym, true}
-use Rattle.finished_floor.proofs.Imports.{ℕ, cases_eq, le-leb, map-append, All-weaker, Contains-append_left, Contains}
-use Rattle.finished_floor.proofs.Imports.{IsTrue, not, slice_get, slice_set, append_assoc, Contains-push_cases, ◌++◌}
-use Rattle.finished_floor.proofs.Imports.{◌+◌, ◌<◌, ◌∙◌, ◌∷◌, ◌≡◌, ◌≢◌, ◌≤◌, ◌⊎◌, ◌==◌, ◌||◌}
-use Rattle.finished_floor.proofs.Lists.{only_if}
-use Rattle.finished_floor.proofs.Places.{length_set, get_others, history_event}
+use Rattle.finished_floor.proofs.Imports.{[], All-weaker, ap, append_assoc, arith, Bool, cases_eq, Contains}
+use Rattle.finished_floor.proofs.Imports.{Contains-append_left, Contains-push_cases, count_sent, entry_of, Event, Got}
+use Rattle.finished_floor.proofs.Imports.{held, history, inl, inr, is_reached, is_scripted, IsBalanced, IsGoing}
+use Rattle.finished_floor.proofs.Imports.{IsLicensed, IsLossCause, IsMachine-event, IsSwept, IsTrue, IsWaiting, le-leb}
+use Rattle.finished_floor.proofs.Imports.{length, length-append, LinkFull, List, LogFull, Lose, Loss, LossWhy}
+use Rattle.finished_floor.proofs.Imports.{MachineState, map-append, MayFollow, MaySend, node_of_sealed, not, one_at}
+use Rattle.finished_floor.proofs.Imports.{SameDigest, Scripted, SealedEntry, Sent, sent, sent-append, set_cases}
+use Rattle.finished_floor.proofs.Imports.{set_get, slice_get, slice_set, Some, sym, ToStopped, true, Waits, with_event}
+use Rattle.finished_floor.proofs.Imports.{world_of, ℕ, ◌++◌, ◌+◌, ◌<◌, ◌==◌, ◌||◌, ◌∙◌, ◌∷◌, ◌≡◌, ◌≢◌, ◌≤◌, ◌⊎◌}
+use Rattle.finished_floor.proofs.{Lists.only_if, Places.get_others, Places.history_event, Places.length_set}
 
 -- what was held is still held
 pub held_more : (h : List (Event SealedEntry)) (x : Event SealedEntry) (g : SealedEntry) → Contains (held h) g →

@@ -1,20 +1,16 @@
 -- What the sweep leaves, sorted, is what a run comes to.
-use Rattle.finished_floor.proofs.Imports.{IsLawful, Script, node_of_sealed, stamps_are_few, IsOrderly, history, AreOnce}
-use Rattle.finished_floor.proofs.Imports.{IsBalanced, AreGathered, ArePlayedAgain, IsFloorOf, passes_of, IsToldBefore}
-use Rattle.finished_floor.proofs.Imports.{AreMadeByThese, ArePlaced, HaveGrown, AreMachinesOf, AreScripted, IsLicensed}
-use Rattle.finished_floor.proofs.Imports.{IsWholeRun, Loss, Waiting, IsBegunBy, MachineState, world_of, Post, List}
-use Rattle.finished_floor.proofs.Imports.{Option, Some, [], length, map, sym, ℕ, AllPairs, AllZip, IsPermutation}
-use Rattle.finished_floor.proofs.Imports.{slice_get, ◌++◌, ◌∙◌, ◌≡◌}
-use Rattle.std.specs.Prelude.{All}
-use Rattle.finished_floor.proofs.Caused.{all_on_way, all_caused, all_scripted}
-use Rattle.finished_floor.proofs.Ended.{all_at_end}
-use Rattle.finished_floor.proofs.Filled.{zip_at, zip_many, zip_from}
-use Rattle.finished_floor.proofs.Grown.{was_at, machines_still}
-use Rattle.finished_floor.proofs.Heard.{balanced_moved, got_or_lost, all_known}
+use Rattle.finished_floor.proofs.{Caused.all_caused, Caused.all_on_way, Caused.all_scripted, Ended.all_at_end}
+use Rattle.finished_floor.proofs.{Filled.zip_at, Filled.zip_from, Filled.zip_many, Grown.machines_still, Grown.was_at}
+use Rattle.finished_floor.proofs.Heard.{all_known, balanced_moved, got_or_lost}
+use Rattle.finished_floor.proofs.Imports.{[], AllPairs, AllZip, AreGathered, AreMachinesOf, AreMadeByThese, AreOnce}
+use Rattle.finished_floor.proofs.Imports.{ArePlaced, ArePlayedAgain, AreScripted, HaveGrown, history, IsBalanced}
+use Rattle.finished_floor.proofs.Imports.{IsBegunBy, IsFloorOf, IsLawful, IsLicensed, IsOrderly, IsPermutation}
+use Rattle.finished_floor.proofs.Imports.{IsToldBefore, IsWholeRun, length, List, Loss, MachineState, map}
+use Rattle.finished_floor.proofs.Imports.{node_of_sealed, Option, passes_of, Post, Script, slice_get, Some}
+use Rattle.finished_floor.proofs.Imports.{stamps_are_few, sym, Waiting, world_of, ℕ, ◌++◌, ◌∙◌, ◌≡◌}
 use Rattle.finished_floor.proofs.Once.{each_is_heard_or_lost}
-use Rattle.finished_floor.proofs.Played.{are_orderly, played_again}
-use Rattle.finished_floor.proofs.Roomy.{loses_nothing}
-use Rattle.finished_floor.proofs.Sorted.{told_once}
+use Rattle.finished_floor.proofs.{Played.are_orderly, Played.played_again, Roomy.loses_nothing, Sorted.told_once}
+use Rattle.std.specs.Prelude.{All}
 
 -- the lists of workers report on the first events of the machines that have grown
 pub rows_begun : {B : Type 0} (f : B → List (Option ℕ)) (ms ns : List MachineState) (rows : List B) →

@@ -1,23 +1,21 @@
 -- What a sweep keeps when an entry that waits is handed to the machine that it waits for.
-use Rattle.finished_floor.proofs.Imports.{Lose, node_of_sealed, SealedEntry, sent_as_many, Contains-filter_cases}
-use Rattle.finished_floor.proofs.Imports.{Contains-head, sent, history, Got, AreOnce, Differ, got_from, is_lost}
-use Rattle.finished_floor.proofs.Imports.{is_of, loss_of, lost_by, count_sent, is_scripted, IsLicensed, IsLossCause}
-use Rattle.finished_floor.proofs.Imports.{SweptFloor, Loss, LossWhy, LinkFull, LogFull, SameDigest, Scripted, ToStopped}
-use Rattle.finished_floor.proofs.Imports.{AreNumbered, IsFate, IsHanded, IsNumbered, IsSwept, IsWaiting, SweepsOn}
-use Rattle.finished_floor.proofs.Imports.{Waits, set_cases, set_same, IsHeard, IsMachine, IsWithinStop, MachineState}
-use Rattle.finished_floor.proofs.Imports.{has_stopped, is_reached, with_event, world_of, Bool, List, None, Option, Some}
-use Rattle.finished_floor.proofs.Imports.{[], ap, arith, false, get_or, inl, inr, length, refl, suc, sym, true, zero, ℕ}
-use Rattle.finished_floor.proofs.Imports.{and_parts, eq-eqb, eqb-true, leb-true, not-true, or_parts, true≢false}
-use Rattle.finished_floor.proofs.Imports.{append-nil, All-push, Contains-append_cases, Contains-append_left}
-use Rattle.finished_floor.proofs.Imports.{Contains-append_right, Contains, IsTrue, not, slice_get, slice_set}
-use Rattle.finished_floor.proofs.Imports.{append_assoc, all_pairs_push, ◌++◌, ◌<◌, ◌∙◌, ◌∷◌, ◌≡◌, ◌≢◌, ◌⊎◌, ◌&&◌, ◌==◌}
 use Rattle.polling_world.specs.declared.heard.MachineHeard.TheVariants as heard
-use Rattle.finished_floor.proofs.Events.{going_on, sent_since, count_event, swept_event}
-use Rattle.finished_floor.proofs.Lists.{only_if, only_if_is}
-use Rattle.finished_floor.proofs.Numbers.{numbers_below, rising_sent}
-use Rattle.finished_floor.proofs.Once.{differ_sym}
-use Rattle.finished_floor.proofs.Places.{length_set, legal_at, history_event}
-use Rattle.finished_floor.proofs.Sweeps.{balanced_heard, balanced_lost}
+use Rattle.finished_floor.proofs.Events.{count_event, going_on, sent_since, swept_event}
+use Rattle.finished_floor.proofs.Imports.{[], All-push, all_pairs_push, and_parts, ap, append-nil, append_assoc}
+use Rattle.finished_floor.proofs.Imports.{AreNumbered, AreOnce, arith, Bool, Contains, Contains-append_cases}
+use Rattle.finished_floor.proofs.Imports.{Contains-append_left, Contains-append_right, Contains-filter_cases}
+use Rattle.finished_floor.proofs.Imports.{Contains-head, count_sent, Differ, eq-eqb, eqb-true, false, get_or, Got}
+use Rattle.finished_floor.proofs.Imports.{got_from, has_stopped, history, inl, inr, is_lost, is_of, is_reached}
+use Rattle.finished_floor.proofs.Imports.{is_scripted, IsFate, IsHanded, IsHeard, IsLicensed, IsLossCause, IsMachine}
+use Rattle.finished_floor.proofs.Imports.{IsNumbered, IsSwept, IsTrue, IsWaiting, IsWithinStop, leb-true, length}
+use Rattle.finished_floor.proofs.Imports.{LinkFull, List, LogFull, Lose, Loss, loss_of, LossWhy, lost_by, MachineState}
+use Rattle.finished_floor.proofs.Imports.{node_of_sealed, None, not, not-true, Option, or_parts, refl, SameDigest}
+use Rattle.finished_floor.proofs.Imports.{Scripted, SealedEntry, sent, sent_as_many, set_cases, set_same, slice_get}
+use Rattle.finished_floor.proofs.Imports.{slice_set, Some, suc, SweepsOn, SweptFloor, sym, ToStopped, true, true≢false}
+use Rattle.finished_floor.proofs.Imports.{Waits, with_event, world_of, zero, ℕ, ◌&&◌, ◌++◌, ◌<◌, ◌==◌, ◌∙◌, ◌∷◌, ◌≡◌}
+use Rattle.finished_floor.proofs.{Imports.◌≢◌, Imports.◌⊎◌, Lists.only_if, Lists.only_if_is, Numbers.numbers_below}
+use Rattle.finished_floor.proofs.{Numbers.rising_sent, Once.differ_sym, Places.history_event, Places.legal_at}
+use Rattle.finished_floor.proofs.{Places.length_set, Sweeps.balanced_heard, Sweeps.balanced_lost}
 
 -- one loss more, of an entry that wasn't lost on its way
 once_push : (losses : List Loss) (l : Loss) → AreOnce losses → is_lost losses l.from l.number l.to ≡ false →

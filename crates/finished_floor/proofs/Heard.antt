@@ -1,18 +1,15 @@
 -- An entry that is lost on its way isn't held where it was to go.
-use Rattle.finished_floor.proofs.Imports.{Script, node_of_sealed, SealedEntry, Contains-filter, Contains-map_cases}
-use Rattle.finished_floor.proofs.Imports.{list_any_of, Contains-sent, entry_of, held, sent, Node, history, Event, Got}
-use Rattle.finished_floor.proofs.Imports.{Sent, got, is_lost, is_of, IsBalanced, IsCauseSoFar, EachIsHeardOrLost}
-use Rattle.finished_floor.proofs.Imports.{IsCauseOf, IsGotOrLost, IsOnWay, ArePlaced, Loss, LossWhy, LinkFull, LogFull}
-use Rattle.finished_floor.proofs.Imports.{SameDigest, Scripted, ToStopped, history_there, MachineState, world_of, List}
-use Rattle.finished_floor.proofs.Imports.{Some, [], inl, inr, length, refl, sym, true, ℕ, eq-eqb, true≢false}
-use Rattle.finished_floor.proofs.Imports.{All-contains, list_any-IsPermutation, Contains, IsPermutation, slice_get, ◌∙◌}
-use Rattle.finished_floor.proofs.Imports.{◌≡◌, ◌==◌}
+use Rattle.finished_floor.proofs.{Arriving.arriving_same, Arriving.itself, Caused.all_by}
+use Rattle.finished_floor.proofs.Imports.{[], All-contains, ArePlaced, Contains, Contains-filter, Contains-map_cases}
+use Rattle.finished_floor.proofs.Imports.{Contains-sent, EachIsHeardOrLost, entry_of, eq-eqb, Event, Got, got, held}
+use Rattle.finished_floor.proofs.Imports.{history, history_there, inl, inr, is_lost, is_of, IsBalanced, IsCauseOf}
+use Rattle.finished_floor.proofs.Imports.{IsCauseSoFar, IsGotOrLost, IsOnWay, IsPermutation, length, LinkFull, List}
+use Rattle.finished_floor.proofs.Imports.{list_any-IsPermutation, list_any_of, LogFull, Loss, LossWhy, MachineState}
+use Rattle.finished_floor.proofs.Imports.{Node, node_of_sealed, refl, SameDigest, Script, Scripted, SealedEntry, Sent}
+use Rattle.finished_floor.proofs.Imports.{sent, slice_get, Some, sym, ToStopped, true, true≢false, world_of, ℕ, ◌==◌}
+use Rattle.finished_floor.proofs.Imports.{◌∙◌, ◌≡◌}
+use Rattle.finished_floor.proofs.{Numbers.numbers_below, Places.legal_at, Places.length_world, Pushes.Contains-got}
 use Rattle.std.specs.Prelude.{All}
-use Rattle.finished_floor.proofs.Arriving.{itself, arriving_same}
-use Rattle.finished_floor.proofs.Caused.{all_by}
-use Rattle.finished_floor.proofs.Numbers.{numbers_below}
-use Rattle.finished_floor.proofs.Places.{length_world, legal_at}
-use Rattle.finished_floor.proofs.Pushes.{Contains-got}
 
 -- losses that change places lose the same
 pub balanced_moved : {T : Type 0} (node : T → Node) (count : ℕ) (h : ℕ → List (Event T)) (after told : List Loss)

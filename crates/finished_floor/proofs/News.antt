@@ -1,11 +1,10 @@
 -- Machines of a script before anything happened, of which nothing is gathered.
-use Rattle.finished_floor.proofs.Imports.{Script, Contains-none, sent, Got, AreGathered, IsCauseSoFar, passes_of}
-use Rattle.finished_floor.proofs.Imports.{IsOnWay, IsMachineOf, IsStopOf, Loss, Waiting, no_waits, roster_of, IsFresh}
-use Rattle.finished_floor.proofs.Imports.{IsMachine, MachineState, Post, List, Option, Some, [], ap, arith, length}
-use Rattle.finished_floor.proofs.Imports.{length-append, map, refl, subst, suc, sym, zero, ℕ, All-nil, slice_get, ◌++◌}
-use Rattle.finished_floor.proofs.Imports.{◌+◌, ◌∙◌, ◌∷◌, ◌≡◌}
-use Rattle.finished_floor.proofs.Beginnings.{each_push, none_in, start_balanced, start_once, start_on_way}
-use Rattle.finished_floor.proofs.Filled.{zip_from}
+use Rattle.finished_floor.proofs.Beginnings.{each_push, none_in, start_balanced, start_on_way, start_once}
+use Rattle.finished_floor.proofs.{Filled.zip_from, Imports.[], Imports.All-nil, Imports.ap, Imports.AreGathered}
+use Rattle.finished_floor.proofs.Imports.{arith, Contains-none, Got, IsCauseSoFar, IsFresh, IsMachine, IsMachineOf}
+use Rattle.finished_floor.proofs.Imports.{IsOnWay, IsStopOf, length, length-append, List, Loss, MachineState, map}
+use Rattle.finished_floor.proofs.Imports.{no_waits, Option, passes_of, Post, refl, roster_of, Script, sent, slice_get}
+use Rattle.finished_floor.proofs.Imports.{Some, subst, suc, sym, Waiting, zero, ℕ, ◌++◌, ◌+◌, ◌∙◌, ◌∷◌, ◌≡◌}
 
 -- a fresh machine is the script's
 pub new_of : (script : Script) (at : ℕ) (stop : Option ℕ) (m : MachineState) → IsStopOf script.stops at stop →

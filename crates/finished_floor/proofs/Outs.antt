@@ -1,11 +1,10 @@
 -- A new entry is handed to each other machine, in ascending order.
-use Rattle.finished_floor.proofs.Imports.{SealedEntry, SweptFloor, IsHanded, IsNumbered, SweepsOn, actions_left}
-use Rattle.finished_floor.proofs.Imports.{no_waits, waits_from, List, Some, [], ap, arith, length, length-append, refl}
-use Rattle.finished_floor.proofs.Imports.{subst, sym, ℕ, le-leb, All-pop, nat_le, cond, nat_tests, All, ◌++◌, ◌+◌, ◌<◌}
-use Rattle.finished_floor.proofs.Imports.{◌∙◌, ◌∷◌, ◌≡◌, ◌≢◌, ◌&&◌, ◌==◌}
-use Rattle.finished_floor.proofs.Handed.{handed_on, then_on, none_on, same_on}
-use Rattle.finished_floor.proofs.Left.{handed_left}
-use Rattle.finished_floor.proofs.Lists.{only_if}
+use Rattle.finished_floor.proofs.Handed.{handed_on, none_on, same_on, then_on}
+use Rattle.finished_floor.proofs.Imports.{[], actions_left, All, All-pop, ap, arith, cond, IsHanded, IsNumbered, le-leb}
+use Rattle.finished_floor.proofs.Imports.{length, length-append, List, nat_le, nat_tests, no_waits, refl, SealedEntry}
+use Rattle.finished_floor.proofs.Imports.{Some, subst, SweepsOn, SweptFloor, sym, waits_from, ℕ, ◌&&◌, ◌++◌, ◌+◌, ◌<◌}
+use Rattle.finished_floor.proofs.Imports.{◌==◌, ◌∙◌, ◌∷◌, ◌≡◌, ◌≢◌}
+use Rattle.finished_floor.proofs.{Left.handed_left, Lists.only_if}
 
 module _ (maker : ℕ) (e : SealedEntry) (to c d : ℕ) where
   -- where it waits from a machine on, it is the first to be handed to that machine

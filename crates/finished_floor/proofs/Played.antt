@@ -1,16 +1,15 @@
 -- The merged events of machines can be played on one thread.
-use Rattle.finished_floor.proofs.Imports.{Script, node_of_sealed, SealedEntry, Contains-filter, Contains-none, in_world}
-use Rattle.finished_floor.proofs.Imports.{merged_is_played_again, Contains-sent_cases, member_split, sent_in_from, sent}
-use Rattle.finished_floor.proofs.Imports.{IsMadeBy, IsOrderly, history, Event, Got, Sent, got, IsBalanced}
-use Rattle.finished_floor.proofs.Imports.{ArePlayedAgain, AreMadeByThese, ArePlaced, AreMachinesOf, Loss, get-map}
-use Rattle.finished_floor.proofs.Imports.{get-map_from, history_there, fresh_configs, Config, script_configs}
-use Rattle.finished_floor.proofs.Imports.{MachineState, next_entry, MaySend, IsNextOf, TellsNext, configs_of, world_of}
-use Rattle.finished_floor.proofs.Imports.{List, None, Option, Some, [], ap, arith, false, inl, inr, length, map, refl}
-use Rattle.finished_floor.proofs.Imports.{sym, ℕ, eq-eqb, length-map, Contains-append_left, same_Some, slice_get_within}
-use Rattle.finished_floor.proofs.Imports.{◌∙◌, ◌∷◌, ◌≡◌, ◌≤◌, ◌==◌}
-use Rattle.finished_floor.proofs.Arriving.{heard_was_sent}
-use Rattle.finished_floor.proofs.Grown.{config_is, log_is}
-use Rattle.finished_floor.proofs.Places.{length_world, get_within, history_cases, legal_at}
+use Rattle.finished_floor.proofs.{Arriving.heard_was_sent, Grown.config_is, Grown.log_is}
+use Rattle.finished_floor.proofs.Imports.{[], ap, AreMachinesOf, AreMadeByThese, ArePlaced, ArePlayedAgain, arith}
+use Rattle.finished_floor.proofs.Imports.{Config, configs_of, Contains-append_left, Contains-filter, Contains-none}
+use Rattle.finished_floor.proofs.Imports.{Contains-sent_cases, eq-eqb, Event, false, fresh_configs, get-map}
+use Rattle.finished_floor.proofs.Imports.{get-map_from, Got, got, history, history_there, in_world, inl, inr}
+use Rattle.finished_floor.proofs.Imports.{IsBalanced, IsMadeBy, IsNextOf, IsOrderly, length, length-map, List, Loss}
+use Rattle.finished_floor.proofs.Imports.{MachineState, map, MaySend, member_split, merged_is_played_again, next_entry}
+use Rattle.finished_floor.proofs.Imports.{node_of_sealed, None, Option, refl, same_Some, Script, script_configs}
+use Rattle.finished_floor.proofs.Imports.{SealedEntry, Sent, sent, sent_in_from, slice_get_within, Some, sym, TellsNext}
+use Rattle.finished_floor.proofs.Imports.{world_of, ℕ, ◌==◌, ◌∙◌, ◌∷◌, ◌≡◌, ◌≤◌}
+use Rattle.finished_floor.proofs.Places.{get_within, history_cases, legal_at, length_world}
 use Rattle.finished_floor.proofs.Pushes.{Contains-got}
 
 -- a machine may send one entry at most

@@ -1,20 +1,18 @@
 -- Where there is room for all, no line loses or stops, and digests differ, nothing is lost.
-use Rattle.finished_floor.proofs.Imports.{Cast0, Script, node_of_sealed, SealedEntry, nth_split, Contains-cons_cases}
-use Rattle.finished_floor.proofs.Imports.{Contains-head, Contains-map_cases, Contains-none, Contains-sent_cases}
-use Rattle.finished_floor.proofs.Imports.{sent_in_from, entry_of, held, sent, IsOrderly, history, sent_in, Event, Got}
-use Rattle.finished_floor.proofs.Imports.{Sent, IsCauseOf, IsGotOrLost, IsOnWay, LosesNothing, is_kept_off, put_before}
-use Rattle.finished_floor.proofs.Imports.{ArePlaced, AreMachinesOf, IsStopOf, Loss, LossWhy, LinkFull, LogFull}
-use Rattle.finished_floor.proofs.Imports.{SameDigest, Scripted, ToStopped, history_there, Config, IsMachine}
-use Rattle.finished_floor.proofs.Imports.{MachineState, world_of, List, None, Option, Some, [], ap, arith, inl, inr}
-use Rattle.finished_floor.proofs.Imports.{length, length-append, refl, suc, sym, zero, ℕ, true≢false, length-map}
-use Rattle.finished_floor.proofs.Imports.{All-contains, get_or_from_slice_get, slice_get_cases, slice_get_within}
-use Rattle.finished_floor.proofs.Imports.{Contains, flat_map, not, slice_get, ◌∙◌, ◌∷◌, ◌≡◌, ◌≤◌}
+use Rattle.finished_floor.proofs.Counts.{different_few, held_different, rising_few}
+use Rattle.finished_floor.proofs.{Grown.are_placed, Grown.config_is, Heard.not_held}
+use Rattle.finished_floor.proofs.Imports.{[], All-contains, ap, AreMachinesOf, ArePlaced, arith, Cast0, Config}
+use Rattle.finished_floor.proofs.Imports.{Contains, Contains-cons_cases, Contains-head, Contains-map_cases}
+use Rattle.finished_floor.proofs.Imports.{Contains-none, Contains-sent_cases, entry_of, Event, flat_map}
+use Rattle.finished_floor.proofs.Imports.{get_or_from_slice_get, Got, held, history, history_there, inl, inr}
+use Rattle.finished_floor.proofs.Imports.{is_kept_off, IsCauseOf, IsGotOrLost, IsMachine, IsOnWay, IsOrderly, IsStopOf}
+use Rattle.finished_floor.proofs.Imports.{length, length-append, length-map, LinkFull, List, LogFull, LosesNothing}
+use Rattle.finished_floor.proofs.Imports.{Loss, LossWhy, MachineState, node_of_sealed, None, not, nth_split, Option}
+use Rattle.finished_floor.proofs.Imports.{put_before, refl, SameDigest, Script, Scripted, SealedEntry, Sent, sent}
+use Rattle.finished_floor.proofs.Imports.{sent_in, sent_in_from, slice_get, slice_get_cases, slice_get_within, Some}
+use Rattle.finished_floor.proofs.Imports.{suc, sym, ToStopped, true≢false, world_of, zero, ℕ, ◌∙◌, ◌∷◌, ◌≡◌, ◌≤◌}
+use Rattle.finished_floor.proofs.{Numbers.number_at, Places.get_within, Places.legal_at}
 use Rattle.std.specs.Prelude.{All}
-use Rattle.finished_floor.proofs.Counts.{different_few, rising_few, held_different}
-use Rattle.finished_floor.proofs.Grown.{config_is, are_placed}
-use Rattle.finished_floor.proofs.Heard.{not_held}
-use Rattle.finished_floor.proofs.Numbers.{number_at}
-use Rattle.finished_floor.proofs.Places.{get_within, legal_at}
 
 -- a machine sent no more entries than it has actions
 sent_at_most : (m : MachineState) → IsMachine m → length (sent m.events) ≤ length m.config.actions

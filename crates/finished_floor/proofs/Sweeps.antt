@@ -1,12 +1,11 @@
 -- What the steps of a sweep keep: each entry is heard, lost or waiting.
-use Rattle.finished_floor.proofs.Imports.{sent-append, sent, Node, Event, Got, Sent, arriving, got_from, is_lost, is_of}
-use Rattle.finished_floor.proofs.Imports.{IsBalanced, Loss, Bool, List, [], ap, arith, false, length, length-append}
-use Rattle.finished_floor.proofs.Imports.{refl, suc, sym, true, zero, ℕ, eqb-true, append-nil, get_or-append-add}
-use Rattle.finished_floor.proofs.Imports.{filter-append, AllPairs-filter, AllPairs, Contains, not, nat_tests}
-use Rattle.finished_floor.proofs.Imports.{append_assoc, ◌++◌, ◌+◌, ◌<◌, ◌∙◌, ◌∷◌, ◌≡◌, ◌≢◌, ◌&&◌, ◌==◌, ◌||◌}
-use Rattle.finished_floor.proofs.Arriving.{is_of_parts, lost_either, arriving_kept, arriving_twice, arriving_all}
-use Rattle.finished_floor.proofs.Lists.{only_if}
-use Rattle.finished_floor.proofs.Pushes.{got-append}
+use Rattle.finished_floor.proofs.Arriving.{arriving_all, arriving_kept, arriving_twice, is_of_parts, lost_either}
+use Rattle.finished_floor.proofs.Imports.{[], AllPairs, AllPairs-filter, ap, append-nil, append_assoc, arith, arriving}
+use Rattle.finished_floor.proofs.Imports.{Bool, Contains, eqb-true, Event, false, filter-append, get_or-append-add, Got}
+use Rattle.finished_floor.proofs.Imports.{got_from, is_lost, is_of, IsBalanced, length, length-append, List, Loss}
+use Rattle.finished_floor.proofs.Imports.{nat_tests, Node, not, refl, Sent, sent, sent-append, suc, sym, true, zero, ℕ}
+use Rattle.finished_floor.proofs.Imports.{◌&&◌, ◌++◌, ◌+◌, ◌<◌, ◌==◌, ◌||◌, ◌∙◌, ◌∷◌, ◌≡◌, ◌≢◌}
+use Rattle.finished_floor.proofs.{Lists.only_if, Pushes.got-append}
 
 module _ {T : Type 0} (node : T → Node) where
   -- the numbers of what a machine sent rise

@@ -1,14 +1,13 @@
 -- A round over the machines, and what is known of a machine that didn't act in it.
-use Rattle.finished_floor.proofs.Imports.{Lose, node_of_sealed, one_at, history, AreOnce, IsBalanced, did}
-use Rattle.finished_floor.proofs.Imports.{AreOfSent, ArePlaced, HasGrown, IsAt, IsLicensed, IsWholeRun, SweptFloor}
-use Rattle.finished_floor.proofs.Imports.{Loss, AreStillBelow, IsNumbered, IsStillAt, IsSwept, IsTurn, Waits}
-use Rattle.finished_floor.proofs.Imports.{actions_left, no_waits, IsActed, MachineState, world_of, Acted, Bool, List}
-use Rattle.finished_floor.proofs.Imports.{Some, [], ap, arith, false, inl, inr, length, refl, subst, sym, true, ℕ}
-use Rattle.finished_floor.proofs.Imports.{cases_lt, or_parts, true≢false, append-nil, All-nil, slice_get, ◌+◌, ◌<◌, ◌∙◌}
-use Rattle.finished_floor.proofs.Imports.{◌≡◌, ◌≤◌, ◌||◌}
 use Rattle.polling_world.specs.declared.acted.Acted.TheVariants as acted
 use Rattle.polling_world.specs.declared.left.LeftWhy.TheVariants as why
-use Rattle.finished_floor.proofs.Handed.{stopped_there, then_on, none_on}
+use Rattle.finished_floor.proofs.{Handed.none_on, Handed.stopped_there, Handed.then_on, Imports.[]}
+use Rattle.finished_floor.proofs.Imports.{Acted, actions_left, All-nil, ap, append-nil, AreOfSent, AreOnce, ArePlaced}
+use Rattle.finished_floor.proofs.Imports.{AreStillBelow, arith, Bool, cases_lt, did, false, HasGrown, history, inl, inr}
+use Rattle.finished_floor.proofs.Imports.{IsActed, IsAt, IsBalanced, IsLicensed, IsNumbered, IsStillAt, IsSwept, IsTurn}
+use Rattle.finished_floor.proofs.Imports.{IsWholeRun, length, List, Lose, Loss, MachineState, no_waits, node_of_sealed}
+use Rattle.finished_floor.proofs.Imports.{one_at, or_parts, refl, slice_get, Some, subst, SweptFloor, sym, true}
+use Rattle.finished_floor.proofs.Imports.{true≢false, Waits, world_of, ℕ, ◌+◌, ◌<◌, ◌||◌, ◌∙◌, ◌≡◌, ◌≤◌}
 
 -- as a round begins none has acted
 pub turn_none : (still : Type 0) (floor : SweptFloor) → IsNumbered floor → still → IsTurn still floor false floor

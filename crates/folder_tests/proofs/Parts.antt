@@ -1,11 +1,10 @@
 -- What a read gives of the bytes of a file.
-use Rattle.std.proofs.Common.{◌≡◌, ◌∙◌, ℕ, ◌-◌, ◌<◌, ◌≤◌, min, List, [], ◌++◌, length, take, drop, Some, None, arith, refl, ap, sym, subst}
-use Rattle.std.specs.Prelude.{option_map}
-use Rattle.std.specs.Option.{IsSomeAnd}
-use Rattle.std.proofs.lemmas.List.{length-take-le, length-drop, take_at, drop_at}
-use Rattle.folder_calls.specs.World.{IsPieceFrom, GivesPart}
-use Rattle.folder_tests.specs.declared.disk.Call.{Call}
-use Rattle.folder_tests.specs.Memory.{now_of, moments_of}
+use Rattle.folder_calls.specs.World.{GivesPart, IsPieceFrom}
+use Rattle.folder_tests.specs.{Memory.moments_of, Memory.now_of, declared.disk.Call.Call}
+use Rattle.std.proofs.Common.{[], ap, arith, drop, length, List, min, None, refl, Some, subst, sym, take, ℕ, ◌++◌, ◌-◌}
+use Rattle.std.proofs.Common.{◌<◌, ◌∙◌, ◌≡◌, ◌≤◌}
+use Rattle.std.proofs.lemmas.List.{drop_at, length-drop, length-take-le, take_at}
+use Rattle.std.specs.{Option.IsSomeAnd, Prelude.option_map}
 
 -- past the end there is nothing
 pub none_past : (bytes : List ℕ) (at : ℕ) → length bytes ≤ at → IsPieceFrom at [] bytes

@@ -1,12 +1,11 @@
 -- A digest's text is read as that digest.
-use Rattle.std.proofs.Common.{◌≡◌, ◌*◌, ◌∙◌, List, length, ap, arith}
-use Rattle.std.specs.Prelude.{ℕ, true, Result, Ok, Err, Some, OnOk}
-use Rattle.std.specs.Result.{result_ok}
-use Rattle.std.specs.Str.{bytes_eq}
-use Rattle.std.proofs.lemmas.Slice.Eq.{bytes_eq-Decides}
-use Rattle.hex.specs.Hex.{decode_sized, decode_of, encode_lower, lower_digits}
-use Rattle.hex.proofs.HexLemmas.{length-encode_with, decode_of-encode_lower, decode_sized-twice}
 use Rattle.hall_text.specs.Words.{IsDigestText}
+use Rattle.hex.proofs.HexLemmas.{decode_of-encode_lower, decode_sized-twice, length-encode_with}
+use Rattle.hex.specs.Hex.{decode_of, decode_sized, encode_lower, lower_digits}
+use Rattle.std.proofs.Common.{ap, arith, length, List, ◌*◌, ◌∙◌, ◌≡◌}
+use Rattle.std.proofs.lemmas.Slice.Eq.{bytes_eq-Decides}
+use Rattle.std.specs.Prelude.{Err, Ok, OnOk, Result, Some, true, ℕ}
+use Rattle.std.specs.{Result.result_ok, Str.bytes_eq}
 
 -- the text of a digest is 64 digits that are decoded as its 32 bytes
 pub digest_decodes : (word digest : List ℕ) → IsDigestText word digest → decode_sized word 32 ≡ Ok digest

@@ -1,11 +1,9 @@
 -- The tokens from a place on: the one that begins there, and then those after it.
-use Rattle.std.proofs.Common.{◌≡◌, ◌∙◌, ℕ, suc, zero, ◌+◌, ◌-◌, ◌<◌, ◌≤◌, Bool, true, false, List, [], ◌∷◌, length}
-use Rattle.std.proofs.Common.{get_or, drop, refl, ap, sym, add-one, arith, drop-cons}
-use Rattle.std.specs.Prelude.{nat_lt, if◌then◌else◌}
-use Rattle.std.proofs.lemmas.Bool.{lt-ltb, le-ltb}
-use Rattle.std.proofs.lemmas.List.{drop-drop}
-use Rattle.hall_text.specs.declared.spans.Span.{Span}
-use Rattle.hall_text.specs.Tokens.{token_end, tokens_from}
+use Rattle.hall_text.specs.{Tokens.token_end, Tokens.tokens_from, declared.spans.Span.Span}
+use Rattle.std.proofs.Common.{[], add-one, ap, arith, Bool, drop, drop-cons, false, get_or, length, List, refl, suc}
+use Rattle.std.proofs.Common.{sym, true, zero, ℕ, ◌+◌, ◌-◌, ◌<◌, ◌∙◌, ◌∷◌, ◌≡◌, ◌≤◌}
+use Rattle.std.proofs.lemmas.{Bool.le-ltb, Bool.lt-ltb, List.drop-drop}
+use Rattle.std.specs.Prelude.{if◌then◌else◌, nat_lt}
 
 -- the second of three where its test alone holds
 second_of : {A : Type 0} (p q : Bool) (x y z : A) → p ≡ false → q ≡ true → (if p then x else if q then y else z) ≡ y

@@ -1,14 +1,11 @@
 -- A decimal is read as its number.
-use Rattle.std.proofs.Common.{[], ◌≡◌, ◌∙◌, ℕ, ◌+◌, ◌-◌, ◌*◌, ◌^◌, ◌<◌, Bool, true, false, List, ◌∷◌, Option, Some}
-use Rattle.std.proofs.Common.{None, refl, ap, sym, arith}
-use Rattle.std.specs.Prelude.{◌&&◌, nat_lt, if◌then◌else◌}
-use Rattle.std.specs.Fmt.{decimal}
-use Rattle.std.specs.Str.{bytes_eq}
-use Rattle.std.proofs.lemmas.Slice.Eq.{bytes_eq-Decides}
-use Rattle.std.proofs.lemmas.Bool.{ltb-true, lt-ltb}
-use Rattle.canonical_sexp.specs.Forms.{Finds}
 use Rattle.canonical_sexp.proofs.Decimal.{number_from, number_from-decimal}
-use Rattle.hall_text.specs.Words.{value_from, number_in}
+use Rattle.canonical_sexp.specs.Forms.{Finds}
+use Rattle.hall_text.specs.Words.{number_in, value_from}
+use Rattle.std.proofs.Common.{[], ap, arith, Bool, false, List, None, Option, refl, Some, sym, true, ℕ, ◌*◌, ◌+◌, ◌-◌}
+use Rattle.std.proofs.Common.{◌<◌, ◌^◌, ◌∙◌, ◌∷◌, ◌≡◌}
+use Rattle.std.proofs.lemmas.{Bool.lt-ltb, Bool.ltb-true, Slice.Eq.bytes_eq-Decides}
+use Rattle.std.specs.{Fmt.decimal, Prelude.if◌then◌else◌, Prelude.nat_lt, Prelude.◌&&◌, Str.bytes_eq}
 
 -- digits have the value here that they have in the library's decimals
 value_is : (n : ℕ) (bytes : List ℕ) → value_from n bytes ≡ number_from n bytes

@@ -1,7 +1,6 @@
 -- Lists that have all spans of a kind, in their order.
-use Rattle.std.proofs.Common.{◌↔◌, List}
-use Rattle.hall_text.specs.declared.spans.Span.{Span}
-use Rattle.hall_text.specs.Spans.{AreAll}
+use Rattle.hall_text.specs.{Spans.AreAll, declared.spans.Span.Span}
+use Rattle.std.proofs.Common.{List, ◌↔◌}
 
 -- spans that have one description have every equivalent description
 pub same_spans : (P Q : Span → Type 0) (spans : List Span) → ((s : Span) → P s ↔ Q s) → AreAll P spans → AreAll Q spans

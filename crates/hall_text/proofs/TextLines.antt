@@ -1,14 +1,10 @@
 -- The lines of a text: they lie in it, and those of lines that are written one after another are these.
-use Rattle.std.proofs.Common.{◌≡◌, ◌≢◌, ◌∙◌, ℕ, ◌+◌, ◌-◌, ◌≤◌, Bool, true, false, List, [], ◌∷◌, ◌++◌, length}
-use Rattle.std.proofs.Common.{take, drop, map, refl, ap, sym, append_assoc, length-append, arith}
-use Rattle.std.specs.Prelude.{All, nat_lt, ◌==◌, if◌then◌else◌}
-use Rattle.std.specs.List.{flat_map}
-use Rattle.std.proofs.lemmas.Bool.{le-ltb, ne_eqb}
-use Rattle.std.proofs.lemmas.List.{drop_at, take_at}
-use Rattle.std.proofs.lemmas.List.Elements.{All-nil, All-cons, All-head, All-tail}
-use Rattle.hall_text.specs.declared.spans.Span.{Span}
-use Rattle.hall_text.specs.Spans.{piece}
-use Rattle.hall_text.specs.Lines.{lines_from, line_spans, text_lines}
+use Rattle.hall_text.specs.{Lines.line_spans, Lines.lines_from, Lines.text_lines, Spans.piece, declared.spans.Span.Span}
+use Rattle.std.proofs.Common.{[], ap, append_assoc, arith, Bool, drop, false, length, length-append, List, map, refl}
+use Rattle.std.proofs.Common.{sym, take, true, ℕ, ◌++◌, ◌+◌, ◌-◌, ◌∙◌, ◌∷◌, ◌≡◌, ◌≢◌, ◌≤◌}
+use Rattle.std.proofs.lemmas.{Bool.le-ltb, Bool.ne_eqb, List.drop_at, List.take_at}
+use Rattle.std.proofs.lemmas.List.Elements.{All-cons, All-head, All-nil, All-tail}
+use Rattle.std.specs.{List.flat_map, Prelude.All, Prelude.if◌then◌else◌, Prelude.nat_lt, Prelude.◌==◌}
 
 -- the span lies in a text of this length
 abbrev pub IsWithin : ℕ → Span → Type 0

@@ -1,11 +1,9 @@
 -- The tokens that begin before a place, as the reader comes to it.
-use Rattle.std.proofs.Common.{◌≡◌, ◌⊎◌, inl, inr, ℕ, ◌+◌, ◌-◌, ◌<◌, ◌≤◌, List, length, get_or, subst}
-use Rattle.std.proofs.Common.{⊎_elim, arith}
-use Rattle.std.proofs.lemmas.Bool.{cases_lt}
-use Rattle.hall_text.specs.declared.spans.Span.{Span}
-use Rattle.hall_text.specs.Spans.{IsWordByte, IsParenthesis, IsWord, IsAlone, IsToken, AreAll}
-use Rattle.hall_text.specs.Places.{CutsNoWord, BeginsToken}
 use Rattle.hall_text.proofs.SpanLists.{same_spans}
+use Rattle.hall_text.specs.{Places.BeginsToken, Places.CutsNoWord, Spans.AreAll, Spans.IsAlone, Spans.IsParenthesis}
+use Rattle.hall_text.specs.{Spans.IsToken, Spans.IsWord, Spans.IsWordByte, declared.spans.Span.Span}
+use Rattle.std.proofs.Common.{arith, get_or, inl, inr, length, List, subst, ℕ, ⊎_elim, ◌+◌, ◌-◌, ◌<◌, ◌≡◌, ◌≤◌, ◌⊎◌}
+use Rattle.std.proofs.lemmas.Bool.{cases_lt}
 
 -- no parenthesis is a byte of a word
 no_word_byte : (byte : ℕ) → IsWordByte byte → IsParenthesis byte → ⊥

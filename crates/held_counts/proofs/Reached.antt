@@ -1,31 +1,22 @@
 -- What is counted from an entry is what was held before it.
-use Rattle.std.proofs.Common.{◌≡◌, ℕ, zero, suc, ◌+◌, ◌-◌, ◌<◌, ◌≤◌, Bool, true, false, cond, List, [], ◌∷◌, ◌++◌}
-use Rattle.std.proofs.Common.{length, Some, refl, sym, ap, subst, ◌∙◌, ◌⊎◌, inl, inr, arith, replicate}
-use Rattle.std.specs.Prelude.{slice_get, slice_index, slice_set, ◌↔◌, ◌==◌, nat_lt, nat_le, ◌&&◌}
-use Rattle.std.specs.List.{Contains}
-use Rattle.std.proofs.lemmas.List.{length-replicate, get_or-set_same, get_or-set_other, length-set}
-use Rattle.std.proofs.lemmas.Bool.{cases_eq, and_parts, and_from, ltb-true, leb-true, lt-ltb, le-leb, eqb-true}
-use Rattle.std.proofs.lemmas.Bool.{eqb-false}
-use Rattle.std.proofs.lemmas.Option.{slice_get_within}
-use Rattle.entry_order.specs.declared.event.Event.{Event}
-use Rattle.entry_order.specs.declared.event.Event.TheVariants.{Sent, Got}
-use Rattle.entry_order.specs.Node.{Node}
-use Rattle.entry_order.specs.History.{entry_of, held, sent, greatest_stamp}
-use Rattle.entry_order.specs.World.{Machine, World, history, sent_in}
-use Rattle.entry_order.specs.HeldBefore.{HeldBefore, HeldBefore.itself}
-use Rattle.entry_order.specs.Receipt.{IsOrderly}
-use Rattle.entry_order.specs.Forms.{HeldItself, IsChain}
-use Rattle.entry_order.proofs.Lists.{Contains-none, Contains-head, Contains-later, Contains-at, Contains-cons_cases}
-use Rattle.entry_order.proofs.Lists.{Contains-map}
-use Rattle.entry_order.proofs.Orders.{along, was_sent, held_was_sent, held_lower, next_of}
-use Rattle.entry_order.proofs.Orders.{sent_from_after, Contains-sent_cases}
-use Rattle.entry_order.proofs.Histories.{nth_split}
-use Rattle.entry_order.proofs.Stamps.{stamp_below}
-use Rattle.entry_order.proofs.Forms.{to_chain}
-use Rattle.entry_order.proofs.Machines.{nth_of_sent, in_world}
-use Rattle.entry_order.proofs.Places.{element_at, member_at, one_at}
+use Rattle.entry_order.proofs.{Forms.to_chain, Histories.nth_split, Lists.Contains-at}
+use Rattle.entry_order.proofs.Lists.{Contains-cons_cases, Contains-head, Contains-later, Contains-map, Contains-none}
+use Rattle.entry_order.proofs.Machines.{in_world, nth_of_sent}
+use Rattle.entry_order.proofs.Orders.{along, Contains-sent_cases, held_lower, held_was_sent, next_of, sent_from_after}
+use Rattle.entry_order.proofs.{Orders.was_sent, Places.element_at, Places.member_at, Places.one_at, Stamps.stamp_below}
+use Rattle.entry_order.specs.{Forms.HeldItself, Forms.IsChain, HeldBefore.HeldBefore, HeldBefore.HeldBefore.itself}
+use Rattle.entry_order.specs.History.{entry_of, greatest_stamp, held, sent}
+use Rattle.entry_order.specs.{Node.Node, Receipt.IsOrderly, World.history, World.Machine, World.sent_in, World.World}
+use Rattle.entry_order.specs.declared.event.Event.{Event, TheVariants.Got, TheVariants.Sent}
 use Rattle.held_counts.specs.Places.{IsSentAt}
-use Rattle.held_counts.specs.inside.Counts.{raised, taken_in, spread_one, spread, spread_times, is_held_before}
+use Rattle.held_counts.specs.inside.Counts.{is_held_before, raised, spread, spread_one, spread_times, taken_in}
+use Rattle.std.proofs.Common.{[], ap, arith, Bool, cond, false, inl, inr, length, List, refl, replicate, Some, subst}
+use Rattle.std.proofs.Common.{suc, sym, true, zero, ℕ, ◌++◌, ◌+◌, ◌-◌, ◌<◌, ◌∙◌, ◌∷◌, ◌≡◌, ◌≤◌, ◌⊎◌}
+use Rattle.std.proofs.lemmas.Bool.{and_from, and_parts, cases_eq, eqb-false, eqb-true, le-leb, leb-true, lt-ltb}
+use Rattle.std.proofs.lemmas.{Bool.ltb-true, List.get_or-set_other, List.get_or-set_same, List.length-replicate}
+use Rattle.std.proofs.lemmas.{List.length-set, Option.slice_get_within}
+use Rattle.std.specs.List.{Contains}
+use Rattle.std.specs.Prelude.{nat_le, nat_lt, slice_get, slice_index, slice_set, ◌&&◌, ◌==◌, ◌↔◌}
 
 -- ---- one count raised
 

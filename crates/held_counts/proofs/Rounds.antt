@@ -1,9 +1,8 @@
 -- Rounds after one that raises nothing.
-use Rattle.std.proofs.Common.{◌≡◌, ◌∙◌, ℕ, zero, suc, ◌≤◌, List, sym, ap, arith, inl, inr}
-use Rattle.std.proofs.lemmas.Bool.{cases_eq}
-use Rattle.entry_order.specs.Node.{Node}
-use Rattle.entry_order.specs.World.{World}
+use Rattle.entry_order.specs.{Node.Node, World.World}
 use Rattle.held_counts.specs.inside.Counts.{spread, spread_times}
+use Rattle.std.proofs.Common.{ap, arith, inl, inr, List, suc, sym, zero, ℕ, ◌∙◌, ◌≡◌, ◌≤◌}
+use Rattle.std.proofs.lemmas.Bool.{cases_eq}
 
 -- further rounds raise nothing where one round raises nothing
 pub spread_times_fixed : {T : Type 0} (node : T → Node) (w : World T) (counts : List ℕ) (n m : ℕ) →

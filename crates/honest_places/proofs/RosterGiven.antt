@@ -1,7 +1,6 @@
 -- The file with the text of a script's roster gives the script's roster.
-use Rattle.honest_places.proofs.Imports
-use Imports.{Err, GivesRoster, IsRosterOf, List, Ok, Option, Refusal, Result, RosterRead, Script, SealedEntry, World, ℕ}
-use Imports.{◌≡◌}
+use Rattle.honest_places.proofs.Imports.{Err, GivesRoster, IsRosterOf, List, Ok, Option, Refusal, Result, RosterRead}
+use Rattle.honest_places.proofs.Imports.{Script, SealedEntry, World, ℕ, ◌≡◌}
 use Rattle.honest_places.proofs.RosterTexts.{read_of_script, script_roster_given}
 
 module _ (script : Script) (w : World SealedEntry) (roster : Option (List ℕ)) (is : IsRosterOf script w roster)

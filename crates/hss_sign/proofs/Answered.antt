@@ -1,21 +1,17 @@
 -- The answers of calls, one more.
-use Rattle.std.proofs.Common.{◌≡◌, ℕ, ◌+◌, ◌-◌, ◌*◌, ◌/◌, ◌%◌, ◌^◌, List, [], ◌∷◌, ◌++◌, Result}
-use Rattle.std.proofs.Common.{Ok, Err, length, map, take, get_or, refl, sym, ap, ◌∙◌, inl, inr, arith}
-use Rattle.std.proofs.Math.Seq.{take-append_seam, get_or-append_right}
-use Rattle.std.proofs.lemmas.Bool.{cases_lt}
-use Rattle.std.proofs.lemmas.List.{length_push, map_push, get_or_append_left, take-append-le}
+use Rattle.hss_sign.specs.Calls.{EachOnce, hss_used, HssAnswersEach, IsHssAnswer, leaves_of}
+use Rattle.hss_sign.specs.TwoLevels.{TwoLevelSecret}
+use Rattle.hss_sign.specs.declared.secret.HssFault.{HssFault, TheVariants.Memory}
+use Rattle.lms_ots.proofs.Pieces.{range_with_len_next}
+use Rattle.lms_sign.proofs.Answered.{accepted_err, accepted_ok}
+use Rattle.lms_sign.specs.Calls.{accepted}
+use Rattle.std.proofs.Common.{[], ap, arith, Err, get_or, inl, inr, length, List, map, Ok, refl, Result, sym, take, ℕ}
+use Rattle.std.proofs.Common.{◌%◌, ◌*◌, ◌++◌, ◌+◌, ◌-◌, ◌/◌, ◌^◌, ◌∙◌, ◌∷◌, ◌≡◌}
+use Rattle.std.proofs.{Math.Seq.get_or-append_right, Math.Seq.take-append_seam, lemmas.Bool.cases_lt}
+use Rattle.std.proofs.lemmas.List.{get_or_append_left, length_push, map_push, take-append-le}
 use Rattle.std.proofs.lemmas.List.FromFn.{get_or-map-range_with_len, length-map-range_with_len}
 use Rattle.std.proofs.lemmas.Nat.{shr_split}
-use Rattle.std.specs.Global.{Vec}
-use Rattle.std.specs.List.{range_with_len}
-use Rattle.std.specs.Prelude.{IfOk, OnOk, OnErr}
-use Rattle.lms_ots.proofs.Pieces.{range_with_len_next}
-use Rattle.lms_sign.specs.Calls.{accepted}
-use Rattle.lms_sign.proofs.Answered.{accepted_err, accepted_ok}
-use Rattle.hss_sign.specs.TwoLevels.{TwoLevelSecret}
-use Rattle.hss_sign.specs.declared.secret.HssFault.{HssFault}
-use Rattle.hss_sign.specs.declared.secret.HssFault.TheVariants.{Memory}
-use Rattle.hss_sign.specs.Calls.{EachOnce, HssAnswersEach, IsHssAnswer, hss_used, leaves_of}
+use Rattle.std.specs.{Global.Vec, List.range_with_len, Prelude.IfOk, Prelude.OnErr, Prelude.OnOk}
 
 -- a call of `sign` continues the row of leaves
 pub sign_answered : {V E : Type 0} → (leaves : V → ℕ × ℕ) (xs ys : List (Result V E)) (r : Result V E)

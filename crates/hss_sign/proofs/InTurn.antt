@@ -1,19 +1,14 @@
 -- Calls on one key, one after another.
-use Rattle.std.proofs.Common.{◌≡◌, ◌↔◌, ℕ, ◌+◌, ◌^◌, ◌<◌, ◌≤◌, ◌∙◌, List, [], ◌∷◌, Result, Ok, Err, All}
-use Rattle.std.proofs.Common.{IfOk, IsErrOf, OnErr, OnOk, length, map, refl, sym, ap, subst, inl, inr, arith}
-use Rattle.std.proofs.lemmas.Bool.{cases_lt}
-use Rattle.std.proofs.lemmas.List.Elements.{All-cons, All-nil}
-use Rattle.std.specs.Global.{Vec}
-use Rattle.std.specs.List.{range_with_len}
-use Rattle.lms_sign.specs.Calls.{accepted}
-use Rattle.hss_sign.specs.declared.secret.HssFault.{HssFault}
-use Rattle.hss_sign.specs.declared.secret.HssFault.TheVariants.{Spent}
-use Rattle.hss_sign.specs.Calls.{EachOnce, hss_used, leaves_of}
-use Rattle.hss_sign.specs.Signings.{AreSigningsBy, LeavesSignOnce, NoneAfterTheLast, NumbersRiseByOne}
-use Rattle.hss_sign.specs.Signings.{Signing, SpentExactlyAfterTheLast, signatures_of}
-use Rattle.hss_sign.specs.Signs.{leaves_in}
-use Rattle.hss_sign.specs.TwoLevels.{TwoLevelSecret}
 use Rattle.hss_sign.proofs.Answered.{leaves_differ}
+use Rattle.hss_sign.specs.{Calls.EachOnce, Calls.hss_used, Calls.leaves_of, Signings.AreSigningsBy}
+use Rattle.hss_sign.specs.Signings.{LeavesSignOnce, NoneAfterTheLast, NumbersRiseByOne, signatures_of, Signing}
+use Rattle.hss_sign.specs.{Signings.SpentExactlyAfterTheLast, Signs.leaves_in, TwoLevels.TwoLevelSecret}
+use Rattle.hss_sign.specs.declared.secret.HssFault.{HssFault, TheVariants.Spent}
+use Rattle.lms_sign.specs.Calls.{accepted}
+use Rattle.std.proofs.Common.{[], All, ap, arith, Err, IfOk, inl, inr, IsErrOf, length, List, map, Ok, OnErr, OnOk}
+use Rattle.std.proofs.Common.{refl, Result, subst, sym, ℕ, ◌+◌, ◌<◌, ◌^◌, ◌↔◌, ◌∙◌, ◌∷◌, ◌≡◌, ◌≤◌}
+use Rattle.std.proofs.lemmas.{Bool.cases_lt, List.Elements.All-cons, List.Elements.All-nil}
+use Rattle.std.specs.{Global.Vec, List.range_with_len}
 
 -- what the answers that weren't refused gave
 abbrev given : List (Result (Vec ℕ) HssFault) → List (List ℕ)

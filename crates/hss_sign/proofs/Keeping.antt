@@ -1,14 +1,11 @@
 -- What is kept between signatures.
-use Rattle.std.proofs.Common.{◌≡◌, ◌≢◌, ℕ, ◌+◌, ◌/◌, ◌%◌, ◌^◌, ◌<◌, ◌∙◌, List, ◌++◌, Option, Some, None, IfSome}
-use Rattle.std.proofs.Common.{sym, ap, subst, inl, inr, arith}
-use Rattle.std.proofs.lemmas.Bool.{cases_lt}
-use Rattle.lms_sign.specs.Height.{IsHeight}
-use Rattle.lms_sign.specs.Secret.{Secret, public_of, signed_by}
+use Rattle.hss_sign.proofs.{Numbers.next_tree, Numbers.parts_of, Numbers.whole_of, Signed.signed_is}
+use Rattle.hss_sign.specs.TwoLevels.{hss_signed, low_tree_of, top_tree, TwoLevelSecret}
 use Rattle.hss_sign.specs.declared.low_tree.LowTree.{LowTree}
-use Rattle.hss_sign.specs.TwoLevels.{TwoLevelSecret, hss_signed, top_tree, low_tree_of}
-use Rattle.hss_sign.specs.inside.Kept.{IsKept, Keeps, head_of}
-use Rattle.hss_sign.proofs.Numbers.{next_tree, parts_of, whole_of}
-use Rattle.hss_sign.proofs.Signed.{signed_is}
+use Rattle.hss_sign.specs.inside.Kept.{head_of, IsKept, Keeps}
+use Rattle.lms_sign.specs.{Height.IsHeight, Secret.public_of, Secret.Secret, Secret.signed_by}
+use Rattle.std.proofs.Common.{ap, arith, IfSome, inl, inr, List, None, Option, Some, subst, sym, ℕ, ◌%◌, ◌++◌, ◌+◌, ◌/◌}
+use Rattle.std.proofs.{Common.◌<◌, Common.◌^◌, Common.◌∙◌, Common.◌≡◌, Common.◌≢◌, lemmas.Bool.cases_lt}
 
 -- the kept tree has a leaf for the next signature
 abbrev pub IsReady : TwoLevelSecret → Secret → LowTree → Type 0

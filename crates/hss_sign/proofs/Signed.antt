@@ -1,27 +1,21 @@
 -- The signatures of a two-level key are signatures under its public key.
-use Rattle.std.proofs.Common.{◌≡◌, ℕ, ◌+◌, ◌*◌, ◌/◌, ◌%◌, ◌^◌, ◌<◌, ◌∙◌, List, ◌++◌, length, drop, codes}
-use Rattle.std.proofs.Common.{refl, sym, ap, arith}
-use Rattle.std.proofs.lemmas.List.{append_assoc, drop_at, length-take-le, take-append-le}
-use Rattle.std.specs.Int.{w32, from_be_bytes}
-use Rattle.std.specs.List.{flat_map, range_with_len}
-use Rattle.sha2.specs.Sha256.{sha256}
-use Rattle.sha2.proofs.Facts256.{length-sha256}
-use Rattle.lms_ots.specs.declared.kind.OtsKind.{OtsKind}
-use Rattle.lms_ots.specs.Parameters.{parameters}
-use Rattle.lms_ots.specs.Ots.{signature_of, u32str}
-use Rattle.lms_ots.proofs.Candidates.{length-signature_of, length-u32str}
-use Rattle.lms_ots.proofs.Pieces.{length-pieces}
-use Rattle.lms_sign.specs.Height.{IsHeight, lms_typecode}
-use Rattle.lms_sign.specs.Secret.{Secret, public_of, signed_by}
+use Rattle.hss_sign.proofs.Numbers.{tree_within, whole_of}
+use Rattle.hss_sign.specs.Signs.{HssSigns, leaves_in}
+use Rattle.hss_sign.specs.TwoLevels.{hss_public, hss_signed, low_id, low_tree, top_tree, TwoLevelSecret}
+use Rattle.hss_sign.specs.inside.Kept.{head_of}
+use Rattle.lms_ots.proofs.{Candidates.length-signature_of, Candidates.length-u32str, Pieces.length-pieces}
+use Rattle.lms_ots.specs.{Ots.signature_of, Ots.u32str, Parameters.parameters, declared.kind.OtsKind.OtsKind}
+use Rattle.lms_sign.proofs.{Heights.leaves_of, Parts.fourth_part, Parts.length_parts}
+use Rattle.lms_sign.proofs.Signatures.{index-signed, length-node, signed_signs}
+use Rattle.lms_sign.specs.{Height.IsHeight, Height.lms_typecode, Secret.public_of, Secret.Secret, Secret.signed_by}
 use Rattle.lms_sign.specs.Signs.{index_in, lms_signature_len}
 use Rattle.lms_sign.specs.Tree.{lms_public, lms_signed, node, sibling}
-use Rattle.lms_sign.proofs.Heights.{leaves_of}
-use Rattle.lms_sign.proofs.Parts.{fourth_part, length_parts}
-use Rattle.lms_sign.proofs.Signatures.{index-signed, length-node, signed_signs}
-use Rattle.hss_sign.specs.TwoLevels.{TwoLevelSecret, hss_public, hss_signed, low_id, low_tree, top_tree}
-use Rattle.hss_sign.specs.Signs.{HssSigns, leaves_in}
-use Rattle.hss_sign.specs.inside.Kept.{head_of}
-use Rattle.hss_sign.proofs.Numbers.{tree_within, whole_of}
+use Rattle.sha2.proofs.Facts256.{length-sha256}
+use Rattle.sha2.specs.Sha256.{sha256}
+use Rattle.std.proofs.Common.{ap, arith, codes, drop, length, List, refl, sym, ℕ, ◌%◌, ◌*◌, ◌++◌, ◌+◌, ◌/◌, ◌<◌, ◌^◌}
+use Rattle.std.proofs.Common.{◌∙◌, ◌≡◌}
+use Rattle.std.proofs.lemmas.List.{append_assoc, drop_at, length-take-le, take-append-le}
+use Rattle.std.specs.{Int.from_be_bytes, Int.w32, List.flat_map, List.range_with_len}
 
 -- a signature of a tree has the length of its types
 length-lms_signed : (kind : OtsKind) (h : ℕ) (id seed : List ℕ) (q : ℕ) (message : List ℕ)

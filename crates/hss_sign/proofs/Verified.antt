@@ -1,16 +1,13 @@
 -- Verification, part by part.
-use Rattle.std.proofs.Common.{◌≡◌, ◌↔◌, ℕ, ◌+◌, ◌≤◌, ◌∙◌, Bool, false, IsTrue, List, ◌++◌, length, take, drop}
-use Rattle.std.proofs.Common.{Err, IsErrOf, refl, sym, ap, arith, subst}
-use Rattle.std.proofs.lemmas.List.{append_assoc, drop_at, length-append, take_at, take-append-drop}
-use Rattle.lms_ots.specs.Ots.{u32str}
+use Rattle.hss_sign.specs.{Signs.HssSigns, inside.Below.SignsBelow}
 use Rattle.lms_ots.proofs.Candidates.{length-u32str}
-use Rattle.lms_ots.specs.declared.kind.OtsKind.{OtsKind}
-use Rattle.lms_sign.specs.declared.public.KeyFault.{KeyFault}
-use Rattle.lms_sign.specs.declared.public.KeyFault.TheVariants.{Length, UnknownType}
-use Rattle.lms_sign.specs.Signs.{HasSignatureLen, HasTypes, Signs, lms_signature_len}
+use Rattle.lms_ots.specs.{Ots.u32str, declared.kind.OtsKind.OtsKind}
 use Rattle.lms_sign.proofs.Types.{same_types}
-use Rattle.hss_sign.specs.Signs.{HssSigns}
-use Rattle.hss_sign.specs.inside.Below.{SignsBelow}
+use Rattle.lms_sign.specs.Signs.{HasSignatureLen, HasTypes, lms_signature_len, Signs}
+use Rattle.lms_sign.specs.declared.public.KeyFault.{KeyFault, TheVariants.Length, TheVariants.UnknownType}
+use Rattle.std.proofs.Common.{ap, arith, Bool, drop, Err, false, IsErrOf, IsTrue, length, List, refl, subst, sym, take}
+use Rattle.std.proofs.Common.{ℕ, ◌++◌, ◌+◌, ◌↔◌, ◌∙◌, ◌≡◌, ◌≤◌}
+use Rattle.std.proofs.lemmas.List.{append_assoc, drop_at, length-append, take-append-drop, take_at}
 
 -- the parts of a signature, by the length of the first
 pub record IsDivided (top message parts : List ℕ) (len : ℕ) : Type 0 where

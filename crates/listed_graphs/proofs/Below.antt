@@ -1,11 +1,9 @@
 -- Graphs whose nodes list their parents.
-use Rattle.std.proofs.Common.{◌≡◌, ℕ, ◌<◌, Bool, true, false, cond, List, [], refl}
-use Rattle.std.specs.Prelude.{nat_lt}
-use Rattle.std.specs.List.{Contains, list_all}
-use Rattle.std.proofs.lemmas.Bool.{ltb-true}
+use Rattle.entry_order.proofs.{Lists.Contains-none, Settled.list_all_each}
 use Rattle.entry_order.specs.Ancestors.{Descends}
-use Rattle.entry_order.proofs.Lists.{Contains-none}
-use Rattle.entry_order.proofs.Settled.{list_all_each}
+use Rattle.std.proofs.Common.{[], Bool, cond, false, List, refl, true, ℕ, ◌<◌, ◌≡◌}
+use Rattle.std.proofs.lemmas.Bool.{ltb-true}
+use Rattle.std.specs.{List.Contains, List.list_all, Prelude.nat_lt}
 
 -- where only lists of lower nodes count, each parent is below its child
 pub lower_lists_descend : (lists : ℕ → List ℕ) →

@@ -1,11 +1,10 @@
 -- A signature's candidate is the public key.
-use Rattle.lms_ots.proofs.Imports.{◌≡◌, ℕ, zero, suc, ◌+◌, ◌-◌, ◌*◌, ◌^◌, ◌<◌, ◌≤◌, List, ◌++◌, length, refl, sym, ap}
-use Rattle.lms_ots.proofs.Imports.{◌∙◌, arith, length-append, append_assoc, drop-drop, take_at, drop_at, flat_map}
-use Rattle.lms_ots.proofs.Imports.{fold, range_with_len, length-sha256, OtsKind, parameters, signature_len, coef}
-use Rattle.lms_ots.proofs.Imports.{cksm, candidate_of, chain, digit_of, element_in, key_from_elements, message_hash}
-use Rattle.lms_ots.proofs.Imports.{public_key, randomizer, randomizer_in, secret_element, signature_of, step, u16str}
-use Rattle.lms_ots.proofs.Imports.{u32str, signed_element}
-use Rattle.lms_ots.proofs.DigitLemmas.{coef_le}
+use Rattle.lms_ots.proofs.{DigitLemmas.coef_le, Imports.ap, Imports.append_assoc, Imports.arith}
+use Rattle.lms_ots.proofs.Imports.{candidate_of, chain, cksm, coef, digit_of, drop-drop, drop_at, element_in, flat_map}
+use Rattle.lms_ots.proofs.Imports.{fold, key_from_elements, length, length-append, length-sha256, List, message_hash}
+use Rattle.lms_ots.proofs.Imports.{OtsKind, parameters, public_key, randomizer, randomizer_in, range_with_len, refl}
+use Rattle.lms_ots.proofs.Imports.{secret_element, signature_len, signature_of, signed_element, step, suc, sym, take_at}
+use Rattle.lms_ots.proofs.Imports.{u16str, u32str, zero, ℕ, ◌*◌, ◌++◌, ◌+◌, ◌-◌, ◌<◌, ◌^◌, ◌∙◌, ◌≡◌, ◌≤◌}
 use Rattle.lms_ots.proofs.Pieces.{length-pieces, piece_at, same_pieces}
 
 -- steps a number of times, from a place on

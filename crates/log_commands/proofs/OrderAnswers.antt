@@ -1,10 +1,9 @@
 -- The answers of `order`.
-use Rattle.log_commands.proofs.Imports.{[], Answer, ap, entries_of, Err, GivesLogs, GivesPlace, GivesRoster, inl, inr}
-use Rattle.log_commands.proofs.Imports.{IsOrderOver, IsPlaceOf, List, LogRead, MeansEntry, MeansNone, None, Ok, Option}
-use Rattle.log_commands.proofs.Imports.{order_parts, Post, Refusal, refusal_answer, RosterRead, SealedEntry, subst, sym}
-use Rattle.log_commands.proofs.Imports.{ℕ, ◌∷◌, ◌≡◌}
 use Rattle.log_commands.proofs.{EntryTexts.named_has, FilesBegun.found_then, FilesBegun.same_found}
-use Rattle.log_commands.proofs.{HonestOrders.order_right}
+use Rattle.log_commands.proofs.{HonestOrders.order_right, Imports.[], Imports.Answer}
+use Rattle.log_commands.proofs.Imports.{ap, entries_of, Err, GivesLogs, GivesPlace, GivesRoster, inl, inr, IsOrderOver}
+use Rattle.log_commands.proofs.Imports.{IsPlaceOf, List, LogRead, MeansEntry, MeansNone, None, Ok, Option, order_parts}
+use Rattle.log_commands.proofs.Imports.{Post, Refusal, refusal_answer, RosterRead, SealedEntry, subst, sym, ℕ, ◌∷◌, ◌≡◌}
 
 -- where no entry of S is what a word means, it means none
 pub means_none : (machines : List Post) (S : List SealedEntry) (word : List ℕ) →

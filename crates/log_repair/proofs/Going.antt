@@ -1,12 +1,11 @@
 -- Steps that are taken and added to a list, until the whole way is gone.
-use Rattle.log_repair.proofs.Imports.{◌≡◌, ◌∙◌, ℕ, ◌+◌, ◌*◌, ◌<◌, arith, Bool, true, false, List, [], ◌∷◌, ◌++◌, length}
-use Rattle.log_repair.proofs.Imports.{refl, ap, Result, Ok, Err, OnErr, append_assoc, append-nil, true≢false}
-use Rattle.log_repair.proofs.Imports.{length-append, if◌then◌else◌, node_of_sealed, SealedEntry, Step, World, ◌↔◌}
-use Rattle.log_repair.proofs.Imports.{happens, WorldState, world_of, LeadsTo, MachineState, NextEntry, Completes}
-use Rattle.log_repair.proofs.Imports.{WorldWay, InOrder, Adds, Fails, Going, IsMadeAsBefore, Says, Stays, spare}
-use Rattle.log_repair.proofs.Making.{same_log}
-use Rattle.log_repair.proofs.OneWay.{AnyStep, Continues, IsSure, Loops, LoopsWhile, goes_further}
-use Rattle.log_repair.proofs.Plays.{play-append}
+use Rattle.log_repair.proofs.Imports.{[], Adds, ap, append-nil, append_assoc, arith, Bool, Completes, Err, Fails, false}
+use Rattle.log_repair.proofs.Imports.{Going, happens, if◌then◌else◌, InOrder, IsMadeAsBefore, LeadsTo, length}
+use Rattle.log_repair.proofs.Imports.{length-append, List, MachineState, NextEntry, node_of_sealed, Ok, OnErr, refl}
+use Rattle.log_repair.proofs.Imports.{Result, Says, SealedEntry, spare, Stays, Step, true, true≢false, World, world_of}
+use Rattle.log_repair.proofs.Imports.{WorldState, WorldWay, ℕ, ◌*◌, ◌++◌, ◌+◌, ◌<◌, ◌↔◌, ◌∙◌, ◌∷◌, ◌≡◌}
+use Rattle.log_repair.proofs.{Making.same_log, OneWay.AnyStep, OneWay.Continues, OneWay.goes_further, OneWay.IsSure}
+use Rattle.log_repair.proofs.{OneWay.Loops, OneWay.LoopsWhile, Plays.play-append}
 
 -- from any world the way leads on, for whatever function says what these machines may send
 abbrev pub GoesOn : WorldWay → List MachineState → Type 0

@@ -1,9 +1,8 @@
 -- Mending and finishing are plays of steps of the world's machines, and plays only add to histories.
-use Rattle.log_repair.proofs.Imports.{◌≡◌, ℕ, List, [], ◌∷◌, ◌++◌, Option, refl, inl, inr, append_assoc, append-nil}
-use Rattle.log_repair.proofs.Imports.{Event, Step, Node, World, happens, play, Grows-step, HistoriesOnlyGrow}
-use Rattle.log_repair.proofs.Imports.{MendingIsAPlay, Finishes, Repairs, length, All, All-cons, All-nil, length_play}
-use Rattle.log_repair.proofs.Imports.{IsStepOf}
 use Rattle.log_repair.proofs.Events.{Heard, heard_if}
+use Rattle.log_repair.proofs.Imports.{[], All, All-cons, All-nil, append-nil, append_assoc, Event, Finishes, Grows-step}
+use Rattle.log_repair.proofs.Imports.{happens, HistoriesOnlyGrow, inl, inr, IsStepOf, length, length_play, List}
+use Rattle.log_repair.proofs.Imports.{MendingIsAPlay, Node, Option, play, refl, Repairs, Step, World, ℕ, ◌++◌, ◌∷◌, ◌≡◌}
 use Rattle.log_repair.proofs.OneWay.{AnyStep, AreTaken, finishes_sure, repairs_sure}
 
 module _ {T : Type 0} (node : T → Node) (next : ℕ → List (Event T) → Option T) (log : ℕ) where

@@ -1,11 +1,9 @@
 -- Mending has at most as many steps as there are machines times sent entries.
-use Rattle.log_repair.proofs.Imports.{◌≡◌, ◌∙◌, ℕ, zero, suc, ◌+◌, ◌*◌, ◌≤◌, arith, suc-mul, List, [], ◌∷◌, length}
-use Rattle.log_repair.proofs.Imports.{Option, refl, length-map, Event, Step, Node, entry_of, held, IsOrderly, World}
-use Rattle.log_repair.proofs.Imports.{happens, history, sent_in, few_among, length_play, MendingIsShort, total}
-use Rattle.log_repair.proofs.Bearers.{held_in, differ_after}
-use Rattle.log_repair.proofs.Events.{Heard, heard_if}
-use Rattle.log_repair.proofs.Plays.{repairs_is_a_play}
-use Rattle.log_repair.proofs.OneWay.{AreTaken, repairs_sure}
+use Rattle.log_repair.proofs.{Bearers.differ_after, Bearers.held_in, Events.Heard, Events.heard_if}
+use Rattle.log_repair.proofs.Imports.{[], arith, entry_of, Event, few_among, happens, held, history, IsOrderly, length}
+use Rattle.log_repair.proofs.Imports.{length-map, length_play, List, MendingIsShort, Node, Option, refl, sent_in, Step}
+use Rattle.log_repair.proofs.Imports.{suc, suc-mul, total, World, zero, ℕ, ◌*◌, ◌+◌, ◌∙◌, ◌∷◌, ◌≡◌, ◌≤◌}
+use Rattle.log_repair.proofs.{OneWay.AreTaken, OneWay.repairs_sure, Plays.repairs_is_a_play}
 
 total_few : {T : Type 0} (most : ℕ) (w : World T) → ((m : ℕ) → length (history w m) ≤ most) → total w ≤ length w * most
 total_few most [] small = omega arith

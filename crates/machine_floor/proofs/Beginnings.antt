@@ -1,13 +1,12 @@
 -- A station before anything happened is one.
-use Rattle.machine_floor.proofs.Imports.{◌≡◌, ℕ, ◌<◌, List, [], ◌∷◌, length, map, refl, sym, ap, ◌∙◌, subst, arith}
-use Rattle.machine_floor.proofs.Imports.{get_or, Option, All, InView, LinkView, OutView, IsLawful, Script}
-use Rattle.machine_floor.proofs.Imports.{node_of_sealed, SealedEntry, Contains-none, sent, Event, Got, arriving}
-use Rattle.machine_floor.proofs.Imports.{got_from, IsStopOf, AreNewLinks, in_of, out_of, IsNewStation, lose_lines_of}
-use Rattle.machine_floor.proofs.Imports.{IsOfLinks, IsStation, IsTakenWell, StationState, new_in, new_out, ticks_from}
-use Rattle.machine_floor.proofs.Imports.{IsBeginning, begun, IsFresh, IsMachine, MachineState, get_or-map}
-use Rattle.machine_floor.proofs.Imports.{get_or_default, length-map, slice_get_within, Contains}
-use Rattle.machine_floor.proofs.Imports.{link_at}
 use Rattle.machine_floor.proofs.Hands.{some_of}
+use Rattle.machine_floor.proofs.Imports.{[], All, ap, AreNewLinks, arith, arriving, begun, Contains, Contains-none}
+use Rattle.machine_floor.proofs.Imports.{Event, get_or, get_or-map, get_or_default, Got, got_from, in_of, InView}
+use Rattle.machine_floor.proofs.Imports.{IsBeginning, IsFresh, IsLawful, IsMachine, IsNewStation, IsOfLinks, IsStation}
+use Rattle.machine_floor.proofs.Imports.{IsStopOf, IsTakenWell, length, length-map, link_at, LinkView, List}
+use Rattle.machine_floor.proofs.Imports.{lose_lines_of, MachineState, map, new_in, new_out, node_of_sealed, Option}
+use Rattle.machine_floor.proofs.Imports.{out_of, OutView, refl, Script, SealedEntry, sent, slice_get_within}
+use Rattle.machine_floor.proofs.Imports.{StationState, subst, sym, ticks_from, ℕ, ◌<◌, ◌∙◌, ◌∷◌, ◌≡◌}
 
 module _ (script : Script) (m : MachineState) (outs : List (OutView SealedEntry)) (inns : List (InView SealedEntry))
     (is : IsBeginning script m outs inns) (kept : IsMachine m) where

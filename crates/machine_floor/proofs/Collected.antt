@@ -1,27 +1,26 @@
 -- What the stations of a script leave together, once the links between them are finished.
-use Rattle.machine_floor.proofs.Imports.{subst, IsFresh, IsStopOf, AreOnWay}
-use Rattle.machine_floor.proofs.Imports.{◌≡◌, ◌≢◌, ℕ, suc, ◌+◌, ◌<◌, ◌≤◌, Bool, true, false, List, [], ◌∷◌, ◌++◌}
-use Rattle.machine_floor.proofs.Imports.{length, map, refl, sym, ap, ◌∙◌, arith, ◌⊎◌, inl, inr, get_or, Option, Some}
-use Rattle.machine_floor.proofs.Imports.{All, InView, LinkView, OutView, Lose, Script, node_of_sealed, SealedEntry}
-use Rattle.machine_floor.proofs.Imports.{Contains-filter_cases, Contains-flat_map, Contains-flat_map_cases}
-use Rattle.machine_floor.proofs.Imports.{Contains-head, Contains-later, list_any_of, list_any_some, Contains-sent_cases}
-use Rattle.machine_floor.proofs.Imports.{member_split, all_at, element_at, member_at, place_of, IsLegal, sent, history}
-use Rattle.machine_floor.proofs.Imports.{history_of, Event, Sent, is_of_parts, itself, other_from, other_to, all_by}
-use Rattle.machine_floor.proofs.Imports.{filter_twice, numbers_below, differ_sym, once_append, AreOnce, Differ}
-use Rattle.machine_floor.proofs.Imports.{arriving, got_from, is_lost, is_of, IsBalanced, AreGathered, pass_of}
-use Rattle.machine_floor.proofs.Imports.{passes_of, AreLostAsScripted, IsOnWay, is_before_link, is_kept_off}
-use Rattle.machine_floor.proofs.Imports.{IsCauseSoFar, put_before, is_scripted, waits_of, Loss, LossWhy, LinkFull}
-use Rattle.machine_floor.proofs.Imports.{LogFull, SameDigest, Scripted, ToStopped, Waiting, AreNewStations}
-use Rattle.machine_floor.proofs.Imports.{IsNewStation, lose_lines_of, IsInCause, IsOfEar, IsOfHand, IsOutCause}
-use Rattle.machine_floor.proofs.Imports.{IsStation, StationState, made_of, numbered_below, ticks_from, AreEndsOf}
-use Rattle.machine_floor.proofs.Imports.{AreRests, by_of, get-map, get-map_from, roster_of, MachineState, machine_of}
-use Rattle.machine_floor.proofs.Imports.{world_of, Post, and_from, and_parts, cases_Bool, cases_lt, not-true}
-use Rattle.machine_floor.proofs.Imports.{not_from_false, or_cases, or_left, or_right, true≢false, length-map}
-use Rattle.machine_floor.proofs.Imports.{All-contains, Contains-append_left, Contains-get_or, get_or_from_slice_get}
-use Rattle.machine_floor.proofs.Imports.{same_Some, slice_get_within, AllZip, Contains, filter, flat_map, nat_lt, not}
-use Rattle.machine_floor.proofs.Imports.{slice_get, ◌&&◌, ◌==◌, ◌||◌}
 use Rattle.machine_floor.proofs.Gathers.{gather_pair}
-use Rattle.machine_floor.proofs.Linked.{rows_are, row_is, ends_out, ends_in}
+use Rattle.machine_floor.proofs.Imports.{[], All, All-contains, all_at, all_by, AllZip, and_from, and_parts, ap}
+use Rattle.machine_floor.proofs.Imports.{AreEndsOf, AreGathered, AreLostAsScripted, AreNewStations, AreOnce, AreOnWay}
+use Rattle.machine_floor.proofs.Imports.{AreRests, arith, arriving, Bool, by_of, cases_Bool, cases_lt, Contains}
+use Rattle.machine_floor.proofs.Imports.{Contains-append_left, Contains-filter_cases, Contains-flat_map}
+use Rattle.machine_floor.proofs.Imports.{Contains-flat_map_cases, Contains-get_or, Contains-head, Contains-later}
+use Rattle.machine_floor.proofs.Imports.{Contains-sent_cases, Differ, differ_sym, element_at, Event, false, filter}
+use Rattle.machine_floor.proofs.Imports.{filter_twice, flat_map, get-map, get-map_from, get_or, get_or_from_slice_get}
+use Rattle.machine_floor.proofs.Imports.{got_from, history, history_of, inl, inr, InView, is_before_link, is_kept_off}
+use Rattle.machine_floor.proofs.Imports.{is_lost, is_of, is_of_parts, is_scripted, IsBalanced, IsCauseSoFar, IsFresh}
+use Rattle.machine_floor.proofs.Imports.{IsInCause, IsLegal, IsNewStation, IsOfEar, IsOfHand, IsOnWay, IsOutCause}
+use Rattle.machine_floor.proofs.Imports.{IsStation, IsStopOf, itself, length, length-map, LinkFull, LinkView, List}
+use Rattle.machine_floor.proofs.Imports.{list_any_of, list_any_some, LogFull, Lose, lose_lines_of, Loss, LossWhy}
+use Rattle.machine_floor.proofs.Imports.{machine_of, MachineState, made_of, map, member_at, member_split, nat_lt}
+use Rattle.machine_floor.proofs.Imports.{node_of_sealed, not, not-true, not_from_false, numbered_below, numbers_below}
+use Rattle.machine_floor.proofs.Imports.{once_append, Option, or_cases, or_left, or_right, other_from, other_to}
+use Rattle.machine_floor.proofs.Imports.{OutView, pass_of, passes_of, place_of, Post, put_before, refl, roster_of}
+use Rattle.machine_floor.proofs.Imports.{same_Some, SameDigest, Script, Scripted, SealedEntry, Sent, sent, slice_get}
+use Rattle.machine_floor.proofs.Imports.{slice_get_within, Some, StationState, subst, suc, sym, ticks_from, ToStopped}
+use Rattle.machine_floor.proofs.Imports.{true, true≢false, Waiting, waits_of, world_of, ℕ, ◌&&◌, ◌++◌, ◌+◌, ◌<◌, ◌==◌}
+use Rattle.machine_floor.proofs.Imports.{◌||◌, ◌∙◌, ◌∷◌, ◌≡◌, ◌≢◌, ◌≤◌, ◌⊎◌}
+use Rattle.machine_floor.proofs.Linked.{ends_in, ends_out, row_is, rows_are}
 
 -- two tests that hold together are one
 same_test : (x y : Bool) → (x ≡ true → y ≡ true) → (y ≡ true → x ≡ true) → x ≡ y

@@ -1,8 +1,7 @@
 -- One look at a link after another.
-use Rattle.machine_floor.proofs.Imports.{◌≡◌, ℕ, ◌≤◌, Bool, true, false, cond, length, refl, ap, arith, Option, Some}
-use Rattle.machine_floor.proofs.Imports.{None, SealedEntry, LossWhy, StationState, made_of, EarDid, IsFate, cause_of}
-use Rattle.machine_floor.proofs.Imports.{bool_byte}
-use Rattle.machine_floor.proofs.Ticks.{HasGrown, grown_more}
+use Rattle.machine_floor.proofs.Imports.{ap, arith, Bool, bool_byte, cause_of, cond, EarDid, false, IsFate, length}
+use Rattle.machine_floor.proofs.Imports.{LossWhy, made_of, None, Option, refl, SealedEntry, Some, StationState, true, ℕ}
+use Rattle.machine_floor.proofs.{Imports.◌≡◌, Imports.◌≤◌, Ticks.grown_more, Ticks.HasGrown}
 
 -- an entry that is heard adds one tick of pass 1, and one that is lost adds none
 fate_ticks : (first old new : StationState) (x : SealedEntry) (from : ℕ) (cause : Option LossWhy) →

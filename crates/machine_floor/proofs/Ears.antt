@@ -1,22 +1,21 @@
 -- A station after its ear has looked at a link.
-use Rattle.machine_floor.proofs.Imports.{◌≡◌, ◌≢◌, ℕ, ◌+◌, ◌<◌, ◌≤◌, false, List, [], ◌∷◌, ◌++◌, length, refl, sym, ap}
-use Rattle.machine_floor.proofs.Imports.{◌∙◌, arith, ◌⊎◌, inl, inr, get_or, set, Option, Some, None, All}
-use Rattle.machine_floor.proofs.Imports.{FoundLinkEmpty, InView, IsInOf, LinkView, TookItem, max_actions}
-use Rattle.machine_floor.proofs.Imports.{node_of_sealed, SealedEntry, sent_few, sent, Event, Got, itself, other_from}
-use Rattle.machine_floor.proofs.Imports.{other_number, going_on, stopped_there, differ_sym, sent-got, AreOnce, Differ}
-use Rattle.machine_floor.proofs.Imports.{arriving, got_from, is_of, Loss, LossWhy, LogFull, SameDigest, Scripted}
-use Rattle.machine_floor.proofs.Imports.{ToStopped, got_from-here, got_from-other, other_way, takes_heard, takes_lost}
-use Rattle.machine_floor.proofs.Imports.{last_of, Tick, IsInCause, IsOfEar, IsOfHand, IsStation, IsTakenWell}
-use Rattle.machine_floor.proofs.Imports.{StationState, ticks_from, EarFoundNone, EarTook, IsFate, cause_of, IsHeard}
-use Rattle.machine_floor.proofs.Imports.{machine_after, IsMachine, MachineState, IsGoing, MachineHeard, max_machines}
-use Rattle.machine_floor.proofs.Imports.{get_or-set_other, get_or-set_same, length-append, length-set, cases_eq}
-use Rattle.machine_floor.proofs.Imports.{append-nil, get_or_append_left, All-append, All-cons, All-contains, All-nil}
-use Rattle.machine_floor.proofs.Imports.{All-push, Contains-append_left, Contains-push, Contains-push_cases}
-use Rattle.machine_floor.proofs.Imports.{all_pairs_push, sum_by-le, sum_by-set, Contains, sum_by}
 use Rattle.polling_world.specs.declared.heard.MachineHeard.TheVariants as heard
 use Rattle.machine_floor.proofs.Causes.{in_stays}
-use Rattle.machine_floor.proofs.Made.{inns_same}
-use Rattle.machine_floor.proofs.Ticks.{ticks_as_many, ticks_more}
+use Rattle.machine_floor.proofs.Imports.{[], All, All-append, All-cons, All-contains, All-nil, All-push, all_pairs_push}
+use Rattle.machine_floor.proofs.Imports.{ap, append-nil, AreOnce, arith, arriving, cases_eq, cause_of, Contains}
+use Rattle.machine_floor.proofs.Imports.{Contains-append_left, Contains-push, Contains-push_cases, Differ, differ_sym}
+use Rattle.machine_floor.proofs.Imports.{EarFoundNone, EarTook, Event, false, FoundLinkEmpty, get_or, get_or-set_other}
+use Rattle.machine_floor.proofs.Imports.{get_or-set_same, get_or_append_left, going_on, Got, got_from, got_from-here}
+use Rattle.machine_floor.proofs.Imports.{got_from-other, inl, inr, InView, is_of, IsFate, IsGoing, IsHeard, IsInCause}
+use Rattle.machine_floor.proofs.Imports.{IsInOf, IsMachine, IsOfEar, IsOfHand, IsStation, IsTakenWell, itself, last_of}
+use Rattle.machine_floor.proofs.Imports.{length, length-append, length-set, LinkView, List, LogFull, Loss, LossWhy}
+use Rattle.machine_floor.proofs.Imports.{machine_after, MachineHeard, MachineState, max_actions, max_machines}
+use Rattle.machine_floor.proofs.Imports.{node_of_sealed, None, Option, other_from, other_number, other_way, refl}
+use Rattle.machine_floor.proofs.Imports.{SameDigest, Scripted, SealedEntry, sent, sent-got, sent_few, set, Some}
+use Rattle.machine_floor.proofs.Imports.{StationState, stopped_there, sum_by, sum_by-le, sum_by-set, sym, takes_heard}
+use Rattle.machine_floor.proofs.Imports.{takes_lost, Tick, ticks_from, TookItem, ToStopped, ℕ, ◌++◌, ◌+◌, ◌<◌, ◌∙◌, ◌∷◌}
+use Rattle.machine_floor.proofs.Imports.{◌≡◌, ◌≢◌, ◌≤◌, ◌⊎◌}
+use Rattle.machine_floor.proofs.{Made.inns_same, Ticks.ticks_as_many, Ticks.ticks_more}
 
 -- an end that takes from a link
 abbrev pub Inn : Type 0

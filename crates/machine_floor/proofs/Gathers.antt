@@ -1,11 +1,10 @@
 -- The stations once their locks are closed and the links are finished: each entry is heard, lost or
 -- waiting.
-use Rattle.machine_floor.proofs.Imports.{◌≡◌, ◌≢◌, ℕ, ◌+◌, ◌<◌, List, ◌++◌, length, sym, ◌∙◌, arith, get_or, InView}
-use Rattle.machine_floor.proofs.Imports.{OutView, node_of_sealed, SealedEntry, sent, gathered, rising_sent, arriving}
-use Rattle.machine_floor.proofs.Imports.{got_from, is_lost, Loss, none_of, IsStation, StationState, length-append}
-use Rattle.machine_floor.proofs.Imports.{get_or-append-add, get_or_append_left, at_from_Contains, AllPairs-filter}
-use Rattle.machine_floor.proofs.Imports.{AllPairs, Contains, not, ◌||◌}
-use Rattle.machine_floor.proofs.Ears.{none_above}
+use Rattle.machine_floor.proofs.{Ears.none_above, Imports.AllPairs, Imports.AllPairs-filter, Imports.arith}
+use Rattle.machine_floor.proofs.Imports.{arriving, at_from_Contains, Contains, gathered, get_or, get_or-append-add}
+use Rattle.machine_floor.proofs.Imports.{get_or_append_left, got_from, InView, is_lost, IsStation, length}
+use Rattle.machine_floor.proofs.Imports.{length-append, List, Loss, node_of_sealed, none_of, not, OutView, rising_sent}
+use Rattle.machine_floor.proofs.Imports.{SealedEntry, sent, StationState, sym, ℕ, ◌++◌, ◌+◌, ◌<◌, ◌||◌, ◌∙◌, ◌≡◌, ◌≢◌}
 
 -- each entry has a lower number than those after it
 abbrev Rising : List SealedEntry → Type 0

@@ -1,18 +1,16 @@
 -- A station after its hand's turn.
-use Rattle.machine_floor.proofs.Imports.{◌≡◌, ◌≢◌, ℕ, ◌+◌, ◌<◌, ◌≤◌, List, [], ◌∷◌, ◌++◌, length, refl, sym, ap, ◌∙◌}
-use Rattle.machine_floor.proofs.Imports.{arith, ◌⊎◌, inl, inr, get_or, All, SealedEntry, sent_few, sent, Event, Got}
-use Rattle.machine_floor.proofs.Imports.{Sent, other_from, other_number, other_to, all_by, numbers_below, once_append}
-use Rattle.machine_floor.proofs.Imports.{sent-push, Loss, Scripted, got_from-sent, other_way, puts_more, named_is_lost}
-use Rattle.machine_floor.proofs.Imports.{put_grows, put_or_lost, way_of_loss, AreCopies, IsSentBelow, Tick, IsOfEar}
-use Rattle.machine_floor.proofs.Imports.{IsOfHand, IsStation, StationState, HandDid, may_follow, IsDone, IsMachine}
-use Rattle.machine_floor.proofs.Imports.{MachineState, with_event, IsGoing, length-append, cases_lt, All-append}
-use Rattle.machine_floor.proofs.Imports.{All-filter, All-replicate, Contains-append_left, Contains-append_right}
-use Rattle.machine_floor.proofs.Imports.{Contains-get_or, Contains-push_cases}
-use Rattle.machine_floor.proofs.Imports.{Contains, true, false, subst, is_lost, is_scripted, loss_of, max_actions}
-use Rattle.machine_floor.proofs.Causes.{End, out_stays, out_new, in_stays}
-use Rattle.machine_floor.proofs.Ears.{all_taken}
-use Rattle.machine_floor.proofs.Made.{outs_same}
-use Rattle.machine_floor.proofs.Ticks.{ticks_as_many, ticks_more}
+use Rattle.machine_floor.proofs.{Causes.End, Causes.in_stays, Causes.out_new, Causes.out_stays, Ears.all_taken}
+use Rattle.machine_floor.proofs.Imports.{[], All, All-append, All-filter, All-replicate, all_by, ap, AreCopies, arith}
+use Rattle.machine_floor.proofs.Imports.{cases_lt, Contains, Contains-append_left, Contains-append_right}
+use Rattle.machine_floor.proofs.Imports.{Contains-get_or, Contains-push_cases, Event, false, get_or, Got, got_from-sent}
+use Rattle.machine_floor.proofs.Imports.{HandDid, inl, inr, is_lost, is_scripted, IsDone, IsGoing, IsMachine, IsOfEar}
+use Rattle.machine_floor.proofs.Imports.{IsOfHand, IsSentBelow, IsStation, length, length-append, List, Loss, loss_of}
+use Rattle.machine_floor.proofs.Imports.{MachineState, max_actions, may_follow, named_is_lost, numbers_below}
+use Rattle.machine_floor.proofs.Imports.{once_append, other_from, other_number, other_to, other_way, put_grows}
+use Rattle.machine_floor.proofs.Imports.{put_or_lost, puts_more, refl, Scripted, SealedEntry, Sent, sent, sent-push}
+use Rattle.machine_floor.proofs.Imports.{sent_few, StationState, subst, sym, Tick, true, way_of_loss, with_event, ℕ}
+use Rattle.machine_floor.proofs.Imports.{◌++◌, ◌+◌, ◌<◌, ◌∙◌, ◌∷◌, ◌≡◌, ◌≢◌, ◌≤◌, ◌⊎◌}
+use Rattle.machine_floor.proofs.{Made.outs_same, Ticks.ticks_as_many, Ticks.ticks_more}
 
 -- a member of a list that has one
 pub some_of : {X : Type 0} (xs : List X) (k : ℕ) → k < length xs → X

@@ -1,8 +1,7 @@
 -- The links of a station, as it was made, are those of it as it is.
-use Rattle.machine_floor.proofs.Imports.{◌≡◌, ℕ, ◌<◌, List, [], length, map, sym, ap, ◌∙◌, arith, get_or, InView}
-use Rattle.machine_floor.proofs.Imports.{IsInOf, IsOutOf, LinkView, OutView, SealedEntry, HaveCapacity, IsRowOf}
-use Rattle.machine_floor.proofs.Imports.{link_at, IsOfLinks, StationState, made_of, new_in, new_out, get_or-map}
-use Rattle.machine_floor.proofs.Imports.{length-map}
+use Rattle.machine_floor.proofs.Imports.{[], ap, arith, get_or, get_or-map, HaveCapacity, InView, IsInOf, IsOfLinks}
+use Rattle.machine_floor.proofs.Imports.{IsOutOf, IsRowOf, length, length-map, link_at, LinkView, List, made_of, map}
+use Rattle.machine_floor.proofs.Imports.{new_in, new_out, OutView, SealedEntry, StationState, sym, ℕ, ◌<◌, ◌∙◌, ◌≡◌}
 
 -- a station that is made as another has as many ends that take
 pub same_inns : (first s : StationState) → made_of s ≡ made_of first → length s.inns ≡ length first.inns

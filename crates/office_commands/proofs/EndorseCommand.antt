@@ -1,18 +1,17 @@
 -- The command `endorse`.
-use Rattle.std.proofs.Common.{Option, Some}
-use Rattle.office_commands.proofs.Imports.{◌≡◌, ◌≢◌, ◌∙◌, ℕ, ◌<◌, List, [], ◌∷◌, None, inl, inr, refl}
-use Rattle.office_commands.proofs.Imports.{sym, ap, subst, arith, Result, Ok, Err, IsSomeAnd, All-from_recursion}
-use Rattle.office_commands.proofs.Imports.{IsFileRefused, Office, IsOffice, max_signatures, one_office, Refusal}
-use Rattle.office_commands.proofs.Imports.{too_long, Answer, AtLast, FileThen}
-use Rattle.office_commands.proofs.Imports.{GivesBytes, max_signed, max_small, GivesOffice, GivesOfficeOf, GivesUnspent}
-use Rattle.office_commands.proofs.Imports.{office_file, GivesUnsigned, IsEndorsement, Unsigned, endorse_answer}
-use Rattle.office_commands.proofs.Imports.{endorse_parts}
 use Rattle.hall_outside.specs.declared.reading.FileFault.TheVariants as file
 use Rattle.command_line.specs.declared.status.Status.TheVariants as status
-use Rattle.command_line.proofs.CommandProofs.{IsOfCommands, HasStatuses, IsCompleted, HasOneAnswer, contains_as}
-use Rattle.command_line.proofs.CommandProofs.{carried_out_as, of_read, status_is}
-use Rattle.office_commands.proofs.FileSteps.{one_bytes, one_last, one_of_files, read_completed}
+use Rattle.command_line.proofs.CommandProofs.{carried_out_as, contains_as, HasOneAnswer, HasStatuses, IsCompleted}
+use Rattle.command_line.proofs.CommandProofs.{IsOfCommands, of_read, status_is}
 use Rattle.command_line.proofs.SameOr.{one_or}
+use Rattle.office_commands.proofs.FileSteps.{one_bytes, one_last, one_of_files, read_completed}
+use Rattle.office_commands.proofs.Imports.{[], All-from_recursion, Answer, ap, arith, AtLast, endorse_answer}
+use Rattle.office_commands.proofs.Imports.{endorse_parts, Err, FileThen, GivesBytes, GivesOffice, GivesOfficeOf}
+use Rattle.office_commands.proofs.Imports.{GivesUnsigned, GivesUnspent, inl, inr, IsEndorsement, IsFileRefused}
+use Rattle.office_commands.proofs.Imports.{IsOffice, IsSomeAnd, List, max_signatures, max_signed, max_small, None}
+use Rattle.office_commands.proofs.Imports.{Office, office_file, Ok, one_office, refl, Refusal, Result, subst, sym}
+use Rattle.office_commands.proofs.Imports.{too_long, Unsigned, ℕ, ◌<◌, ◌∙◌, ◌∷◌, ◌≡◌, ◌≢◌}
+use Rattle.std.proofs.Common.{Option, Some}
 
 -- an office's file that is too long is refused as too long
 pub long_office : (name : List ℕ) (this : Option (List ℕ)) → IsFileRefused max_small file.TooLong this →

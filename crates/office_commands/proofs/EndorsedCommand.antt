@@ -1,17 +1,14 @@
 -- The command `endorsed`.
-use Rattle.std.proofs.Common.{Option}
-use Rattle.std.specs.Prelude.{codes}
-use Rattle.std.specs.List.{Contains}
-use Rattle.office_commands.proofs.Imports.{◌≡◌, ◌∙◌, ℕ, List, inl, inr, refl, sym, subst, arith}
-use Rattle.office_commands.proofs.Imports.{Result, All-from_recursion, Refusal}
-use Rattle.office_commands.proofs.Imports.{Answer, line_answer, AtLast, FileThen, GivesBytes}
-use Rattle.office_commands.proofs.Imports.{max_signed, max_small, GivesSigned, IsEndorsedVerdict, Signed}
-use Rattle.office_commands.proofs.Imports.{endorsed_parts, IsCarriedOut}
 use Rattle.command_line.specs.declared.status.Status.TheVariants as status
-use Rattle.command_line.proofs.CommandProofs.{IsOfCommands, HasStatuses, IsCompleted, HasOneAnswer, contains_as}
-use Rattle.command_line.proofs.CommandProofs.{carried_out_as, of_read}
+use Rattle.command_line.proofs.CommandProofs.{carried_out_as, contains_as, HasOneAnswer, HasStatuses, IsCompleted}
+use Rattle.command_line.proofs.{CommandProofs.IsOfCommands, CommandProofs.of_read, SameOr.one_or}
 use Rattle.office_commands.proofs.FileSteps.{one_bytes, one_last, one_of_files, read_completed}
-use Rattle.command_line.proofs.SameOr.{one_or}
+use Rattle.office_commands.proofs.Imports.{All-from_recursion, Answer, arith, AtLast, endorsed_parts, FileThen}
+use Rattle.office_commands.proofs.Imports.{GivesBytes, GivesSigned, inl, inr, IsCarriedOut, IsEndorsedVerdict}
+use Rattle.office_commands.proofs.Imports.{line_answer, List, max_signed, max_small, refl, Refusal, Result, Signed}
+use Rattle.office_commands.proofs.Imports.{subst, sym, ℕ, ◌∙◌, ◌≡◌}
+use Rattle.std.proofs.Common.{Option}
+use Rattle.std.specs.{List.Contains, Prelude.codes}
 
 -- what is printed of a signature
 abbrev pub good : Answer

@@ -1,12 +1,10 @@
 -- Files that are read one after another.
-use Rattle.std.proofs.Common.{Option, Some}
-use Rattle.office_commands.proofs.Imports.{◌≡◌, ◌∙◌, ℕ, List, [], ◌∷◌, None, inl, inr, refl, sym, ap, subst, arith}
-use Rattle.office_commands.proofs.Imports.{Result, Ok, Err, StoreGhosts, IsFileRefused, Refusal}
-use Rattle.office_commands.proofs.Imports.{too_long, OnOneFile, IsReadFrom, IsReadFromFile}
-use Rattle.office_commands.proofs.Imports.{on_one, read_last}
-use Rattle.office_commands.proofs.Imports.{FileThen, Answer, OrRefused}
-use Rattle.office_commands.proofs.Imports.{AtLast, GivesBytes, IsCarriedOut}
 use Rattle.hall_outside.specs.declared.reading.FileFault.TheVariants as file
+use Rattle.office_commands.proofs.Imports.{[], Answer, ap, arith, AtLast, Err, FileThen, GivesBytes, inl, inr}
+use Rattle.office_commands.proofs.Imports.{IsCarriedOut, IsFileRefused, IsReadFrom, IsReadFromFile, List, None, Ok}
+use Rattle.office_commands.proofs.Imports.{on_one, OnOneFile, OrRefused, read_last, refl, Refusal, Result, StoreGhosts}
+use Rattle.office_commands.proofs.Imports.{subst, sym, too_long, ℕ, ◌∙◌, ◌∷◌, ◌≡◌}
+use Rattle.std.proofs.Common.{Option, Some}
 
 -- a file that is too long is refused as too long
 pub long_bytes : (limit : ℕ) (name : List ℕ) (this : Option (List ℕ)) → IsFileRefused limit file.TooLong this →

@@ -1,15 +1,13 @@
 -- The command `office`.
-use Rattle.std.proofs.Common.{Option, Some, Bool, true, false}
-use Rattle.office_commands.proofs.Imports.{◌≡◌, ◌∙◌, ℕ, List, [], ◌∷◌, None, refl, sym, subst, arith, Result}
-use Rattle.office_commands.proofs.Imports.{Ok, All-from_recursion, ComesExactly, StoreGhosts, OnReadFile}
-use Rattle.office_commands.proofs.Imports.{read_weaker, one_read, no_cause, Fault, Answer, refused_answer}
-use Rattle.office_commands.proofs.Imports.{IsOfficeAnswer, made_office, office_parts, office_file}
-use Rattle.office_commands.proofs.Imports.{IsAnswerAsRead, IsThere, IsAnsweredBy}
-use Rattle.std.specs.Prelude.{codes}
-use Rattle.std.specs.List.{Contains}
 use Rattle.command_line.specs.declared.status.Status.TheVariants as status
-use Rattle.command_line.proofs.CommandProofs.{IsOfCommands, HasStatuses, IsCompleted, HasOneAnswer, contains_as}
-use Rattle.command_line.proofs.CommandProofs.{carried_out_as, status_is}
+use Rattle.command_line.proofs.CommandProofs.{carried_out_as, contains_as, HasOneAnswer, HasStatuses, IsCompleted}
+use Rattle.command_line.proofs.CommandProofs.{IsOfCommands, status_is}
+use Rattle.office_commands.proofs.Imports.{[], All-from_recursion, Answer, arith, ComesExactly, Fault, IsAnswerAsRead}
+use Rattle.office_commands.proofs.Imports.{IsAnsweredBy, IsOfficeAnswer, IsThere, List, made_office, no_cause, None}
+use Rattle.office_commands.proofs.Imports.{office_file, office_parts, Ok, one_read, OnReadFile, read_weaker, refl}
+use Rattle.office_commands.proofs.Imports.{refused_answer, Result, StoreGhosts, subst, sym, ℕ, ◌∙◌, ◌∷◌, ◌≡◌}
+use Rattle.std.proofs.Common.{Bool, false, Option, Some, true}
+use Rattle.std.specs.{List.Contains, Prelude.codes}
 
 -- the answer where the file is there
 abbrev pub exists : List ℕ → Answer

@@ -1,20 +1,16 @@
 -- An office's signatures are signatures under its public key.
-use Rattle.std.proofs.Common.{◌≡◌, ℕ, ◌<◌, ◌≤◌, ◌++◌, List, length, take, codes, refl, ap, subst, inl, inr, arith}
-use Rattle.std.proofs.lemmas.List.{length-append, length-take-le}
-use Rattle.sha2.specs.Sha256.{sha256}
-use Rattle.sha2.proofs.Facts256.{length-sha256}
-use Rattle.lms_ots.specs.Ots.{u32str}
-use Rattle.lms_ots.specs.declared.kind.OtsKind.{OtsKind}
-use Rattle.lms_ots.specs.declared.kind.OtsKind.TheVariants.{W1, W2, W4, W8}
-use Rattle.lms_ots.proofs.Candidates.{length-u32str}
-use Rattle.lms_sign.specs.Height.{IsHeight}
-use Rattle.lms_sign.specs.Signs.{lms_signature_len}
-use Rattle.hss_sign.specs.Signs.{HssSigns}
-use Rattle.hss_sign.specs.TwoLevels.{hss_public}
 use Rattle.hss_sign.proofs.Signed.{signed_verifies}
-use Rattle.office_key.specs.Endorsements.{endorsement, office_secret, office_public, top_id}
-use Rattle.office_key.specs.Offices.{max_signatures}
-use Rattle.office_key.specs.declared.office.Office.{Office}
+use Rattle.hss_sign.specs.{Signs.HssSigns, TwoLevels.hss_public}
+use Rattle.lms_ots.proofs.Candidates.{length-u32str}
+use Rattle.lms_ots.specs.{Ots.u32str, declared.kind.OtsKind.OtsKind}
+use Rattle.lms_ots.specs.declared.kind.OtsKind.TheVariants.{W1, W2, W4, W8}
+use Rattle.lms_sign.specs.{Height.IsHeight, Signs.lms_signature_len}
+use Rattle.office_key.specs.Endorsements.{endorsement, office_public, office_secret, top_id}
+use Rattle.office_key.specs.{Offices.max_signatures, declared.office.Office.Office}
+use Rattle.sha2.proofs.Facts256.{length-sha256}
+use Rattle.sha2.specs.Sha256.{sha256}
+use Rattle.std.proofs.Common.{ap, arith, codes, inl, inr, length, List, refl, subst, take, ℕ, ◌++◌, ◌<◌, ◌≡◌, ◌≤◌}
+use Rattle.std.proofs.lemmas.List.{length-append, length-take-le}
 
 -- an identifier has 16 bytes
 length-top_id : (seed name : List ℕ) → length (top_id seed name) ≡ 16

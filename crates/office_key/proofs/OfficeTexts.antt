@@ -1,18 +1,13 @@
 -- The texts of offices.
-use Rattle.std.proofs.Common.{◌≡◌, ◌∙◌, ℕ, ◌<◌, ◌≤◌, ◌^◌, List, [], ◌++◌, length, take, drop, append-nil, refl, sym, ap}
-use Rattle.std.proofs.Common.{◌≢◌, Option, Some, None, arith}
-use Rattle.std.specs.Prelude.{IfSome, IfNone}
-use Rattle.std.specs.Fmt.{decimal}
-use Rattle.std.proofs.lemmas.Fmt.{decimal_injective, length-decimal-le}
-use Rattle.std.proofs.lemmas.List.{length-drop, take-append-drop}
-use Rattle.canonical_sexp.specs.declared.sexp.Sexp.{Sexp}
-use Rattle.canonical_sexp.specs.Text.{text_of, Fits}
+use Rattle.canonical_sexp.proofs.{InPlace.same_text, Unique.one_tree}
 use Rattle.canonical_sexp.specs.Forms.{Finds, number_atom}
-use Rattle.canonical_sexp.specs.Reading.{IsCanonical}
-use Rattle.canonical_sexp.proofs.InPlace.{same_text}
-use Rattle.canonical_sexp.proofs.Unique.{one_tree}
+use Rattle.canonical_sexp.specs.{Reading.IsCanonical, Text.Fits, Text.text_of, declared.sexp.Sexp.Sexp}
+use Rattle.office_key.specs.Offices.{HasSeed, IsOffice, max_signatures, office_of, office_tree}
 use Rattle.office_key.specs.declared.office.Office.{Office}
-use Rattle.office_key.specs.Offices.{IsOffice, HasSeed, max_signatures, office_of, office_tree}
+use Rattle.std.proofs.Common.{[], ap, append-nil, arith, drop, length, List, None, Option, refl, Some, sym, take, ℕ}
+use Rattle.std.proofs.Common.{◌++◌, ◌<◌, ◌^◌, ◌∙◌, ◌≡◌, ◌≢◌, ◌≤◌}
+use Rattle.std.proofs.lemmas.{Fmt.decimal_injective, Fmt.length-decimal-le, List.length-drop, List.take-append-drop}
+use Rattle.std.specs.{Fmt.decimal, Prelude.IfNone, Prelude.IfSome}
 
 -- the tree of an office is within the limits of canonical texts
 pub office_fits : (office : Office) → HasSeed office → office.next < 2 ^ 32 → Fits (office_tree office)

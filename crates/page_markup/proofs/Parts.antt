@@ -1,24 +1,20 @@
 -- What is written piece by piece is well-formed.
-use Rattle.std.proofs.Common.{◌≡◌, ℕ, Bool, true, false, List, [], ◌∷◌, ◌++◌, codes}
-use Rattle.std.proofs.Common.{ap, refl, subst, sym, append_assoc, append-nil}
-use Rattle.std.specs.Prelude.{IsTrue, if◌then◌else◌, ◌&&◌, Result, Ok, Err, OnOk, OnErr}
-use Rattle.std.specs.List.{list_all}
-use Rattle.std.proofs.Math.Logic.{∥∥₁_elim, ∥∥₁_prop, ∥∥₁_map}
-use Rattle.page_markup.specs.declared.names.Tag.{Tag}
 use Rattle.page_markup.specs.declared.names.Tag.TheVariants as tag
-use Rattle.page_markup.specs.declared.names.VoidTag.{VoidTag}
 use Rattle.page_markup.specs.declared.names.VoidTag.TheVariants as void
-use Rattle.page_markup.specs.declared.names.AttributeName.{AttributeName}
 use Rattle.page_markup.specs.declared.names.AttributeName.TheVariants as name
-use Rattle.page_markup.specs.Names.{tag_name, void_name, attribute_name}
-use Rattle.page_markup.specs.Escaping.{escaped, is_plain, reference_of}
-use Rattle.page_markup.specs.Elements.{attribute, start_tag, end_tag, element, void_element}
-use Rattle.page_markup.specs.Elements.{html_document, svg_document}
-use Rattle.page_markup.specs.WellFormed.{is_markup_name, ampersand, less_than, greater_than}
-use Rattle.page_markup.specs.WellFormed.{double_quote, apostrophe}
-use Rattle.page_markup.specs.WellFormed.{IsCharacterData, no_characters, character, reference, AreAttributes}
-use Rattle.page_markup.specs.WellFormed.{one_more, IsContent, no_content, characters, one_tag, two_tags}
-use Rattle.page_markup.specs.WellFormed.{IsDocument, a_page, a_drawing}
+use Rattle.page_markup.specs.Elements.{attribute, element, end_tag, html_document, start_tag, svg_document}
+use Rattle.page_markup.specs.{Elements.void_element, Escaping.escaped, Escaping.is_plain, Escaping.reference_of}
+use Rattle.page_markup.specs.Names.{attribute_name, tag_name, void_name}
+use Rattle.page_markup.specs.WellFormed.{a_drawing, a_page, ampersand, apostrophe, AreAttributes, character, characters}
+use Rattle.page_markup.specs.WellFormed.{double_quote, greater_than, is_markup_name, IsCharacterData, IsContent}
+use Rattle.page_markup.specs.WellFormed.{IsDocument, less_than, no_characters, no_content, one_more, one_tag, reference}
+use Rattle.page_markup.specs.{WellFormed.two_tags, declared.names.AttributeName.AttributeName, declared.names.Tag.Tag}
+use Rattle.page_markup.specs.declared.names.VoidTag.{VoidTag}
+use Rattle.std.proofs.Common.{[], ap, append-nil, append_assoc, Bool, codes, false, List, refl, subst, sym, true, ℕ}
+use Rattle.std.proofs.Common.{◌++◌, ◌∷◌, ◌≡◌}
+use Rattle.std.proofs.Math.Logic.{∥∥₁_elim, ∥∥₁_map, ∥∥₁_prop}
+use Rattle.std.specs.List.{list_all}
+use Rattle.std.specs.Prelude.{Err, if◌then◌else◌, IsTrue, Ok, OnErr, OnOk, Result, ◌&&◌}
 
 -- what stands for a byte that isn't plain, and then character data
 one_of : (a b c d e : Bool) (rest : List ℕ) → IsCharacterData rest → IsCharacterData (

@@ -1,9 +1,8 @@
 -- The command `play`.
-use Rattle.place_commands.proofs.Imports.{HasStatuses, IsCompleted, HasOneAnswer, ℕ, List, ap, Answer, IsPlayOf}
-use Rattle.place_commands.proofs.Imports.{play_parts}
-use Rattle.place_commands.proofs.OnePlayAnswer.{PlayOne, same_play_of}
-use Rattle.place_commands.proofs.ScriptCommands.{TellsUndone, script_completed, script_status, play_statuses_some}
-use Rattle.place_commands.proofs.ScriptCommands.{script_one}
+use Rattle.place_commands.proofs.Imports.{Answer, ap, HasOneAnswer, HasStatuses, IsCompleted, IsPlayOf, List}
+use Rattle.place_commands.proofs.Imports.{play_parts, ℕ}
+use Rattle.place_commands.proofs.{OnePlayAnswer.PlayOne, OnePlayAnswer.same_play_of, ScriptCommands.play_statuses_some}
+use Rattle.place_commands.proofs.ScriptCommands.{script_completed, script_one, script_status, TellsUndone}
 
 -- its answer has the status of the lines on what is left
 pub play_tells : (prefix : List ℕ) → TellsUndone (IsPlayOf prefix)

@@ -1,10 +1,8 @@
 -- The command `repair`.
-use Rattle.place_commands.proofs.Imports.{HasStatuses, IsCompleted, HasOneAnswer, ℕ, List, ap, Answer, IsRepairOf}
-use Rattle.place_commands.proofs.Imports.{repair_parts}
-use Rattle.place_commands.proofs.OnePlayAnswer.{PlayOne}
-use Rattle.place_commands.proofs.Repairs.{same_repair_of}
-use Rattle.place_commands.proofs.ScriptCommands.{TellsUndone, script_completed, script_status, play_statuses_some}
-use Rattle.place_commands.proofs.ScriptCommands.{script_one}
+use Rattle.place_commands.proofs.Imports.{Answer, ap, HasOneAnswer, HasStatuses, IsCompleted, IsRepairOf, List}
+use Rattle.place_commands.proofs.Imports.{repair_parts, ℕ}
+use Rattle.place_commands.proofs.{OnePlayAnswer.PlayOne, Repairs.same_repair_of, ScriptCommands.play_statuses_some}
+use Rattle.place_commands.proofs.ScriptCommands.{script_completed, script_one, script_status, TellsUndone}
 
 -- its answer has the status of the lines on what is left
 pub repair_tells : (prefix : List ℕ) → TellsUndone (IsRepairOf prefix)

@@ -1,15 +1,14 @@
 -- The commands that go by a script.
-use Rattle.place_commands.proofs.Imports.{◌↔◌, Option, Some, All, Contains, ReadFault, IsOfCommands, of_read, one_or}
-use Rattle.place_commands.proofs.Imports.{IsAbsentAnswer, IsAnswerOfFault, IsRightAsRead, refused_answered}
-use Rattle.place_commands.proofs.Imports.{found_answered, ◌≡◌, ◌≢◌, ℕ, List, [], ◌∷◌, None, inl, inr, refl, arith}
-use Rattle.place_commands.proofs.Imports.{Result, Ok, Err, IfOk, IfErr, All-from_recursion, Script, Answer, Fault}
-use Rattle.place_commands.proofs.Imports.{StoreGhosts, InputFault, Refusal, OnOneFile, IsReadFromFile, IsAnswered}
-use Rattle.place_commands.proofs.Imports.{OrRefused, refusal_answer, GivesScript, IsScriptFile, play_statuses}
-use Rattle.place_commands.proofs.Imports.{status_of_undone, IsCarriedOut, on_one}
-use Rattle.place_commands.proofs.ScriptFiles.{itself}
-use Rattle.place_commands.proofs.OnePlayAnswer.{PlayOne, one_script}
 use Rattle.evidence.specs.declared.fault.InputFault.TheVariants as audit
 use Rattle.command_line.specs.declared.status.Status.TheVariants as status
+use Rattle.place_commands.proofs.Imports.{[], All, All-from_recursion, Answer, arith, Contains, Err, Fault}
+use Rattle.place_commands.proofs.Imports.{found_answered, GivesScript, IfErr, IfOk, inl, InputFault, inr}
+use Rattle.place_commands.proofs.Imports.{IsAbsentAnswer, IsAnswered, IsAnswerOfFault, IsCarriedOut, IsOfCommands}
+use Rattle.place_commands.proofs.Imports.{IsReadFromFile, IsRightAsRead, IsScriptFile, List, None, of_read, Ok, on_one}
+use Rattle.place_commands.proofs.Imports.{one_or, OnOneFile, Option, OrRefused, play_statuses, ReadFault, refl, Refusal}
+use Rattle.place_commands.proofs.Imports.{refusal_answer, refused_answered, Result, Script, Some, status_of_undone}
+use Rattle.place_commands.proofs.Imports.{StoreGhosts, ℕ, ◌↔◌, ◌∷◌, ◌≡◌, ◌≢◌}
+use Rattle.place_commands.proofs.{OnePlayAnswer.one_script, OnePlayAnswer.PlayOne, ScriptFiles.itself}
 
 -- each status of lines on what is left is of a command that was carried out
 undone_done : (lines : List ℕ) → IsCarriedOut (status_of_undone lines)

@@ -1,9 +1,8 @@
 -- Histories with one event more.
-use Rattle.polling_world.proofs.Imports.{◌≡◌, ℕ, ◌≤◌, List, [], ◌∷◌, ◌++◌, length, map, subst, inl, inr, arith}
-use Rattle.polling_world.proofs.Imports.{filter, length-map, length-filter, count_by-le-length, node_of_sealed}
-use Rattle.polling_world.proofs.Imports.{SealedEntry, Event, Sent, ascending, IsAscending, frontier, entry_of, held}
-use Rattle.polling_world.proofs.Imports.{is_named, ascending_ascending, length-insert_digest, last_or_earlier, Config}
-use Rattle.polling_world.proofs.Imports.{AreMade, MaySend}
+use Rattle.polling_world.proofs.Imports.{[], AreMade, arith, ascending, ascending_ascending, Config, count_by-le-length}
+use Rattle.polling_world.proofs.Imports.{entry_of, Event, filter, frontier, held, inl, inr, is_named, IsAscending}
+use Rattle.polling_world.proofs.Imports.{last_or_earlier, length, length-filter, length-insert_digest, length-map, List}
+use Rattle.polling_world.proofs.Imports.{map, MaySend, node_of_sealed, SealedEntry, Sent, subst, ℕ, ◌++◌, ◌∷◌, ◌≡◌, ◌≤◌}
 use Rattle.std.specs.Prelude.{not}
 
 -- one event more is made where, if it was sent, it could be sent

@@ -1,18 +1,16 @@
 -- What a machine keeps, when it is made and when an event is appended.
-use Rattle.polling_world.proofs.Imports.{◌≡◌, ℕ, ◌+◌, ◌^◌, ◌<◌, ◌≤◌, Bool, true, false, List, [], ◌∷◌, ◌++◌, length}
-use Rattle.polling_world.proofs.Imports.{refl, sym, subst, ◌∙◌, arith, length-append, length-map}
-use Rattle.polling_world.proofs.Imports.{slice_get_within, get_or_from_slice_get, leb-false, IsTrue, slice_get}
-use Rattle.polling_world.proofs.Imports.{Secret, Post, Role, Deed, node_of_sealed, SealedEntry, Event, Sent, Got, sent}
-use Rattle.polling_world.proofs.Imports.{MayFollow, Heard, IsHearAnswer, log_after, History, IsLegal-push}
-use Rattle.polling_world.proofs.Imports.{IsLegal-none, sent_one_more, sent_as_many, Cast0, Script, IsLawful, IsCast}
-use Rattle.polling_world.proofs.Imports.{Rules, config_of, key_of, post_of, roster_of, IsKept, StandFor, spare_of}
-use Rattle.polling_world.proofs.Imports.{MachineState, IsMachine, IsWithinStop, is_reached, log_of, with_event}
-use Rattle.polling_world.proofs.Imports.{election_of, entries_in, MaySend, IsGoing}
-use Rattle.std.specs.Prelude.{not, ◌||◌, Option, Some, None}
 use Rattle.entangled_log.specs.declared.heard.Heard.TheVariants.{Taken}
 use Rattle.polling_world.proofs.Histories.{AreMade-none, AreMade-push}
-use Rattle.polling_world.proofs.MadeEntries.{may_follow}
-use Rattle.polling_world.proofs.Rosters.{key_in_roster, roster_has_text}
+use Rattle.polling_world.proofs.Imports.{[], arith, Bool, Cast0, config_of, Deed, election_of, entries_in, Event, false}
+use Rattle.polling_world.proofs.Imports.{get_or_from_slice_get, Got, Heard, History, is_reached, IsCast, IsGoing}
+use Rattle.polling_world.proofs.Imports.{IsHearAnswer, IsKept, IsLawful, IsLegal-none, IsLegal-push, IsMachine, IsTrue}
+use Rattle.polling_world.proofs.Imports.{IsWithinStop, key_of, leb-false, length, length-append, length-map, List}
+use Rattle.polling_world.proofs.Imports.{log_after, log_of, MachineState, MayFollow, MaySend, node_of_sealed, Post}
+use Rattle.polling_world.proofs.Imports.{post_of, refl, Role, roster_of, Rules, Script, SealedEntry, Secret, Sent, sent}
+use Rattle.polling_world.proofs.Imports.{sent_as_many, sent_one_more, slice_get, slice_get_within, spare_of, StandFor}
+use Rattle.polling_world.proofs.Imports.{subst, sym, true, with_event, ℕ, ◌++◌, ◌+◌, ◌<◌, ◌^◌, ◌∙◌, ◌∷◌, ◌≡◌, ◌≤◌}
+use Rattle.polling_world.proofs.{MadeEntries.may_follow, Rosters.key_in_roster, Rosters.roster_has_text}
+use Rattle.std.specs.Prelude.{None, not, Option, Some, ◌||◌}
 
 -- a number that isn't reached allows one event more
 one_more : (stop : Option ℕ) (count : ℕ) → is_reached stop count ≡ false → IsWithinStop stop (count + 1)

@@ -1,13 +1,10 @@
 -- The machines of a script play it in one way.
-use Rattle.polling_world.proofs.Imports.{fun_ext, ◌≡◌, ◌∙◌, ℕ, List, length, get_or, sym, ap, arith, slice_get}
-use Rattle.polling_world.proofs.Imports.{same_lists, slice_get-get_or, node_of_sealed, SealedEntry, Event}
-use Rattle.polling_world.proofs.Imports.{Machine, World, start, play, Script, Config, IsOf}
-use Rattle.polling_world.proofs.Imports.{script_configs, MachineState, AreOf, IsPlayed, machine_of}
-use Rattle.polling_world.proofs.Imports.{world_of}
-use Rattle.std.proofs.Common.{Some, None}
-use Rattle.std.proofs.lemmas.List.{get_or-map}
-use Rattle.polling_world.proofs.NextTold.{tells_same}
-use Rattle.polling_world.proofs.Placing.{stopped_by_mark}
+use Rattle.polling_world.proofs.Imports.{ap, AreOf, arith, Config, Event, fun_ext, get_or, IsOf, IsPlayed, length, List}
+use Rattle.polling_world.proofs.Imports.{Machine, machine_of, MachineState, node_of_sealed, play, same_lists, Script}
+use Rattle.polling_world.proofs.Imports.{script_configs, SealedEntry, slice_get, slice_get-get_or, start, sym, World}
+use Rattle.polling_world.proofs.Imports.{world_of, ℕ, ◌∙◌, ◌≡◌}
+use Rattle.polling_world.proofs.{NextTold.tells_same, Placing.stopped_by_mark}
+use Rattle.std.proofs.{Common.None, Common.Some, lemmas.List.get_or-map}
 
 -- a script gives each machine one configuration
 same_config : (script : Script) (a b : Config) → a.number ≡ b.number → IsOf script a → IsOf script b → a ≡ b

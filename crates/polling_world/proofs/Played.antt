@@ -1,16 +1,12 @@
 -- A script's machines take its steps one after another.
-use Rattle.polling_world.proofs.Imports.{◌≡◌, ◌∙◌, ℕ, ◌+◌, ◌<◌, ◌≤◌, List, length, map, get_or, drop}
-use Rattle.polling_world.proofs.Imports.{refl, sym, ap, arith, slice_get}
-use Rattle.polling_world.proofs.Imports.{length-map, drop_more, drop_all}
-use Rattle.polling_world.proofs.Imports.{slice_get-get_or}
-use Rattle.polling_world.proofs.Imports.{node_of_sealed, SealedEntry, Event, Step, Act, Hear, Stop}
-use Rattle.polling_world.proofs.Imports.{happens, play, Script, Cast0, IsStep, IsLawful, Config, config_of}
-use Rattle.polling_world.proofs.Imports.{script_configs, MachineState, AreOf, IsPlayed, IsStepOf}
-use Rattle.polling_world.proofs.Imports.{world_of, configs_of, stops_of, HaveLog, AreFresh, TellsNext}
-use Rattle.std.proofs.Common.{Option, Some}
-use Rattle.polling_world.proofs.NextTold.{next_of, tells_next}
-use Rattle.polling_world.proofs.Placing.{get-map, get-map_from}
+use Rattle.polling_world.proofs.Imports.{Act, ap, AreFresh, AreOf, arith, Cast0, Config, config_of, configs_of, drop}
+use Rattle.polling_world.proofs.Imports.{drop_all, drop_more, Event, get_or, happens, HaveLog, Hear, IsLawful, IsPlayed}
+use Rattle.polling_world.proofs.Imports.{IsStep, IsStepOf, length, length-map, List, MachineState, map, node_of_sealed}
+use Rattle.polling_world.proofs.Imports.{play, refl, Script, script_configs, SealedEntry, slice_get, slice_get-get_or}
+use Rattle.polling_world.proofs.Imports.{Step, Stop, stops_of, sym, TellsNext, world_of, ℕ, ◌+◌, ◌<◌, ◌∙◌, ◌≡◌, ◌≤◌}
+use Rattle.polling_world.proofs.{NextTold.next_of, NextTold.tells_next, Placing.get-map, Placing.get-map_from}
 use Rattle.polling_world.proofs.WorldMaking.{at_start, fresh_configs}
+use Rattle.std.proofs.Common.{Option, Some}
 
 -- the same at a place of two lists that are mapped to one
 same_at : {X Y : Type 0} (f : X → Y) (xs ys : List X) (k : ℕ) (x : X) → map f xs ≡ map f ys → slice_get xs k ≡ Some x

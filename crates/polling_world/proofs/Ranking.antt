@@ -1,15 +1,14 @@
 -- The events of a world, each once, and the steps that make them.
-use Rattle.polling_world.proofs.Imports.{◌≡◌, ◌≢◌, ◌∙◌, ℕ, zero, suc, ◌+◌, ◌<◌, max, List, [], ◌∷◌, ◌++◌, map, take}
-use Rattle.polling_world.proofs.Imports.{get_or, length, false, refl, sym, ap, subst, inl, inr, arith, append_assoc}
-use Rattle.polling_world.proofs.Imports.{length-append, Contains, IsDistinct, AllByRecursion, All-map}
-use Rattle.polling_world.proofs.Imports.{bytes_eq, cases_lt, false_from_ne_true, append-nil, map-append}
-use Rattle.polling_world.proofs.Imports.{take_more, length-take-le, Contains-append_left, Contains-append_right}
-use Rattle.polling_world.proofs.Imports.{Contains-append_cases, IsDistinct-cons, IsDistinct-from_apart}
-use Rattle.polling_world.proofs.Imports.{bytes_eq-Decides, Event, Node, entry_of, held, greatest_stamp, World}
-use Rattle.polling_world.proofs.Imports.{history, PlacedEvent, kind, sort_key, placed, IsEventOf, step_of}
-use Rattle.polling_world.proofs.Imports.{greatest_push, Contains-none, Contains-head, Contains-later, in_world}
-use Rattle.polling_world.proofs.Imports.{placed_of, has_placed, placed_cases, RankedStep, ranked_step, ranked_steps}
-use Rattle.polling_world.proofs.Imports.{AreRanked, Contains-get_or, recursion_from_All}
+use Rattle.polling_world.proofs.Imports.{[], All-map, AllByRecursion, ap, append-nil, append_assoc, AreRanked, arith}
+use Rattle.polling_world.proofs.Imports.{bytes_eq, bytes_eq-Decides, cases_lt, Contains, Contains-append_cases}
+use Rattle.polling_world.proofs.Imports.{Contains-append_left, Contains-append_right, Contains-get_or, Contains-head}
+use Rattle.polling_world.proofs.Imports.{Contains-later, Contains-none, entry_of, Event, false, false_from_ne_true}
+use Rattle.polling_world.proofs.Imports.{get_or, greatest_push, greatest_stamp, has_placed, held, history, in_world}
+use Rattle.polling_world.proofs.Imports.{inl, inr, IsDistinct, IsDistinct-cons, IsDistinct-from_apart, IsEventOf, kind}
+use Rattle.polling_world.proofs.Imports.{length, length-append, length-take-le, List, map, map-append, max, Node}
+use Rattle.polling_world.proofs.Imports.{placed, placed_cases, placed_of, PlacedEvent, ranked_step, ranked_steps}
+use Rattle.polling_world.proofs.Imports.{RankedStep, recursion_from_All, refl, sort_key, step_of, subst, suc, sym, take}
+use Rattle.polling_world.proofs.Imports.{take_more, World, zero, ℕ, ◌++◌, ◌+◌, ◌<◌, ◌∙◌, ◌∷◌, ◌≡◌, ◌≢◌}
 
 -- ---- no two of one rank
 

@@ -1,14 +1,13 @@
 -- Ranked steps, once they are sorted by rank, are the steps of the merged order.
-use Rattle.polling_world.proofs.Imports.{◌≡◌, ◌∙◌, ℕ, suc, ◌+◌, Bool, false, List, [], ◌∷◌, map, length, get_or, set}
-use Rattle.polling_world.proofs.Imports.{refl, sym, ap, subst, arith, swap, Contains, IsDistinct, IsPermutation}
-use Rattle.polling_world.proofs.Imports.{IsSortedBy, IsSortedByKey, bytes_eq, slice_cmp, nat_cmp, is_lt, Less}
-use Rattle.polling_world.proofs.Imports.{true≢false, nat_list_cmp_total, nat_list_eq_equiv, map-set, length-map}
-use Rattle.polling_world.proofs.Imports.{sorted_far, ranks_by, IsPermutation-map, IsPermutation-refl}
-use Rattle.polling_world.proofs.Imports.{IsPermutation-swap, IsPermutation-trans, IsPermutation-keeps}
-use Rattle.polling_world.proofs.Imports.{IsPermutation-sym, Contains-permutation, IsDistinct-IsPermutation}
-use Rattle.polling_world.proofs.Imports.{IsDistinct-tail, apart_from_distinct, bytes_eq-Decides, Node, World}
-use Rattle.polling_world.proofs.Imports.{PlacedEvent, sort_key, IsInSortOrder, IsMergedOf, step_of, below, RankedStep}
-use Rattle.polling_world.proofs.Imports.{ranked_step, AreRanked}
+use Rattle.polling_world.proofs.Imports.{[], ap, apart_from_distinct, AreRanked, arith, below, Bool, bytes_eq}
+use Rattle.polling_world.proofs.Imports.{bytes_eq-Decides, Contains, Contains-permutation, false, get_or, is_lt}
+use Rattle.polling_world.proofs.Imports.{IsDistinct, IsDistinct-IsPermutation, IsDistinct-tail, IsInSortOrder}
+use Rattle.polling_world.proofs.Imports.{IsMergedOf, IsPermutation, IsPermutation-keeps, IsPermutation-map}
+use Rattle.polling_world.proofs.Imports.{IsPermutation-refl, IsPermutation-swap, IsPermutation-sym, IsPermutation-trans}
+use Rattle.polling_world.proofs.Imports.{IsSortedBy, IsSortedByKey, length, length-map, Less, List, map, map-set}
+use Rattle.polling_world.proofs.Imports.{nat_cmp, nat_list_cmp_total, nat_list_eq_equiv, Node, PlacedEvent, ranked_step}
+use Rattle.polling_world.proofs.Imports.{RankedStep, ranks_by, refl, set, slice_cmp, sort_key, sorted_far, step_of}
+use Rattle.polling_world.proofs.Imports.{subst, suc, swap, sym, true≢false, World, ℕ, ◌+◌, ◌∙◌, ◌∷◌, ◌≡◌}
 use Rattle.std.proofs.Math.ListN.{get_or-map}
 
 -- ---- what moves under a function

@@ -1,16 +1,14 @@
 -- What a machine does is what the world's machine does.
-use Rattle.polling_world.proofs.Imports.{◌≡◌, ◌≢◌, ◌∙◌, ℕ, length, true, false, refl, ap, subst, arith, nat_le}
-use Rattle.polling_world.proofs.Imports.{not-true, lt-leb, false_from_ne_true, Deed, node_of_sealed, SealedEntry}
-use Rattle.polling_world.proofs.Imports.{Sent, Got, held, IsNew, has_digest, send, hear, has_digest_of}
-use Rattle.polling_world.proofs.Imports.{has_digest_from, Acted, MachineHeard, LeftWhy, IsActed, IsHeard}
-use Rattle.polling_world.proofs.Imports.{machine_after, MachineState, has_stopped, Refuses, MayDo, MaySend}
-use Rattle.polling_world.proofs.Imports.{next_action, IsStampSpent, machine_of, IsNextOf, nat_tests}
-use Rattle.std.proofs.Common.{Some, None, Option, Ok, Err}
 use Rattle.polling_world.specs.declared.acted.Acted.TheVariants as acted
 use Rattle.polling_world.specs.declared.heard.MachineHeard.TheVariants as heard
-use Rattle.polling_world.proofs.NextTold.{same_deed, one_next}
-use Rattle.polling_world.proofs.Placing.{machine_of-event}
-use Rattle.polling_world.proofs.Ruled.{one_rule}
+use Rattle.polling_world.proofs.Imports.{Acted, ap, arith, Deed, false, false_from_ne_true, Got, has_digest}
+use Rattle.polling_world.proofs.Imports.{has_digest_from, has_digest_of, has_stopped, hear, held, IsActed, IsHeard}
+use Rattle.polling_world.proofs.Imports.{IsNew, IsNextOf, IsStampSpent, LeftWhy, length, lt-leb, machine_after}
+use Rattle.polling_world.proofs.Imports.{machine_of, MachineHeard, MachineState, MayDo, MaySend, nat_le, nat_tests}
+use Rattle.polling_world.proofs.Imports.{next_action, node_of_sealed, not-true, refl, Refuses, SealedEntry, send, Sent}
+use Rattle.polling_world.proofs.Imports.{subst, true, ℕ, ◌∙◌, ◌≡◌, ◌≢◌}
+use Rattle.polling_world.proofs.{NextTold.one_next, NextTold.same_deed, Placing.machine_of-event, Ruled.one_rule}
+use Rattle.std.proofs.Common.{Err, None, Ok, Option, Some}
 
 -- a stopped machine sends nothing
 sends_stopped : (m : MachineState) (o : Option SealedEntry) → has_stopped m ≡ true →

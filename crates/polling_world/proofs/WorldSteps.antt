@@ -1,26 +1,23 @@
 -- Each step leads from a world to a world, as the world's step does.
-use Rattle.polling_world.proofs.Imports.{◌≡◌, ◌≢◌, ◌∙◌, ℕ, ◌<◌, ◌≤◌, ◌⊎◌, inl, inr, List, [], ◌∷◌, length, true}
-use Rattle.polling_world.proofs.Imports.{zero, suc, refl, sym, ap, arith, length-append, AllocError, get_or, slice_get}
-use Rattle.polling_world.proofs.Imports.{slice_set, ◌↔◌, IfOk, OnErr, Contains, eq-eqb, ne_eqb, cases_eq, length-set}
-use Rattle.polling_world.proofs.Imports.{length-map, slice_get-get_or, node_of_sealed, SealedEntry, Event, Sent, Got}
-use Rattle.polling_world.proofs.Imports.{Step, Act, Hear, Stop, held, sent, MayFollow, IsOrderly, Machine, World}
-use Rattle.polling_world.proofs.Imports.{history, sent_in, with_machine, stop, send, hear, happens, nth_split}
-use Rattle.polling_world.proofs.Imports.{IsLegalNext, IsOrderly-play, all_at, stamps_are_few, Post, Acted, MachineHeard}
-use Rattle.polling_world.proofs.Imports.{Stepped, Did, Nothing, IsActed, IsHeard, machine_after, MachineState}
-use Rattle.polling_world.proofs.Imports.{has_stopped, with_event, stepped_by, stepped_in, StepsBy, IsStampSpent, Config}
-use Rattle.polling_world.proofs.Imports.{machine_of, world_of, configs_of, stops_of, HaveLog, IsNextAt, IsPlaced}
-use Rattle.polling_world.proofs.Imports.{IsWorld, TellsNext, WorldState, max_events}
-use Rattle.std.proofs.Common.{Some, None, Option}
-use Rattle.std.proofs.Common.{Result, Ok, Err}
-use Rattle.polling_world.specs.Steps.{Stays}
 use Rattle.polling_world.specs.declared.acted.Acted.TheVariants as acted
 use Rattle.polling_world.specs.declared.heard.MachineHeard.TheVariants as heard
-use Rattle.polling_world.proofs.Growing.{sent_in_few, held_stamps}
-use Rattle.polling_world.proofs.MadeEntries.{may_follow}
-use Rattle.polling_world.proofs.NextTold.{next_of, tells_next}
-use Rattle.polling_world.proofs.Placing.{get-map, get-map_from, map-set_same, set_same, set_get, set_cases}
-use Rattle.polling_world.proofs.Placing.{world_of-set, history_there}
-use Rattle.polling_world.proofs.Stepping.{act_is, hear_is}
+use Rattle.polling_world.proofs.Growing.{held_stamps, sent_in_few}
+use Rattle.polling_world.proofs.Imports.{[], Act, Acted, all_at, AllocError, ap, arith, cases_eq, Config, configs_of}
+use Rattle.polling_world.proofs.Imports.{Contains, Did, eq-eqb, Event, get_or, Got, happens, has_stopped, HaveLog, Hear}
+use Rattle.polling_world.proofs.Imports.{hear, held, history, IfOk, inl, inr, IsActed, IsHeard, IsLegalNext, IsNextAt}
+use Rattle.polling_world.proofs.Imports.{IsOrderly, IsOrderly-play, IsPlaced, IsStampSpent, IsWorld, length}
+use Rattle.polling_world.proofs.Imports.{length-append, length-map, length-set, List, Machine, machine_after}
+use Rattle.polling_world.proofs.Imports.{machine_of, MachineHeard, MachineState, max_events, MayFollow, ne_eqb}
+use Rattle.polling_world.proofs.Imports.{node_of_sealed, Nothing, nth_split, OnErr, Post, refl, SealedEntry, send, Sent}
+use Rattle.polling_world.proofs.Imports.{sent, sent_in, slice_get, slice_get-get_or, slice_set, stamps_are_few, Step}
+use Rattle.polling_world.proofs.Imports.{Stepped, stepped_by, stepped_in, StepsBy, Stop, stop, stops_of, suc, sym}
+use Rattle.polling_world.proofs.Imports.{TellsNext, true, with_event, with_machine, World, world_of, WorldState, zero}
+use Rattle.polling_world.proofs.Imports.{ℕ, ◌<◌, ◌↔◌, ◌∙◌, ◌∷◌, ◌≡◌, ◌≢◌, ◌≤◌, ◌⊎◌}
+use Rattle.polling_world.proofs.{MadeEntries.may_follow, NextTold.next_of, NextTold.tells_next, Placing.get-map}
+use Rattle.polling_world.proofs.Placing.{get-map_from, history_there, map-set_same, set_cases, set_get, set_same}
+use Rattle.polling_world.proofs.{Placing.world_of-set, Stepping.act_is, Stepping.hear_is}
+use Rattle.polling_world.specs.Steps.{Stays}
+use Rattle.std.proofs.Common.{Err, None, Ok, Option, Result, Some}
 
 -- ---- what becomes of the machines
 

@@ -1,16 +1,12 @@
 -- Bits of a row of words.
-use Rattle.std.proofs.Common.{◌≡◌, ◌≢◌, ℕ, zero, suc, ◌+◌, ◌-◌, ◌*◌, ◌/◌, ◌%◌, ◌^◌, ◌<◌, ◌≤◌, max}
-use Rattle.std.proofs.Common.{Bool, true, false, List, length, ◌++◌, get_or, take, drop, set}
-use Rattle.std.proofs.Common.{refl, sym, ap, ◌∙◌, subst, bit_or, inl, inr, arith, w64}
-use Rattle.std.specs.Prelude.{◌||◌, ◌==◌}
-use Rattle.std.specs.Int.{bit_at}
-use Rattle.std.proofs.Math.Bool.{or-false}
-use Rattle.std.proofs.lemmas.Bool.{cases_eq, cases_lt, eq-eqb, ne_eqb}
-use Rattle.std.proofs.lemmas.List.{get_or-set_same, get_or-set_other, get_or_append_left}
-use Rattle.std.proofs.lemmas.List.{get_or-take, get_or-drop, get_or_past}
-use Rattle.std.proofs.Math.Seq.{get_or-append_right}
-use Rattle.std.proofs.lemmas.Nat.Bits.{bit_at_or, bit_at-lt, bit_at-zero, bit_at_set_same, bit_at_set_other}
 use Rattle.precedence.specs.Bits.{has_bit}
+use Rattle.std.proofs.Common.{ap, arith, bit_or, Bool, drop, false, get_or, inl, inr, length, List, max, refl, set}
+use Rattle.std.proofs.Common.{subst, suc, sym, take, true, w64, zero, ℕ, ◌%◌, ◌*◌, ◌++◌, ◌+◌, ◌-◌, ◌/◌, ◌<◌, ◌^◌, ◌∙◌}
+use Rattle.std.proofs.{Common.◌≡◌, Common.◌≢◌, Common.◌≤◌, Math.Bool.or-false, Math.Seq.get_or-append_right}
+use Rattle.std.proofs.lemmas.{Bool.cases_eq, Bool.cases_lt, Bool.eq-eqb, Bool.ne_eqb, List.get_or-drop}
+use Rattle.std.proofs.lemmas.List.{get_or-set_other, get_or-set_same, get_or-take, get_or_append_left, get_or_past}
+use Rattle.std.proofs.lemmas.Nat.Bits.{bit_at-lt, bit_at-zero, bit_at_or, bit_at_set_other, bit_at_set_same}
+use Rattle.std.specs.{Int.bit_at, Prelude.◌==◌, Prelude.◌||◌}
 
 -- the greater of two bits is 1 exactly when one of them is
 one_of_two : (u v : ℕ) → u < 2 → v < 2 → (max u v == 1) ≡ ((u == 1) || (v == 1))

@@ -1,16 +1,13 @@
 -- The rows of the first nodes of a graph, and those with one node more.
-use Rattle.std.proofs.Common.{◌≡◌, ℕ, ◌+◌, ◌-◌, ◌<◌, Bool, false, List, [], ◌∷◌, ◌++◌, length, get_or}
-use Rattle.std.proofs.Common.{sym, ap, ◌∙◌, subst, inl, inr, arith, length-append}
-use Rattle.std.specs.Prelude.{◌||◌, ◌&&◌, not, ◌==◌, slice_index_or}
-use Rattle.std.specs.List.{All, list_any, list_all}
-use Rattle.std.proofs.lemmas.Bool.{cases_lt}
-use Rattle.std.proofs.lemmas.List.{get_or_append_left}
-use Rattle.std.proofs.Math.Seq.{get_or-append_right}
-use Rattle.entry_order.specs.Ancestors.{reaches, is_whole}
-use Rattle.precedence.specs.Graph.{Graph}
-use Rattle.precedence.specs.Bits.{has_bit, row_has}
-use Rattle.precedence.specs.inside.Words.{words_below, HasItsWords}
-use Rattle.precedence.proofs.Steps.{any_below, all_below, reaches_by_parents, whole_by_parents}
+use Rattle.entry_order.specs.Ancestors.{is_whole, reaches}
+use Rattle.precedence.proofs.Steps.{all_below, any_below, reaches_by_parents, whole_by_parents}
+use Rattle.precedence.specs.{Bits.has_bit, Bits.row_has, Graph.Graph}
+use Rattle.precedence.specs.inside.Words.{HasItsWords, words_below}
+use Rattle.std.proofs.Common.{[], ap, arith, Bool, false, get_or, inl, inr, length, length-append, List, subst, sym, ℕ}
+use Rattle.std.proofs.Common.{◌++◌, ◌+◌, ◌-◌, ◌<◌, ◌∙◌, ◌∷◌, ◌≡◌}
+use Rattle.std.proofs.{Math.Seq.get_or-append_right, lemmas.Bool.cases_lt, lemmas.List.get_or_append_left}
+use Rattle.std.specs.List.{All, list_all, list_any}
+use Rattle.std.specs.Prelude.{not, slice_index_or, ◌&&◌, ◌==◌, ◌||◌}
 
 -- each of these rows is that of its node
 pub record HasRows (graph : Graph) (rows : List (List ℕ)) (wholes : List Bool) : Type 0 where

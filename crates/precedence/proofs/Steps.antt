@@ -1,11 +1,8 @@
 -- What a node's ancestors are, by its parents'.
-use Rattle.std.proofs.Common.{◌≡◌, ℕ, zero, suc, ◌<◌, ◌≤◌, Bool, List, [], ◌∷◌}
-use Rattle.std.proofs.Common.{refl, ap, ◌∙◌, sym, arith}
-use Rattle.std.specs.Prelude.{not, ◌||◌, ◌&&◌, ◌==◌}
-use Rattle.std.specs.List.{All, list_any, list_all}
-use Rattle.std.proofs.Math.Bool.{and-true}
-use Rattle.std.proofs.lemmas.List.Elements.{All-head, All-tail}
-use Rattle.entry_order.specs.Ancestors.{reaches, is_whole}
+use Rattle.entry_order.specs.Ancestors.{is_whole, reaches}
+use Rattle.std.proofs.Common.{[], ap, arith, Bool, List, refl, suc, sym, zero, ℕ, ◌<◌, ◌∙◌, ◌∷◌, ◌≡◌, ◌≤◌}
+use Rattle.std.proofs.{Math.Bool.and-true, lemmas.List.Elements.All-head, lemmas.List.Elements.All-tail}
+use Rattle.std.specs.{List.All, List.list_all, List.list_any, Prelude.not, Prelude.◌&&◌, Prelude.◌==◌, Prelude.◌||◌}
 
 -- two tests that agree below n find the same in a list of numbers below n
 pub any_below : (p q : ℕ → Bool) (n : ℕ) → ((z : ℕ) → z < n → p z ≡ q z) →

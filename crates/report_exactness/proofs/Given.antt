@@ -1,36 +1,25 @@
 -- The survivors of a report that files give are sealed, and of one election.
-use Rattle.std.proofs.Common.{◌≡◌, ℕ, ◌+◌, List, [], ◌∷◌, ◌++◌, map, sym, subst, inl, inr}
-use Rattle.std.proofs.Common.{Option, Some, None, Result, Ok, Err}
-use Rattle.std.specs.List.{Contains, AllByRecursion as ByRecursion}
-use Rattle.std.proofs.lemmas.List.Elements.{All-contains, All-from_recursion}
+use Rattle.auditor.proofs.Makers.{a_log_each, logs_have_makers, survivors_have_makers}
+use Rattle.auditor.specs.Audits.{AndThen, GivesReport, GivesVerdicts, RulesThen, WithGraph, WithLogs}
+use Rattle.auditor.specs.{Nodes.nodes_of, Report.AuditReport, Report.IsReport, Report.report_on}
+use Rattle.auditor.specs.Sources.{GivesRules, in_file, RuleSource, standard}
 use Rattle.canonical_sexp.specs.declared.sexp.Sexp.{Sexp}
-use Rattle.roster.specs.declared.post.Post.{Post}
-use Rattle.entry_format.specs.Nodes.{node_of_sealed}
-use Rattle.entry_format.specs.SealedEntry.{SealedEntry}
-use Rattle.entry_format.specs.Sealing.{IsSealed}
+use Rattle.entry_format.specs.{Nodes.node_of_sealed, SealedEntry.SealedEntry, Sealing.IsSealed}
 use Rattle.entry_format.specs.declared.plain.EntryFault.{EntryFault}
-use Rattle.entry_graph.specs.EntryGraph.{EntryGraph}
-use Rattle.entry_graph.specs.Given.{distinct}
 use Rattle.entry_graph.proofs.DistinctFacts.{distinct_given}
-use Rattle.log_files.specs.declared.sealed_log.Kept.{Kept}
-use Rattle.log_files.specs.Logs.{LogRead}
-use Rattle.log_files.specs.LogFile.{IsSealedLogOf}
-use Rattle.log_files.specs.LogText.{Gives, EachGives, kept_of}
-use Rattle.log_files.specs.SealedLog.{IsReadSealed}
+use Rattle.entry_graph.specs.{EntryGraph.EntryGraph, Given.distinct}
 use Rattle.evidence.specs.Graphs.{entries_of, entries_of_records, GivesGraph}
-use Rattle.evidence.specs.Logs.{GivesLogs}
-use Rattle.evidence.specs.Refusal.{Refusal}
-use Rattle.evidence.specs.RosterFile.{GivesRoster}
-use Rattle.rule_language.specs.Trees.{RuleTree}
-use Rattle.rule_language.specs.Standard.{standard_rules}
-use Rattle.rule_engine.specs.declared.verdict.Verdict.{Verdict}
-use Rattle.auditor.specs.Audits.{AndThen, RulesThen, GivesReport, GivesVerdicts, WithGraph, WithLogs}
-use Rattle.rule_engine.specs.Judged.{AreJudged}
-use Rattle.auditor.specs.Nodes.{nodes_of}
+use Rattle.evidence.specs.{Logs.GivesLogs, Refusal.Refusal, RosterFile.GivesRoster}
+use Rattle.log_files.specs.{LogFile.IsSealedLogOf, LogText.EachGives, LogText.Gives, LogText.kept_of, Logs.LogRead}
+use Rattle.log_files.specs.{SealedLog.IsReadSealed, declared.sealed_log.Kept.Kept}
+use Rattle.roster.specs.declared.post.Post.{Post}
+use Rattle.rule_engine.specs.{Judged.AreJudged, declared.verdict.Verdict.Verdict}
+use Rattle.rule_language.specs.{Standard.standard_rules, Trees.RuleTree}
+use Rattle.std.proofs.Common.{[], Err, inl, inr, List, map, None, Ok, Option, Result, Some, subst, sym, ℕ, ◌++◌, ◌+◌}
+use Rattle.std.proofs.Common.{◌∷◌, ◌≡◌}
+use Rattle.std.proofs.lemmas.List.Elements.{All-contains, All-from_recursion}
+use Rattle.std.specs.List.{AllByRecursion as ByRecursion, Contains}
 use Rattle.survivor_rows.specs.Rows.{row_of}
-use Rattle.auditor.specs.Report.{AuditReport, IsReport, report_on}
-use Rattle.auditor.specs.Sources.{RuleSource, standard, in_file, GivesRules}
-use Rattle.auditor.proofs.Makers.{survivors_have_makers, logs_have_makers, a_log_each}
 
 -- the entry is sealed, and of the election
 pub record IsOf (election : List ℕ) (sealed : SealedEntry) : Type 0 where

@@ -1,41 +1,26 @@
 -- The law of reports.
-use Rattle.std.proofs.Common.{◌≡◌, ◌∙◌, ℕ, ◌<◌, List, [], ◌∷◌, map, length, refl, sym, ap, subst, Ok, inl, inr, arith}
-use Rattle.std.specs.Prelude.{replicate}
-use Rattle.std.proofs.lemmas.List.{length-map, length-replicate}
-use Rattle.std.specs.List.{Contains, AllZip}
-use Rattle.std.proofs.lemmas.List.Elements.{All-contains}
-use Rattle.roster.specs.declared.post.Post.{Post}
-use Rattle.entry_order.specs.Node.{Node}
-use Rattle.entry_order.specs.Exact.{AreSurvivors}
-use Rattle.entry_order.specs.Precedes.{IsAcyclic}
-use Rattle.entry_order.proofs.Lists.{Contains-none, Contains-head, Contains-map_cases}
-use Rattle.entry_order.proofs.Images.{same_graph}
-use Rattle.entry_format.specs.Nodes.{node_of, node_of_sealed}
-use Rattle.entry_format.specs.EntryText.{IsDigest}
-use Rattle.entry_format.specs.SealedEntry.{SealedEntry}
-use Rattle.entry_format.specs.declared.entry.Entry.{Entry}
-use Rattle.entry_format.specs.declared.plain.Plain.{Plain}
-use Rattle.entry_format.specs.Plains.{plain_of, plains}
-use Rattle.entry_graph.specs.EntryGraph.{EntryGraph, parents_of, ragged_of}
-use Rattle.evidence.proofs.Survivors.{survivors_distinct}
-use Rattle.rule_language.specs.declared.row.Row.{Row}
-use Rattle.rule_language.specs.Trees.{Trees, RuleTree}
-use Rattle.rule_meaning.specs.Values.{three_in}
-use Rattle.rule_engine.specs.declared.verdict.Verdict.{Verdict}
 use Rattle.rule_engine.specs.declared.verdict.Verdict.TheVariants as verdict
-use Rattle.rule_engine.specs.Verdicts.{IsJudged}
-use Rattle.rule_exactness.specs.Exact.{IsMade, IsWellFormed, AreWellFormed, MayComplete, IsOpen}
-use Rattle.rule_exactness.proofs.AllRules.{standard_rules_are_exact}
-use Rattle.rule_exactness.proofs.TwoSided.{two_sided_rules_are_exact}
-use Rattle.survivor_rows.specs.Rows.{row_of, row_said}
-use Rattle.auditor.specs.Report.{AuditReport, IsReport}
-use Rattle.rule_engine.specs.Judged.{AreJudged}
-use Rattle.auditor.specs.Nodes.{nodes_of}
 use Rattle.auditor.proofs.Lower.{no_double}
-use Rattle.report_exactness.specs.ReportExact.{MayBe, rows_of, MayBeEither, UnsettledIsExact, ReportsAreExact}
-use Rattle.report_exactness.proofs.Said.{made, plain_can_say, made_said, made_rising, made_digest, made_election}
-use Rattle.report_exactness.proofs.Said.{sealed_lawful}
-use Rattle.report_exactness.proofs.Given.{IsOf, IsGiven, given}
+use Rattle.auditor.specs.{Nodes.nodes_of, Report.AuditReport, Report.IsReport}
+use Rattle.entry_format.specs.{EntryText.IsDigest, Nodes.node_of, Nodes.node_of_sealed, Plains.plain_of, Plains.plains}
+use Rattle.entry_format.specs.{SealedEntry.SealedEntry, declared.entry.Entry.Entry, declared.plain.Plain.Plain}
+use Rattle.entry_graph.specs.EntryGraph.{EntryGraph, parents_of, ragged_of}
+use Rattle.entry_order.proofs.{Images.same_graph, Lists.Contains-head, Lists.Contains-map_cases, Lists.Contains-none}
+use Rattle.entry_order.specs.{Exact.AreSurvivors, Node.Node, Precedes.IsAcyclic}
+use Rattle.evidence.proofs.Survivors.{survivors_distinct}
+use Rattle.report_exactness.proofs.{Given.given, Given.IsGiven, Given.IsOf, Said.made, Said.made_digest}
+use Rattle.report_exactness.proofs.Said.{made_election, made_rising, made_said, plain_can_say, sealed_lawful}
+use Rattle.report_exactness.specs.ReportExact.{MayBe, MayBeEither, ReportsAreExact, rows_of, UnsettledIsExact}
+use Rattle.roster.specs.declared.post.Post.{Post}
+use Rattle.rule_engine.specs.{Judged.AreJudged, Verdicts.IsJudged, declared.verdict.Verdict.Verdict}
+use Rattle.rule_exactness.proofs.{AllRules.standard_rules_are_exact, TwoSided.two_sided_rules_are_exact}
+use Rattle.rule_exactness.specs.Exact.{AreWellFormed, IsMade, IsOpen, IsWellFormed, MayComplete}
+use Rattle.rule_language.specs.{Trees.RuleTree, Trees.Trees, declared.row.Row.Row}
+use Rattle.rule_meaning.specs.Values.{three_in}
+use Rattle.std.proofs.Common.{[], ap, arith, inl, inr, length, List, map, Ok, refl, subst, sym, ℕ, ◌<◌, ◌∙◌, ◌∷◌, ◌≡◌}
+use Rattle.std.proofs.lemmas.List.{length-map, length-replicate, Elements.All-contains}
+use Rattle.std.specs.{List.AllZip, List.Contains, Prelude.replicate}
+use Rattle.survivor_rows.specs.Rows.{row_of, row_said}
 
 same_rows : (row : Entry → Row) (S : List SealedEntry) →
     map (λ (plain : Plain). row plain.entry) (plains S) ≡ map (λ (sealed : SealedEntry). row sealed.entry) S

@@ -1,33 +1,24 @@
 -- A plain entry can say anything.
-use Rattle.std.proofs.Common.{◌≡◌, ◌≢◌, ◌∙◌, ℕ, ◌^◌, ◌<◌, ◌≤◌, true, List, [], ◌∷◌, map, length, refl, subst}
-use Rattle.std.proofs.Common.{ap, inr, arith}
-use Rattle.std.specs.List.{AllByRecursion as ByRecursion}
-use Rattle.std.proofs.lemmas.List.{length-replicate}
-use Rattle.std.proofs.lemmas.List.Elements.{All-contains, All-from_recursion}
-use Rattle.sha2.proofs.Facts256.{length-sha256}
-use Rattle.canonical_sexp.specs.declared.sexp.Sexp.TheVariants.{Atom}
-use Rattle.canonical_sexp.specs.Forest.{count_of}
-use Rattle.canonical_sexp.specs.Sexp.{forest_of}
-use Rattle.canonical_sexp.specs.Text.{Fits, max_members, text_of}
-use Rattle.entry_order.specs.Ascending.{IsAscending}
-use Rattle.entry_order.proofs.Lists.{Contains-none, Contains-head, Contains-later}
-use Rattle.entry_format.specs.EntryText.{IsDigest, IsDeed, IsDeedIn, IsEntry, IsSignedText, signed_tree}
-use Rattle.entry_format.specs.Plains.{plain_of}
-use Rattle.entry_format.specs.SealedEntry.{SealedEntry}
-use Rattle.entry_format.specs.Sealing.{IsSealed}
-use Rattle.entry_format.specs.declared.entry.Entry.{Entry}
-use Rattle.entry_format.proofs.Limits.{signed_fits}
-use Rattle.roster.specs.declared.post.Post.{Post}
-use Rattle.entry_format.specs.declared.deed.Deed.{Deed}
 use Rattle.entry_format.specs.declared.deed.Deed.TheVariants as deed
 use Rattle.entry_format.specs.declared.deed.How.TheVariants as how
-use Rattle.entry_format.specs.declared.plain.Plain.{Plain}
-use Rattle.entry_format.specs.Nodes.{node_of}
-use Rattle.rule_language.specs.declared.kind.Kind.{Kind}
 use Rattle.rule_language.specs.declared.kind.Kind.TheVariants as kind
-use Rattle.rule_language.specs.Kinds.{has_session, has_ballot, has_booth}
-use Rattle.rule_exactness.specs.Exact.{Saying, CanSay, AreDigests, IsMade, IsWellFormed}
-use Rattle.survivor_rows.specs.Rows.{row_said, kind_of, session_of, ballot_of, booth_of}
+use Rattle.canonical_sexp.specs.{Forest.count_of, Sexp.forest_of, Text.Fits, Text.max_members, Text.text_of}
+use Rattle.canonical_sexp.specs.declared.sexp.Sexp.TheVariants.{Atom}
+use Rattle.entry_format.proofs.Limits.{signed_fits}
+use Rattle.entry_format.specs.EntryText.{IsDeed, IsDeedIn, IsDigest, IsEntry, IsSignedText, signed_tree}
+use Rattle.entry_format.specs.{Nodes.node_of, Plains.plain_of, SealedEntry.SealedEntry, Sealing.IsSealed}
+use Rattle.entry_format.specs.declared.{deed.Deed.Deed, entry.Entry.Entry, plain.Plain.Plain}
+use Rattle.entry_order.proofs.Lists.{Contains-head, Contains-later, Contains-none}
+use Rattle.entry_order.specs.Ascending.{IsAscending}
+use Rattle.roster.specs.declared.post.Post.{Post}
+use Rattle.rule_exactness.specs.Exact.{AreDigests, CanSay, IsMade, IsWellFormed, Saying}
+use Rattle.rule_language.specs.{Kinds.has_ballot, Kinds.has_booth, Kinds.has_session, declared.kind.Kind.Kind}
+use Rattle.sha2.proofs.Facts256.{length-sha256}
+use Rattle.std.proofs.Common.{[], ap, arith, inr, length, List, map, refl, subst, true, ℕ, ◌<◌, ◌^◌, ◌∙◌, ◌∷◌, ◌≡◌, ◌≢◌}
+use Rattle.std.proofs.{Common.◌≤◌, lemmas.List.length-replicate}
+use Rattle.std.proofs.lemmas.List.Elements.{All-contains, All-from_recursion}
+use Rattle.std.specs.List.{AllByRecursion as ByRecursion}
+use Rattle.survivor_rows.specs.Rows.{ballot_of, booth_of, kind_of, row_said, session_of}
 
 -- the deed of a kind
 abbrev pub deed_said : Kind → ℕ → List ℕ → ℕ → Deed

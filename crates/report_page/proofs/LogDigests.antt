@@ -1,13 +1,11 @@
 -- Which digests logs have, one record or log more.
-use Rattle.report_page.proofs.Imports.{◌≡◌, ◌∙◌, ℕ, ◌+◌, ◌<◌, Bool, List, [], ◌∷◌, ◌++◌, length, take, get_or}
-use Rattle.report_page.proofs.Imports.{map, ap, sym, take_more, map-append}
-use Rattle.std.proofs.Common.{true, false, refl}
-use Rattle.std.specs.Prelude.{◌||◌, Option, Some, None, slice_get, option_map}
-use Rattle.std.specs.List.{list_any}
-use Rattle.std.proofs.lemmas.Option.{same_Some, slice_get-map}
 use Rattle.log_files.specs.Logs.{LogRead}
-use Rattle.report_page.specs.Entries.{holder, is_in_log, number_if}
-use Rattle.report_page.specs.inside.Held.{has}
+use Rattle.report_page.proofs.Imports.{[], ap, Bool, get_or, length, List, map, map-append, sym, take, take_more, ℕ}
+use Rattle.report_page.proofs.Imports.{◌++◌, ◌+◌, ◌<◌, ◌∙◌, ◌∷◌, ◌≡◌}
+use Rattle.report_page.specs.{Entries.holder, Entries.is_in_log, Entries.number_if, inside.Held.has}
+use Rattle.std.proofs.{Common.false, Common.refl, Common.true, lemmas.Option.same_Some, lemmas.Option.slice_get-map}
+use Rattle.std.specs.List.{list_any}
+use Rattle.std.specs.Prelude.{None, Option, option_map, slice_get, Some, ◌||◌}
 
 or_false : (b : Bool) → (b || false) ≡ b
 or_false true = refl

@@ -1,9 +1,8 @@
 -- Which fault a text has.
-use Rattle.roster.proofs.Imports.{◌≡◌, ◌∙◌, ℕ, List, map, ap, sym, subst, Sexp, text_of, Fits, same_text, Post}
-use Rattle.roster.proofs.Imports.{RosterFault, NotCanonical, WrongShape, TooManyMachines, BadName, SameName}
-use Rattle.roster.proofs.Imports.{NotOneSupervisor, Memory, post_tree, roster_tree, IsRosterText, HasForm}
-use Rattle.roster.proofs.Imports.{IsMachinesFault, IsFault, IsRosterTree}
-use Rattle.roster.proofs.Trees.{same_after, one_list}
+use Rattle.roster.proofs.Imports.{ap, BadName, Fits, HasForm, IsFault, IsMachinesFault, IsRosterText, IsRosterTree}
+use Rattle.roster.proofs.Imports.{List, map, Memory, NotCanonical, NotOneSupervisor, Post, post_tree, roster_tree}
+use Rattle.roster.proofs.Imports.{RosterFault, same_text, SameName, Sexp, subst, sym, text_of, TooManyMachines}
+use Rattle.roster.proofs.{Imports.WrongShape, Imports.ℕ, Imports.◌∙◌, Imports.◌≡◌, Trees.one_list, Trees.same_after}
 
 -- a text has one tree
 pub one_text : (text : List ℕ) (tree other : Sexp) → Fits tree → Fits other → text ≡ text_of tree →

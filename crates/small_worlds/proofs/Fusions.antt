@@ -1,8 +1,7 @@
 -- Worlds as vectors: a machine changed in its place, and its history.
-use Rattle.std.proofs.Common.{◌≡◌, map, List, [], ◌∷◌, refl, ap}
-use Rattle.std.specs.Prelude.{ℕ, zero, suc, ◌<◌, ◌≤◌, length, slice_set, slice_index_or}
-use Rattle.std.proofs.Common.{arith}
-use Rattle.entry_order.specs.World.{Machine, with_machine, history}
+use Rattle.entry_order.specs.World.{history, Machine, with_machine}
+use Rattle.std.proofs.Common.{[], ap, arith, List, map, refl, ◌∷◌, ◌≡◌}
+use Rattle.std.specs.Prelude.{length, slice_index_or, slice_set, suc, zero, ℕ, ◌<◌, ◌≤◌}
 
 -- a machine changed in its place, and past the end
 pub with_machine_at : {T : Type 0} (m : ℕ) (change : Machine T → Machine T) (w : List (Machine T))

@@ -1,19 +1,14 @@
 -- What the search of paths finds is a path among the survivors.
-use Rattle.std.proofs.Common.{◌≡◌, ℕ, zero, suc, ◌+◌, ◌-◌, ◌<◌, ◌≤◌, true, false, List, [], ◌∷◌, length, get_or, drop}
-use Rattle.std.proofs.Common.{refl, sym, ap, subst, ◌∙◌, inl, inr, arith}
-use Rattle.std.specs.Prelude.{not, ◌&&◌, ◌||◌, ◌↔◌, slice_get, Some}
-use Rattle.std.specs.List.{Contains, list_any}
-use Rattle.std.proofs.lemmas.Bool.{or_cases, or_left, or_right, and_parts, and_from, not_from_false}
-use Rattle.std.proofs.lemmas.List.Folds.{list_any_at}
-use Rattle.std.proofs.lemmas.List.{at_drop_all}
-use Rattle.std.proofs.lemmas.Option.{slice_get_read}
-use Rattle.entry_order.specs.Node.{Node}
-use Rattle.entry_order.specs.Precedes.{IsPath, Precedes}
-use Rattle.entry_order.specs.Survivors.{is_stray, survivors}
 use Rattle.entry_order.proofs.Lists.{Contains-filter, Contains-filter_cases, list_any_some}
-use Rattle.entry_order.proofs.Naming.{names_digest_of, names_digest_from}
-use Rattle.entry_order.proofs.Strays.{rises_along}
-use Rattle.small_worlds.specs.inside.Paths.{names_entry, is_next, leads, is_before}
+use Rattle.entry_order.proofs.{Naming.names_digest_from, Naming.names_digest_of, Strays.rises_along}
+use Rattle.entry_order.specs.{Node.Node, Precedes.IsPath, Precedes.Precedes, Survivors.is_stray, Survivors.survivors}
+use Rattle.small_worlds.specs.inside.Paths.{is_before, is_next, leads, names_entry}
+use Rattle.std.proofs.Common.{[], ap, arith, drop, false, get_or, inl, inr, length, List, refl, subst, suc, sym, true}
+use Rattle.std.proofs.Common.{zero, ℕ, ◌+◌, ◌-◌, ◌<◌, ◌∙◌, ◌∷◌, ◌≡◌, ◌≤◌}
+use Rattle.std.proofs.lemmas.Bool.{and_from, and_parts, not_from_false, or_cases, or_left, or_right}
+use Rattle.std.proofs.lemmas.{List.at_drop_all, List.Folds.list_any_at, Option.slice_get_read}
+use Rattle.std.specs.List.{Contains, list_any}
+use Rattle.std.specs.Prelude.{not, slice_get, Some, ◌&&◌, ◌||◌, ◌↔◌}
 
 -- one step of the search, its bound written as the code does
 pub leads_step : {T : Type 0} (node : T → Node) (given : List T) (n : ℕ) (f e : T) → 0 < n →

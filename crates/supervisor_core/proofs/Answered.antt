@@ -1,23 +1,18 @@
 -- Each deed has an answer after each history.
-use Rattle.std.proofs.Common.{◌≡◌, ℕ, Bool, false, not, ◌&&◌, ◌==◌, List, refl, ap, subst}
-use Rattle.std.specs.Prelude.{Result}
-use Rattle.std.specs.Bool.{Decides}
-use Rattle.std.proofs.lemmas.Bool.Decides.{Decides-eqb, Decides-and, Decides-like, Decides-not}
-use Rattle.entry_format.specs.declared.deed.Deed.{Deed}
-use Rattle.entry_format.specs.declared.deed.Deed.TheVariants.{Opened, Authorise, Override, Closed}
-use Rattle.entry_format.specs.declared.deed.How.{How}
 use Rattle.entry_format.specs.declared.deed.How.TheVariants as word
-use Rattle.entry_format.specs.declared.entry.Entry.{Entry}
-use Rattle.deed_history.specs.Deeds.{Authorises, Commits}
-use Rattle.deed_history.specs.Held.{HasEnded}
-use Rattle.deed_history.proofs.Deciding.{Decided, some_is, own_is, not_is, both_are, AreDecided, first_decided}
-use Rattle.deed_history.proofs.Deciding.{holds_own, own_decides, is_opened, opened_decides, is_closed, closed_decides}
-use Rattle.deed_history.proofs.Deciding.{authorises, authorises_decides, has_ended, ended_decides, overrides_by}
-use Rattle.deed_history.proofs.Deciding.{overrides_by_decides, is_word, word_decides, commits, commits_decides}
-use Rattle.supervisor_core.specs.declared.state.SupervisorNot.{SupervisorNot}
-use Rattle.supervisor_core.specs.Causes.{HasOpened, HasClosed, HasAuthorised, HasOverridden, other, IsCommitted}
-use Rattle.supervisor_core.specs.Causes.{IsBusy, HasSessionsLeft}
-use Rattle.supervisor_core.specs.Table.{causes_of, Refuses}
+use Rattle.deed_history.proofs.Deciding.{AreDecided, authorises, authorises_decides, both_are, closed_decides, commits}
+use Rattle.deed_history.proofs.Deciding.{commits_decides, Decided, ended_decides, first_decided, has_ended, holds_own}
+use Rattle.deed_history.proofs.Deciding.{is_closed, is_opened, is_word, not_is, opened_decides, overrides_by}
+use Rattle.deed_history.proofs.Deciding.{overrides_by_decides, own_decides, own_is, some_is, word_decides}
+use Rattle.deed_history.specs.{Deeds.Authorises, Deeds.Commits, Held.HasEnded}
+use Rattle.entry_format.specs.declared.deed.Deed.{Deed, TheVariants.Authorise, TheVariants.Closed, TheVariants.Opened}
+use Rattle.entry_format.specs.declared.{deed.Deed.TheVariants.Override, deed.How.How, entry.Entry.Entry}
+use Rattle.std.proofs.Common.{ap, Bool, false, List, not, refl, subst, ℕ, ◌&&◌, ◌==◌, ◌≡◌}
+use Rattle.std.proofs.lemmas.Bool.Decides.{Decides-and, Decides-eqb, Decides-like, Decides-not}
+use Rattle.std.specs.{Bool.Decides, Prelude.Result}
+use Rattle.supervisor_core.specs.Causes.{HasAuthorised, HasClosed, HasOpened, HasOverridden, HasSessionsLeft, IsBusy}
+use Rattle.supervisor_core.specs.Causes.{IsCommitted, other}
+use Rattle.supervisor_core.specs.{Table.causes_of, Table.Refuses, declared.state.SupervisorNot.SupervisorNot}
 
 -- a test decides whether the supervisor has opened
 opened_is : (owner : ℕ) (entries : List Entry) → Decided (HasOpened owner entries)

@@ -1,27 +1,19 @@
 -- The state after one entry more.
-use Rattle.std.proofs.Common.{◌≡◌, ℕ, Bool, true, false, cond, not, ◌||◌, List, [], ◌∷◌, ◌++◌, inl, inr, nat_eq}
-use Rattle.std.proofs.Common.{refl, sym, subst, ap, ◌∙◌}
-use Rattle.std.specs.Prelude.{Contains, ◌↔◌, ◌==◌, filter, Option, Some, None}
-use Rattle.std.specs.Bool.{Decides}
-use Rattle.std.proofs.lemmas.Bool.{eq-eqb}
-use Rattle.std.proofs.lemmas.Bool.Decides.{eqb_tells}
-use Rattle.std.proofs.lemmas.List.Quantifiers.{Any-push}
-use Rattle.entry_format.specs.declared.deed.Deed.{Deed}
-use Rattle.entry_format.specs.declared.deed.Deed.TheVariants.{Opened, Authorise, Override, Closed}
-use Rattle.entry_format.specs.declared.deed.How.{How}
 use Rattle.entry_format.specs.declared.deed.How.TheVariants as word
-use Rattle.entry_format.specs.declared.entry.Entry.{Entry}
+use Rattle.deed_history.proofs.Deciding.{closed_decides, is_closed, is_opened, opened_decides}
+use Rattle.deed_history.proofs.Entries.{added, any_cases, any_kept, decides_false, if_own, in_added, IsOwnSuch}
+use Rattle.deed_history.proofs.Entries.{IsSuchEntry, own_listed, own_marked, own_says, some_listed}
+use Rattle.deed_history.proofs.{Members.is_kept, Told.authorised_in, Told.authorised_says}
+use Rattle.deed_history.proofs.Told.{committed_in, committed_says, ended_in, ended_says, overridden_in, overridden_says}
 use Rattle.deed_history.specs.Deeds.{Authorises, Commits, Ends}
-use Rattle.deed_history.proofs.Deciding.{is_opened, opened_decides, is_closed, closed_decides}
-use Rattle.deed_history.proofs.Entries.{IsOwnSuch, IsSuchEntry, any_kept, any_cases, added, in_added, if_own, own_says}
-use Rattle.deed_history.proofs.Entries.{own_marked, own_listed, some_listed, decides_false}
-use Rattle.deed_history.proofs.Members.{is_kept}
-use Rattle.deed_history.proofs.Told.{authorised_in, authorised_says, overridden_in, overridden_says}
-use Rattle.deed_history.proofs.Told.{committed_in, committed_says, ended_in, ended_says}
-use Rattle.supervisor_core.specs.declared.running.Running.{Running}
-use Rattle.supervisor_core.specs.Causes.{IsRunning}
-use Rattle.supervisor_core.specs.Notes.{Notes}
-use Rattle.supervisor_core.specs.State.{StandsFor}
+use Rattle.entry_format.specs.declared.deed.Deed.{Deed, TheVariants.Authorise, TheVariants.Closed, TheVariants.Opened}
+use Rattle.entry_format.specs.declared.{deed.Deed.TheVariants.Override, deed.How.How, entry.Entry.Entry}
+use Rattle.std.proofs.Common.{[], ap, Bool, cond, false, inl, inr, List, nat_eq, not, refl, subst, sym, true, ℕ, ◌++◌}
+use Rattle.std.proofs.Common.{◌||◌, ◌∙◌, ◌∷◌, ◌≡◌}
+use Rattle.std.proofs.lemmas.{Bool.eq-eqb, Bool.Decides.eqb_tells, List.Quantifiers.Any-push}
+use Rattle.std.specs.Bool.{Decides}
+use Rattle.std.specs.Prelude.{Contains, filter, None, Option, Some, ◌==◌, ◌↔◌}
+use Rattle.supervisor_core.specs.{Causes.IsRunning, Notes.Notes, State.StandsFor, declared.running.Running.Running}
 
 -- a session at a booth
 abbrev run : ℕ → ℕ → Running

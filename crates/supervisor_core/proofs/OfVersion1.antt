@@ -1,21 +1,16 @@
 -- The supervisor's table over histories and deeds of version 1.
-use Rattle.std.proofs.Common.{ℕ, List, refl, subst}
-use Rattle.std.specs.Prelude.{All, ◌↔◌}
-use Rattle.entry_format.specs.declared.deed.Deed.{Deed}
-use Rattle.entry_format.specs.declared.deed.Deed.TheVariants.{Opened, Authorise, Override, Closed, Activate, Commit}
-use Rattle.entry_format.specs.declared.deed.Deed.TheVariants.{Cast, Cancel, Challenge}
 use Rattle.entry_format.specs.declared.deed.How.TheVariants as word
-use Rattle.entry_format.specs.declared.entry.Entry.{Entry}
-use Rattle.entry_format.specs.EntryText.{IsDeedIn}
-use Rattle.deed_history.specs.Deeds.{Ends}
-use Rattle.deed_history.specs.Held.{HasEnded}
-use Rattle.deed_history.specs.VersionOne.{EndsInVersion1}
-use Rattle.deed_history.proofs.VersionOne.{any_alike, no_cast_override, ends_alike, IsAlike, IsNoneOf}
-use Rattle.supervisor_core.specs.declared.state.SupervisorNot.TheVariants.{OtherOverride, NothingCommitted}
-use Rattle.supervisor_core.specs.Causes.{HasOverridden, IsBusy, HasSessionsLeft}
-use Rattle.supervisor_core.specs.Table.{causes_of}
-use Rattle.supervisor_core.specs.VersionOne.{HasEndedInVersion1, IsBusyInVersion1, HasSessionsLeftInVersion1}
-use Rattle.supervisor_core.specs.VersionOne.{causes_in_version_1}
+use Rattle.deed_history.proofs.VersionOne.{any_alike, ends_alike, IsAlike, IsNoneOf, no_cast_override}
+use Rattle.deed_history.specs.{Deeds.Ends, Held.HasEnded, VersionOne.EndsInVersion1}
+use Rattle.entry_format.specs.{EntryText.IsDeedIn, declared.deed.Deed.Deed, declared.deed.Deed.TheVariants.Activate}
+use Rattle.entry_format.specs.declared.deed.Deed.TheVariants.{Authorise, Cancel, Cast, Challenge, Closed, Commit}
+use Rattle.entry_format.specs.declared.{deed.Deed.TheVariants.Opened, deed.Deed.TheVariants.Override, entry.Entry.Entry}
+use Rattle.std.proofs.Common.{List, refl, subst, ℕ}
+use Rattle.std.specs.Prelude.{All, ◌↔◌}
+use Rattle.supervisor_core.specs.Causes.{HasOverridden, HasSessionsLeft, IsBusy}
+use Rattle.supervisor_core.specs.{Table.causes_of, VersionOne.causes_in_version_1}
+use Rattle.supervisor_core.specs.VersionOne.{HasEndedInVersion1, HasSessionsLeftInVersion1, IsBusyInVersion1}
+use Rattle.supervisor_core.specs.declared.state.SupervisorNot.TheVariants.{NothingCommitted, OtherOverride}
 
 -- the entries have deeds of version 1 alone
 abbrev AreOfVersion1 : List Entry → Type 0

@@ -1,14 +1,11 @@
 -- What the tests of the supervisor's rows decide.
-use Rattle.std.proofs.Common.{◌≡◌, ℕ, ◌<◌, Bool, List, [], ◌∷◌, length, refl, subst, ap, arith}
-use Rattle.std.specs.Prelude.{Any, Contains, IsTrue, ◌↔◌}
-use Rattle.entry_format.specs.declared.entry.Entry.{Entry}
-use Rattle.entry_format.specs.declared.deed.How.{How}
 use Rattle.entry_format.specs.declared.deed.How.TheVariants as word
 use Rattle.deed_history.proofs.Deciding.{Decided}
-use Rattle.supervisor_core.specs.declared.running.Running.{Running}
-use Rattle.supervisor_core.specs.Causes.{IsCommitted, IsBusy, HasSessionsLeft}
-use Rattle.supervisor_core.specs.Notes.{Notes}
-use Rattle.supervisor_core.specs.State.{StandsFor}
+use Rattle.entry_format.specs.declared.{deed.How.How, entry.Entry.Entry}
+use Rattle.std.proofs.Common.{[], ap, arith, Bool, length, List, refl, subst, ℕ, ◌<◌, ◌∷◌, ◌≡◌}
+use Rattle.std.specs.Prelude.{Any, Contains, IsTrue, ◌↔◌}
+use Rattle.supervisor_core.specs.Causes.{HasSessionsLeft, IsBusy, IsCommitted}
+use Rattle.supervisor_core.specs.{Notes.Notes, State.StandsFor, declared.running.Running.Running}
 
 -- a session at a booth
 abbrev run : ℕ → ℕ → Running

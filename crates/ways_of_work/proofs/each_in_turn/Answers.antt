@@ -1,9 +1,7 @@
-use Rattle.std.proofs.Common.{◌≡◌, ℕ, ◌<◌, ◌∙◌, length, get_or, arith, refl, subst, sym, inl, inr}
-use Rattle.std.proofs.lemmas.Bool.{cases_lt}
-use Rattle.std.proofs.lemmas.List.{get_or-set_same, get_or-set_other, get_or_default}
-use Rattle.std.specs.Prelude.{slice_set}
-use Rattle.std.specs.Fork.{ChangesAt}
 use Rattle.ways_of_work.proofs.each_in_turn.Goals as goal
+use Rattle.std.proofs.Common.{arith, get_or, inl, inr, length, refl, subst, sym, ℕ, ◌<◌, ◌∙◌, ◌≡◌}
+use Rattle.std.proofs.lemmas.{Bool.cases_lt, List.get_or-set_other, List.get_or-set_same, List.get_or_default}
+use Rattle.std.specs.{Fork.ChangesAt, Prelude.slice_set}
 
 pub places-preserved : goal.places-preserved
 places-preserved g c =

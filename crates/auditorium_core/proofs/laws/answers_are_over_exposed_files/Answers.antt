@@ -1,6 +1,5 @@
-use Rattle.auditorium_core.proofs.Imports.{IsAny, IsStill}
-use Rattle.auditorium_core.proofs.Exposed.{done_over_exposed}
 use Rattle.auditorium_core.proofs.laws.answers_are_over_exposed_files.Goals as goal
+use Rattle.auditorium_core.proofs.{Exposed.done_over_exposed, Imports.IsAny, Imports.IsStill}
 
 pub returns : goal.returns
 returns g c = record {

@@ -1,6 +1,5 @@
-use Rattle.auditorium_core.proofs.Imports.{IsAny, IsStill}
-use Rattle.auditorium_core.proofs.{CitedLaws.CitedLaws, Completeness.complete_as_read}
 use Rattle.auditorium_core.proofs.laws.answers_as_read_are_complete.Goals as goal
+use Rattle.auditorium_core.proofs.{CitedLaws.CitedLaws, Completeness.complete_as_read, Imports.IsAny, Imports.IsStill}
 
 pub returns : goal.returns
 returns g c =

@@ -1,6 +1,5 @@
-use Rattle.auditorium_core.proofs.Imports.{OnExposed}
-use Rattle.auditorium_core.proofs.StillAnswers.{any_of_still, still_of_any}
 use Rattle.auditorium_core.proofs.laws.only_runs_need_threads.Goals as goal
+use Rattle.auditorium_core.proofs.{Imports.OnExposed, StillAnswers.any_of_still, StillAnswers.still_of_any}
 
 pub returns : goal.returns
 returns c = record {

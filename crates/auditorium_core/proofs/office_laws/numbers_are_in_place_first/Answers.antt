@@ -1,6 +1,5 @@
-use Rattle.auditorium_core.proofs.Imports.{IsAny, IsStill}
-use Rattle.auditorium_core.proofs.SignedInTurn.{signed_in_turn}
 use Rattle.auditorium_core.proofs.office_laws.numbers_are_in_place_first.Goals as goal
+use Rattle.auditorium_core.proofs.{Imports.IsAny, Imports.IsStill, SignedInTurn.signed_in_turn}
 
 pub returns : goal.returns
 returns g c = record {

@@ -1,6 +1,5 @@
-use Rattle.auditorium_core.proofs.Imports.{IsAny, IsStill}
-use Rattle.auditorium_core.proofs.OfficeNumbers.{numbers_rise}
 use Rattle.auditorium_core.proofs.office_laws.numbers_sign_once.Goals as goal
+use Rattle.auditorium_core.proofs.{Imports.IsAny, Imports.IsStill, OfficeNumbers.numbers_rise}
 
 pub returns : goal.returns
 returns c = record {

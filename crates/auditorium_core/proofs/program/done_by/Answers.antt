@@ -1,6 +1,5 @@
-use Rattle.auditorium_core.proofs.Imports.{IsStill, map, string_bytes}
-use Rattle.auditorium_core.proofs.Endings.{was_done}
 use Rattle.auditorium_core.proofs.program.done_by.Goals as goal
+use Rattle.auditorium_core.proofs.{Endings.was_done, Imports.IsStill, Imports.map, Imports.string_bytes}
 
 pub returns-clause-done : goal.returns-clause-done
 returns-clause-done g c =

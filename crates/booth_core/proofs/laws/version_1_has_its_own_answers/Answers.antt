@@ -1,10 +1,9 @@
-use Rattle.std.specs.Prelude.{IsTrue}
-use Rattle.deed_history.proofs.VersionOne.{first_alike, never_told}
-use Rattle.booth_core.specs.declared.state.BoothNot.TheVariants.{CastForced}
-use Rattle.booth_core.specs.Table.{causes_of}
-use Rattle.booth_core.specs.VersionOne.{causes_in_version_1}
-use Rattle.booth_core.proofs.OfVersion1.{rows_alike, no_cast_forced}
 use Rattle.booth_core.proofs.laws.version_1_has_its_own_answers.Goals as goal
+use Rattle.booth_core.proofs.OfVersion1.{no_cast_forced, rows_alike}
+use Rattle.booth_core.specs.{Table.causes_of, VersionOne.causes_in_version_1}
+use Rattle.booth_core.specs.declared.state.BoothNot.TheVariants.{CastForced}
+use Rattle.deed_history.proofs.VersionOne.{first_alike, never_told}
+use Rattle.std.specs.Prelude.{IsTrue}
 
 pub returns-clause-same : goal.returns-clause-same
 returns-clause-same c = λ owner entries whole deed answer all one.

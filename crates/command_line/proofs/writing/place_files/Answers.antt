@@ -1,8 +1,7 @@
-use Rattle.std.proofs.Common.{length, Bool, true, false}
-use Rattle.command_line.proofs.Imports.{◌≡◌, ◌∙◌, ℕ, List, sym, subst, rules, is_ok, PlacesAll, PutsAll}
-use Rattle.command_line.proofs.Calls.{none_placed, not_placed, placed}
-use Rattle.command_line.proofs.Cuts.{all_set_where}
 use Rattle.command_line.proofs.writing.place_files.Goals as goal
+use Rattle.command_line.proofs.{Calls.none_placed, Calls.not_placed, Calls.placed, Cuts.all_set_where}
+use Rattle.command_line.proofs.Imports.{is_ok, List, PlacesAll, PutsAll, rules, subst, sym, ℕ, ◌∙◌, ◌≡◌}
+use Rattle.std.proofs.Common.{Bool, false, length, true}
 
 pub returns-then-is_empty-clause-calls : goal.returns-then-is_empty-clause-calls
 returns-then-is_empty-clause-calls g c =

@@ -1,6 +1,5 @@
-use Rattle.command_line.proofs.Imports.{rules, outside}
-use Rattle.command_line.proofs.Cuts.{output_cut}
 use Rattle.command_line.proofs.writing.write_answer.Goals as goal
+use Rattle.command_line.proofs.{Cuts.output_cut, Imports.outside, Imports.rules}
 
 pub returns-clause-err : goal.returns-clause-err
 returns-clause-err g c =

@@ -1,6 +1,5 @@
-use Rattle.entangled_picture.proofs.Imports.{◌≡◌, ◌++◌, option_to_list, slice_get, flat_map, range_with_len}
-use Rattle.entangled_picture.proofs.Imports.{refused_at}
 use Rattle.entangled_picture.proofs.log_marks.add_refused.Given as goal
+use Rattle.entangled_picture.proofs.Imports.{flat_map, option_to_list, range_with_len, refused_at, slice_get, ◌++◌, ◌≡◌}
 
 -- the marks so far
 abbrev pub invariant-loop-order : goal.invariant-loop-order

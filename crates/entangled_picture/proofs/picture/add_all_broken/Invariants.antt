@@ -1,6 +1,5 @@
-use Rattle.entangled_picture.proofs.Imports.{◌≡◌, ◌++◌, flat_map, range_with_len, report_of, is_broken}
-use Rattle.entangled_picture.proofs.Imports.{rule_word}
 use Rattle.entangled_picture.proofs.picture.add_all_broken.Given as goal
+use Rattle.entangled_picture.proofs.Imports.{flat_map, is_broken, range_with_len, report_of, rule_word, ◌++◌, ◌≡◌}
 
 -- the names so far
 abbrev pub invariant-loop-rule : goal.invariant-loop-rule

@@ -1,6 +1,5 @@
-use Rattle.entangled_picture.proofs.Imports.{◌≡◌, ◌++◌, flat_map, range_with_len, report_of, is_unsettled}
-use Rattle.entangled_picture.proofs.Imports.{rule_word}
 use Rattle.entangled_picture.proofs.picture.add_all_unsettled.Given as goal
+use Rattle.entangled_picture.proofs.Imports.{flat_map, is_unsettled, range_with_len, report_of, rule_word, ◌++◌, ◌≡◌}
 
 -- the names so far
 abbrev pub invariant-loop-rule : goal.invariant-loop-rule

@@ -1,14 +1,13 @@
-use Rattle.std.proofs.Common.{◌≢◌}
-use Rattle.entry_graph.proofs.Imports.{rules, ◌≡◌, ◌∙◌, ◌++◌, ◌∷◌, [], Some, None, length, ap, sym, subst, Contains}
-use Rattle.entry_graph.proofs.Imports.{bytes_eq, true≢false, not-false, not_from_true, append_assoc}
-use Rattle.entry_graph.proofs.Imports.{get_or_from_slice_get, slice_get_within, bytes_eq-Decides, IsBorneIn}
-use Rattle.entry_graph.proofs.Imports.{Contains-none, member_at, HasNoDigestTwice, number_at, ArePlaces}
-use Rattle.entry_graph.proofs.DistinctFacts.{distinct_given, distinct_bears, distinct_new}
-use Rattle.entry_graph.proofs.DistinctFacts.{distinct_again, no_collision_new, no_collision_again}
-use Rattle.entry_graph.proofs.LinkFacts.{lacks_borne}
-use Rattle.entry_graph.proofs.Places.{single_none, single_push}
-use Rattle.entry_graph.proofs.TableFacts.{IsSet, no_places, places_more}
 use Rattle.entry_graph.proofs.distinct.distinct_of.Goals as goal
+use Rattle.entry_graph.proofs.DistinctFacts.{distinct_again, distinct_bears, distinct_given, distinct_new}
+use Rattle.entry_graph.proofs.DistinctFacts.{no_collision_again, no_collision_new}
+use Rattle.entry_graph.proofs.Imports.{[], ap, append_assoc, ArePlaces, bytes_eq, bytes_eq-Decides, Contains}
+use Rattle.entry_graph.proofs.Imports.{Contains-none, get_or_from_slice_get, HasNoDigestTwice, IsBorneIn, length}
+use Rattle.entry_graph.proofs.Imports.{member_at, None, not-false, not_from_true, number_at, rules, slice_get_within}
+use Rattle.entry_graph.proofs.Imports.{Some, subst, sym, true≢false, ◌++◌, ◌∙◌, ◌∷◌, ◌≡◌}
+use Rattle.entry_graph.proofs.{LinkFacts.lacks_borne, Places.single_none, Places.single_push}
+use Rattle.entry_graph.proofs.TableFacts.{IsSet, no_places, places_more}
+use Rattle.std.proofs.Common.{◌≢◌}
 
 pub loop-entry-init : goal.loop-entry-init
 loop-entry-init g c =

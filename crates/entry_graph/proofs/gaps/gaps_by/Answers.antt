@@ -1,8 +1,7 @@
-use Rattle.entry_graph.proofs.Imports.{◌≡◌, ◌∙◌, ap, gaps}
-use Rattle.std.proofs.lemmas.Result.{IfOk-weaker}
-use Rattle.entry_graph.proofs.GapFacts.{gaps_at_none}
-use Rattle.entry_order.specs.Ascending.{ascending}
 use Rattle.entry_graph.proofs.gaps.gaps_by.Goals as goal
+use Rattle.entry_graph.proofs.{GapFacts.gaps_at_none, Imports.ap, Imports.gaps, Imports.◌∙◌, Imports.◌≡◌}
+use Rattle.entry_order.specs.Ascending.{ascending}
+use Rattle.std.proofs.lemmas.Result.{IfOk-weaker}
 
 pub returns : goal.returns
 returns g c =

@@ -1,9 +1,8 @@
-use Rattle.entry_graph.proofs.Imports.{rules, ◌≡◌, ◌<◌, ◌++◌, ◌∙◌, ◌∷◌, [], ℕ, List, Some, None, Option, true}
-use Rattle.entry_graph.proofs.Imports.{length, get_or, ap, sym, number_at, or-false, or_right}
-use Rattle.entry_graph.proofs.Imports.{append-nil, Links, refl, with_next}
-use Rattle.entry_graph.proofs.LinkFacts.{next_links}
 use Rattle.entry_graph.proofs.links.links_at.Goals as goal
-use Rattle.entry_graph.proofs.links.links_at.Goals.{in-Some+in_ok-push-in-Some, in-None}
+use Rattle.entry_graph.proofs.Imports.{[], ap, append-nil, get_or, length, Links, List, None, number_at, Option}
+use Rattle.entry_graph.proofs.Imports.{or-false, or_right, refl, rules, Some, sym, true, with_next, ℕ, ◌++◌, ◌<◌, ◌∙◌}
+use Rattle.entry_graph.proofs.{Imports.◌∷◌, Imports.◌≡◌, LinkFacts.next_links}
+use Rattle.entry_graph.proofs.links.links_at.Goals.{in-None, in-Some+in_ok-push-in-Some}
 
 -- one name more
 pub loop-name-preserved : goal.loop-name-preserved

@@ -1,6 +1,5 @@
-use Rattle.entry_graph.proofs.Imports.{◌∙◌}
-use Rattle.entry_graph.proofs.StrayFacts.{stray_is_told}
 use Rattle.entry_graph.proofs.strays.is_stray.Goals as goal
+use Rattle.entry_graph.proofs.{Imports.◌∙◌, StrayFacts.stray_is_told}
 
 pub returns : goal.returns
 returns g c = λ given single stamps.

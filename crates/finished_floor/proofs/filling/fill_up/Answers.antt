@@ -1,6 +1,5 @@
-use Rattle.finished_floor.proofs.Imports.{None, arith}
 use Rattle.finished_floor.proofs.filling.fill_up.Goals as goal
-use Rattle.finished_floor.proofs.Filled.{filled_more}
+use Rattle.finished_floor.proofs.{Filled.filled_more, Imports.arith, Imports.None}
 
 pub loop-preserved : goal.loop-preserved
 loop-preserved c = record {

@@ -1,6 +1,5 @@
 use Rattle.finished_floor.proofs.finishing.finish_floor.Goals as goal
-use Rattle.finished_floor.proofs.Finished.{rows_begun, played_of, floor_of}
-use Rattle.finished_floor.proofs.Grown.{are_placed}
+use Rattle.finished_floor.proofs.{Finished.floor_of, Finished.played_of, Finished.rows_begun, Grown.are_placed}
 
 pub sweep-requires-clause-placed : goal.sweep-requires-clause-placed
 sweep-requires-clause-placed c =

@@ -1,6 +1,5 @@
-use Rattle.floor_links.proofs.Imports.{AreNewRows}
-use Rattle.floor_links.proofs.Makings.{AreEmpty, lists_of}
 use Rattle.floor_links.proofs.making.make_links.Given as goal
+use Rattle.floor_links.proofs.{Imports.AreNewRows, Makings.AreEmpty, Makings.lists_of}
 
 -- an empty list for each receiver so far
 abbrev pub invariant-loop-to : goal.invariant-loop-to

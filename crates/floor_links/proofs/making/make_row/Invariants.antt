@@ -1,6 +1,5 @@
-use Rattle.floor_links.proofs.Imports.{IsRowBelow}
-use Rattle.floor_links.proofs.Makings.{lists_of}
 use Rattle.floor_links.proofs.making.make_row.Given as goal
+use Rattle.floor_links.proofs.{Imports.IsRowBelow, Makings.lists_of}
 
 -- the links to the receivers below `to`
 abbrev pub invariant-loop-to : goal.invariant-loop-to

@@ -1,6 +1,5 @@
-use Rattle.floor_links.proofs.Imports.{◌≡◌, vec_capacity}
-use Rattle.floor_links.proofs.Sent.{Sending}
 use Rattle.floor_links.proofs.sending.send_all.Given as goal
+use Rattle.floor_links.proofs.{Imports.vec_capacity, Imports.◌≡◌, Sent.Sending}
 
 -- the machines below `to` were sent their copies
 abbrev pub invariant-loop-to : goal.invariant-loop-to

@@ -1,8 +1,7 @@
-use Rattle.std.proofs.Common.{subst}
-use Rattle.finished_floor.proofs.Beginnings.{fresh_at, fresh_events}
-use Rattle.finished_floor.specs.Places.{IsStopOf}
-use Rattle.finished_floor.proofs.News.{new_of}
 use Rattle.floor_tests.proofs.sessions.machine_at.Goals as goal
+use Rattle.finished_floor.proofs.{Beginnings.fresh_at, Beginnings.fresh_events, News.new_of}
+use Rattle.finished_floor.specs.Places.{IsStopOf}
+use Rattle.std.proofs.Common.{subst}
 
 pub returns-clause-of : goal.returns-clause-of
 returns-clause-of c =

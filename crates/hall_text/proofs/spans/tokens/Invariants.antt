@@ -1,7 +1,6 @@
-use Rattle.std.proofs.Common.{◌≡◌, ◌++◌, ◌-◌, length, drop}
-use Rattle.hall_text.specs.Tokens.{tokens_from}
-use Rattle.hall_text.specs.Places.{CutsNoWord}
 use Rattle.hall_text.proofs.spans.tokens.Given as goal
+use Rattle.hall_text.specs.{Places.CutsNoWord, Tokens.tokens_from}
+use Rattle.std.proofs.Common.{drop, length, ◌++◌, ◌-◌, ◌≡◌}
 
 -- the tokens so far, followed by those that are left, are all tokens, and no word goes on at the place
 abbrev pub invariant-loop-at : goal.invariant-loop-at

@@ -1,7 +1,6 @@
-use Rattle.std.proofs.Common.{◌≡◌, ℕ, ◌<◌, ◌≤◌, ◌-◌, length, drop, slice_index}
-use Rattle.hall_text.specs.Spans.{IsWordByte}
-use Rattle.hall_text.specs.Tokens.{word_end}
 use Rattle.hall_text.proofs.spans.word_end.Given as goal
+use Rattle.hall_text.specs.{Spans.IsWordByte, Tokens.word_end}
+use Rattle.std.proofs.Common.{drop, length, slice_index, ℕ, ◌-◌, ◌<◌, ◌≡◌, ◌≤◌}
 
 -- the word ends where its bytes that are left end, and all bytes so far belong to it
 abbrev pub invariant-loop-end : goal.invariant-loop-end

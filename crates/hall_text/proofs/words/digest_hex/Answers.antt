@@ -1,9 +1,8 @@
-use Rattle.std.proofs.Common.{◌≡◌, sym, ◌∙◌, ap, true, true≢false}
-use Rattle.std.specs.Str.{bytes_eq}
-use Rattle.std.specs.Prelude.{Ok, Some, None}
-use Rattle.hex.specs.Hex.{encode_lower}
-use Rattle.hall_text.proofs.DigestText.{digest_decodes, ok_holds, equal_bytes}
 use Rattle.hall_text.proofs.words.digest_hex.Goals as goal
+use Rattle.hall_text.proofs.DigestText.{digest_decodes, equal_bytes, ok_holds}
+use Rattle.hex.specs.Hex.{encode_lower}
+use Rattle.std.proofs.Common.{ap, sym, true, true≢false, ◌∙◌, ◌≡◌}
+use Rattle.std.specs.{Prelude.None, Prelude.Ok, Prelude.Some, Str.bytes_eq}
 
 -- what doesn't decode is no digest
 pub returns-in_err-digest-clause-exact : goal.returns-in_err-digest-clause-exact

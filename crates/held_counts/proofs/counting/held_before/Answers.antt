@@ -1,7 +1,6 @@
-use Rattle.std.proofs.Common.{◌∙◌, sym, map}
-use Rattle.std.proofs.lemmas.Result.{IfOk-weaker}
-use Rattle.held_counts.proofs.Reached.{is_held_before_right}
 use Rattle.held_counts.proofs.counting.held_before.Goals as goal
+use Rattle.held_counts.proofs.Reached.{is_held_before_right}
+use Rattle.std.proofs.{Common.map, Common.sym, Common.◌∙◌, lemmas.Result.IfOk-weaker}
 
 pub returns : goal.returns
 returns g c =

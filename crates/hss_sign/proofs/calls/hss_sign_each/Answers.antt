@@ -1,11 +1,10 @@
-use Rattle.std.proofs.Common.{◌≡◌, ◌+◌, ◌/◌, ◌%◌, ◌^◌, ◌∙◌, IfOk, length, ap, arith, subst}
-use Rattle.std.proofs.lemmas.List.{length_push}
-use Rattle.lms_sign.specs.Calls.{accepted}
-use Rattle.lms_sign.proofs.Answered.{message_at}
-use Rattle.hss_sign.specs.Signs.{leaves_in}
-use Rattle.hss_sign.specs.TwoLevels.{TwoLevelSecret}
-use Rattle.hss_sign.proofs.Answered.{leaves_differ, one_answer_more, sign_answered}
 use Rattle.hss_sign.proofs.calls.hss_sign_each.Goals as goal
+use Rattle.hss_sign.proofs.Answered.{leaves_differ, one_answer_more, sign_answered}
+use Rattle.hss_sign.specs.{Signs.leaves_in, TwoLevels.TwoLevelSecret}
+use Rattle.lms_sign.proofs.Answered.{message_at}
+use Rattle.lms_sign.specs.Calls.{accepted}
+use Rattle.std.proofs.Common.{ap, arith, IfOk, length, subst, ◌%◌, ◌+◌, ◌/◌, ◌^◌, ◌∙◌, ◌≡◌}
+use Rattle.std.proofs.lemmas.List.{length_push}
 
 pub loop-message-preserved : goal.loop-message-preserved
 loop-message-preserved c =

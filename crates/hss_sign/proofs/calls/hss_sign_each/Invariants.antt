@@ -1,9 +1,8 @@
-use Rattle.std.proofs.Common.{◌≡◌, ◌≤◌, map, length, vec_capacity}
-use Rattle.std.specs.List.{range_with_len}
-use Rattle.lms_sign.specs.Calls.{accepted}
-use Rattle.hss_sign.specs.Calls.{HssAnswersEach, hss_used, leaves_of}
-use Rattle.hss_sign.specs.Signs.{leaves_in}
 use Rattle.hss_sign.proofs.calls.hss_sign_each.Given as goal
+use Rattle.hss_sign.specs.{Calls.hss_used, Calls.HssAnswersEach, Calls.leaves_of, Signs.leaves_in}
+use Rattle.lms_sign.specs.Calls.{accepted}
+use Rattle.std.proofs.Common.{length, map, vec_capacity, ◌≡◌, ◌≤◌}
+use Rattle.std.specs.List.{range_with_len}
 
 -- the messages so far are answered, and there is room for the other answers
 abbrev pub invariant-loop-message : goal.invariant-loop-message

@@ -1,6 +1,5 @@
-use Rattle.log_commands.proofs.Imports.{ap, map, rule_tree}
-use Rattle.log_commands.proofs.CheckAnswers.{too_wide_checked}
 use Rattle.log_commands.proofs.check.check_by.Goals as goal
+use Rattle.log_commands.proofs.{CheckAnswers.too_wide_checked, Imports.ap, Imports.map, Imports.rule_tree}
 
 pub returns-in-Err-TooWide-clause-err : goal.returns-in-Err-TooWide-clause-err
 returns-in-Err-TooWide-clause-err c =

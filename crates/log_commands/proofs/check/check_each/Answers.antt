@@ -1,6 +1,5 @@
-use Rattle.log_commands.proofs.Imports.{nodes_of}
-use Rattle.log_commands.proofs.CheckedRules.{checked_more, first_too_wide}
 use Rattle.log_commands.proofs.check.check_each.Goals as goal
+use Rattle.log_commands.proofs.{CheckedRules.checked_more, CheckedRules.first_too_wide, Imports.nodes_of}
 
 pub returns-in-Err-TooWide-clause-err : goal.returns-in-Err-TooWide-clause-err
 returns-in-Err-TooWide-clause-err c =

@@ -1,6 +1,5 @@
-use Rattle.log_commands.proofs.Imports.{ap, is_lt, ◌∙◌}
-use Rattle.log_commands.proofs.EntryPlaces.{lower_at}
 use Rattle.log_commands.proofs.order.is_lower.Goals as goal
+use Rattle.log_commands.proofs.{EntryPlaces.lower_at, Imports.ap, Imports.is_lt, Imports.◌∙◌}
 
 pub returns-in-Some : goal.returns-in-Some
 returns-in-Some c = rw c.in-Some.is

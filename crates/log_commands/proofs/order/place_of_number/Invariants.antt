@@ -1,6 +1,5 @@
-use Rattle.log_commands.proofs.Imports.{IsNumbered}
-use Rattle.log_commands.proofs.EntryPlaces.{LeastBefore}
 use Rattle.log_commands.proofs.order.place_of_number.Given as goal
+use Rattle.log_commands.proofs.{EntryPlaces.LeastBefore, Imports.IsNumbered}
 
 -- the least digest so far
 abbrev pub invariant-loop-at : goal.invariant-loop-at

@@ -1,6 +1,5 @@
-use Rattle.log_commands.proofs.Imports.{Ok, or_answered, or_refused}
-use Rattle.log_commands.proofs.ProveCommand.{prove_is_there}
 use Rattle.log_commands.proofs.prove.prove.Goals as goal
+use Rattle.log_commands.proofs.{Imports.Ok, Imports.or_answered, Imports.or_refused, ProveCommand.prove_is_there}
 
 pub returns-in-Err : goal.returns-in-Err
 returns-in-Err g c =

@@ -1,8 +1,7 @@
+use Rattle.log_commands.proofs.watch.watch_few.Goals as goal
 use Rattle.log_commands.proofs.Imports.{Answer, ap, evidence_by, graph_has_finding, is_broken, is_unsettled, list_any}
 use Rattle.log_commands.proofs.Imports.{log_has_finding, not_absent, Ok, outcome_by, source_named, string_bytes, sym}
-use Rattle.log_commands.proofs.Imports.{Watches, ◌||◌, ◌∙◌}
-use Rattle.log_commands.proofs.WatchSteps.{lines_told, too_wide}
-use Rattle.log_commands.proofs.watch.watch_few.Goals as goal
+use Rattle.log_commands.proofs.{Imports.Watches, Imports.◌||◌, Imports.◌∙◌, WatchSteps.lines_told, WatchSteps.too_wide}
 
 pub wide_among-requires-clause-graphed : goal.wide_among-requires-clause-graphed
 wide_among-requires-clause-graphed c = rw c.requires.entries c.requires.graphed

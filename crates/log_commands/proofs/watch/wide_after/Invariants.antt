@@ -1,7 +1,6 @@
-use Rattle.log_commands.proofs.Imports.{IsLive, IsOfSameAudit, map, node_of_sealed, rule_tree, StandFor, take}
-use Rattle.log_commands.proofs.Imports.{text_of_sealed}
-use Rattle.log_commands.proofs.WatchSteps.{AreNarrow}
 use Rattle.log_commands.proofs.watch.wide_after.Given as goal
+use Rattle.log_commands.proofs.Imports.{IsLive, IsOfSameAudit, map, node_of_sealed, rule_tree, StandFor, take}
+use Rattle.log_commands.proofs.{Imports.text_of_sealed, WatchSteps.AreNarrow}
 
 -- what was added stands for the entries so far, after none of which a rule is too wide
 abbrev pub invariant-loop-k : goal.invariant-loop-k

@@ -1,8 +1,7 @@
-use Rattle.log_repair.proofs.Imports.{node_of_sealed, Act, TakesStep}
-use Rattle.log_repair.proofs.Going.{going_start, if_failed, loop_fails, loop_more, shrinks}
-use Rattle.log_repair.proofs.Making.{sends_with_room}
-use Rattle.log_repair.proofs.OneWay.{AnyStep, acts_continue, acts_do, step_sure}
 use Rattle.log_repair.proofs.finishing.act_on.Goals as goal
+use Rattle.log_repair.proofs.Going.{going_start, if_failed, loop_fails, loop_more, shrinks}
+use Rattle.log_repair.proofs.{Imports.Act, Imports.node_of_sealed, Imports.TakesStep, Making.sends_with_room}
+use Rattle.log_repair.proofs.OneWay.{acts_continue, acts_do, AnyStep, step_sure}
 
 pub loop-is_moving-init : goal.loop-is_moving-init
 loop-is_moving-init c = going_start (λ next log says rest last acts. acts_do node_of_sealed _ c.args.m _ last rest acts)

@@ -1,9 +1,7 @@
-use Rattle.log_repair.proofs.Imports.{◌≡◌, [], rules, node_of_sealed, ActsOn}
-use Rattle.log_repair.proofs.Going.{going_fails, going_more, going_start, if_failed, led_from_none, next_joins}
-use Rattle.log_repair.proofs.Making.{sends_with_room}
-use Rattle.log_repair.proofs.OneWay.{finishes_continue}
-use Rattle.log_repair.proofs.Turns.{next_number, no_number}
 use Rattle.log_repair.proofs.finishing.finish.Goals as goal
+use Rattle.log_repair.proofs.Going.{going_fails, going_more, going_start, if_failed, led_from_none, next_joins}
+use Rattle.log_repair.proofs.Imports.{[], ActsOn, node_of_sealed, rules, ◌≡◌}
+use Rattle.log_repair.proofs.{Making.sends_with_room, OneWay.finishes_continue, Turns.next_number, Turns.no_number}
 
 pub loop-m-init : goal.loop-m-init
 loop-m-init c =

@@ -1,11 +1,10 @@
-use Rattle.log_repair.proofs.Imports.{◌≡◌, ◌∙◌, ◌<◌, ℕ, List, Option, Some, None, length, sym, ap, subst}
-use Rattle.log_repair.proofs.Imports.{node_of_sealed, happens, SealedEntry, Step, Hear, IsOrderly, World, option_map}
-use Rattle.log_repair.proofs.Imports.{length-map, on_ok_weaker, on_err_weaker, MachineState, WorldState, machine_of}
-use Rattle.log_repair.proofs.Imports.{world_of, HearsOf, bearer, TakesStep}
-use Rattle.log_repair.proofs.Bearers.{IsAnswerIn, bearer_answers, held_sent}
-use Rattle.log_repair.proofs.Events.{sender_within}
-use Rattle.log_repair.proofs.Going.{adds_so, fails_so}
 use Rattle.log_repair.proofs.repairing.ask.Goals as goal
+use Rattle.log_repair.proofs.Bearers.{bearer_answers, held_sent, IsAnswerIn}
+use Rattle.log_repair.proofs.{Events.sender_within, Going.adds_so, Going.fails_so}
+use Rattle.log_repair.proofs.Imports.{ap, bearer, happens, Hear, HearsOf, IsOrderly, length, length-map, List}
+use Rattle.log_repair.proofs.Imports.{machine_of, MachineState, node_of_sealed, None, on_err_weaker, on_ok_weaker}
+use Rattle.log_repair.proofs.Imports.{Option, option_map, SealedEntry, Some, Step, subst, sym, TakesStep, World}
+use Rattle.log_repair.proofs.Imports.{world_of, WorldState, ℕ, ◌<◌, ◌∙◌, ◌≡◌}
 
 -- maker and number of an entry
 abbrev place_of : SealedEntry → ℕ × ℕ

@@ -1,8 +1,7 @@
-use Rattle.log_repair.proofs.Imports.{rules, node_of_sealed, TakesTurn}
-use Rattle.log_repair.proofs.Going.{going_fails, going_more, going_start, if_failed, next_joins}
-use Rattle.log_repair.proofs.OneWay.{turns_continue}
-use Rattle.log_repair.proofs.Turns.{next_number, no_number}
 use Rattle.log_repair.proofs.repairing.take_round.Goals as goal
+use Rattle.log_repair.proofs.Going.{going_fails, going_more, going_start, if_failed, next_joins}
+use Rattle.log_repair.proofs.Imports.{node_of_sealed, rules, TakesTurn}
+use Rattle.log_repair.proofs.{OneWay.turns_continue, Turns.next_number, Turns.no_number}
 
 pub loop-m-init : goal.loop-m-init
 loop-m-init c = going_start (λ next log says rest last turns. turns)

@@ -1,10 +1,9 @@
-use Rattle.log_repair.proofs.Imports.{◌≡◌, ◌∙◌, ℕ, List, [], sym, ap, if◌then◌else◌, on_ok_weaker, on_err_weaker}
-use Rattle.log_repair.proofs.Imports.{node_of_sealed, SealedEntry, held, gaps, History, MachineState, WorldState, true}
-use Rattle.log_repair.proofs.Imports.{false, happens, has_stopped}
-use Rattle.log_repair.proofs.Going.{adds_so, fails_here, fails_so, going_none, going_start, if_failed}
-use Rattle.log_repair.proofs.OneWay.{asks_continue}
-use Rattle.log_repair.proofs.Turns.{turn_of}
 use Rattle.log_repair.proofs.repairing.take_turn.Goals as goal
+use Rattle.log_repair.proofs.Going.{adds_so, fails_here, fails_so, going_none, going_start, if_failed}
+use Rattle.log_repair.proofs.Imports.{[], ap, false, gaps, happens, has_stopped, held, History, if◌then◌else◌, List}
+use Rattle.log_repair.proofs.Imports.{MachineState, node_of_sealed, on_err_weaker, on_ok_weaker, SealedEntry, sym, true}
+use Rattle.log_repair.proofs.Imports.{WorldState, ℕ, ◌∙◌, ◌≡◌}
+use Rattle.log_repair.proofs.{OneWay.asks_continue, Turns.turn_of}
 
 -- a machine that has stopped asks for nothing
 pub returns-then-stopped-clause-ok : goal.returns-then-stopped-clause-ok

@@ -1,9 +1,7 @@
-use Rattle.log_repair.proofs.Imports.{◌∙◌, List, [], ◌∷◌, ◌++◌, refl, ap, inl, node_of_sealed, Step, WorldState}
-use Rattle.log_repair.proofs.Imports.{IsMadeAsBefore}
-use Rattle.log_repair.proofs.Going.{fails_here, going_none, if_failed}
-use Rattle.log_repair.proofs.Making.{changed_world, one_less}
-use Rattle.log_repair.proofs.OneWay.{step_continues}
 use Rattle.log_repair.proofs.taking.take.Goals as goal
+use Rattle.log_repair.proofs.Going.{fails_here, going_none, if_failed}
+use Rattle.log_repair.proofs.Imports.{[], ap, inl, IsMadeAsBefore, List, node_of_sealed, refl, Step, WorldState, ◌++◌}
+use Rattle.log_repair.proofs.{Imports.◌∙◌, Imports.◌∷◌, Making.changed_world, Making.one_less, OneWay.step_continues}
 
 -- what is done changes the world, and is added
 pub returns-in-Did-clause-ok : goal.returns-in-Did-clause-ok

@@ -1,7 +1,6 @@
-use Rattle.machine_floor.proofs.Imports.{◌≡◌, length, arith, lists_of, lists_push}
-use Rattle.machine_floor.proofs.Drops.{lists_many}
-use Rattle.machine_floor.proofs.Rests.{row_ready, finishing_more}
 use Rattle.machine_floor.proofs.finishing.finish_links.Goals as goal
+use Rattle.machine_floor.proofs.{Drops.lists_many, Imports.arith, Imports.length, Imports.lists_of, Imports.lists_push}
+use Rattle.machine_floor.proofs.{Imports.◌≡◌, Rests.finishing_more, Rests.row_ready}
 
 pub finish_row-requires-clause-ends : goal.finish_row-requires-clause-ends
 finish_row-requires-clause-ends g c =

@@ -1,6 +1,5 @@
-use Rattle.machine_floor.proofs.Imports.{length, lists_of}
-use Rattle.machine_floor.proofs.Rests.{IsFinishing}
 use Rattle.machine_floor.proofs.finishing.finish_links.Given as goal
+use Rattle.machine_floor.proofs.{Imports.length, Imports.lists_of, Rests.IsFinishing}
 
 -- the links of the last senders are finished
 abbrev pub invariant-loop-row : goal.invariant-loop-row

@@ -1,9 +1,7 @@
-use Rattle.machine_floor.proofs.Imports.{◌≢◌, arith, IsInOf, IsOutOf, AreMadeBy}
-use Rattle.machine_floor.proofs.Drops.{lists_many}
-use Rattle.machine_floor.proofs.Rests.{fits, rowing_more, rowing_all}
-use Rattle.machine_floor.proofs.finishing.finish_row.Given.{Over}
 use Rattle.machine_floor.proofs.finishing.finish_row.Goals as goal
-use Rattle.machine_floor.proofs.finishing.finish_row.Goals.{After-pop_at-inn}
+use Rattle.machine_floor.proofs.{Drops.lists_many, Imports.AreMadeBy, Imports.arith, Imports.IsInOf, Imports.IsOutOf}
+use Rattle.machine_floor.proofs.{Imports.◌≢◌, Rests.fits, Rests.rowing_all, Rests.rowing_more}
+use Rattle.machine_floor.proofs.finishing.finish_row.{Given.Over, Goals.After-pop_at-inn}
 
 -- the ends that were read are the link's
 read : (g : Over) (c : After-pop_at-inn g) → IsOutOf c.in-Some.link c.in-Some-next.out ×

@@ -1,6 +1,5 @@
-use Rattle.machine_floor.proofs.Imports.{lists_of, into_iter_items}
-use Rattle.machine_floor.proofs.Rests.{IsRowing}
 use Rattle.machine_floor.proofs.finishing.finish_row.Given as goal
+use Rattle.machine_floor.proofs.{Imports.into_iter_items, Imports.lists_of, Rests.IsRowing}
 
 -- the links to the machines below `to` are finished
 abbrev pub invariant-loop-to : goal.invariant-loop-to

@@ -1,6 +1,5 @@
-use Rattle.machine_floor.proofs.Imports.{arith}
-use Rattle.machine_floor.proofs.Rests.{popped_at}
 use Rattle.machine_floor.proofs.finishing.pop_at.Goals as goal
+use Rattle.machine_floor.proofs.{Imports.arith, Rests.popped_at}
 
 pub returns : goal.returns
 returns c =

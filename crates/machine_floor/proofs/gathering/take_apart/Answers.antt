@@ -1,7 +1,6 @@
-use Rattle.machine_floor.proofs.Imports.{[], ◌∷◌, ◌++◌, sym, ap, ◌∙◌, lists_of, lists_push, append_assoc}
-use Rattle.machine_floor.proofs.Imports.{into_iter_items}
-use Rattle.machine_floor.proofs.Parted.{parts_push}
 use Rattle.machine_floor.proofs.gathering.take_apart.Goals as goal
+use Rattle.machine_floor.proofs.Imports.{[], ap, append_assoc, into_iter_items, lists_of, lists_push, sym, ◌++◌, ◌∙◌}
+use Rattle.machine_floor.proofs.{Imports.◌∷◌, Parted.parts_push}
 
 pub loop-station-preserved : goal.loop-station-preserved
 loop-station-preserved c =

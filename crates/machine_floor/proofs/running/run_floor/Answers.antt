@@ -1,8 +1,6 @@
-use Rattle.machine_floor.proofs.Imports.{map, arith, AreNewStations, made_of}
-use Rattle.machine_floor.proofs.Worked.{still_made}
-use Rattle.machine_floor.proofs.running.run_floor.Given.{Over}
 use Rattle.machine_floor.proofs.running.run_floor.Goals as goal
-use Rattle.machine_floor.proofs.running.run_floor.Goals.{In_ok-stations}
+use Rattle.machine_floor.proofs.{Imports.AreNewStations, Imports.arith, Imports.made_of, Imports.map, Worked.still_made}
+use Rattle.machine_floor.proofs.running.run_floor.{Given.Over, Goals.In_ok-stations}
 
 pub work_all-requires-clause-links : goal.work_all-requires-clause-links
 work_all-requires-clause-links g c = λ u lives. c.in_ok-roster.ensures.links

@@ -1,7 +1,6 @@
-use Rattle.machine_floor.proofs.Imports.{[], ◌∷◌, refl, sym, ap, ◌∙◌, subst, All, IsOfLinks}
-use Rattle.machine_floor.proofs.Imports.{StationState, All-head, made_of}
-use Rattle.machine_floor.proofs.Works.{released}
 use Rattle.machine_floor.proofs.work.ear.Goals as goal
+use Rattle.machine_floor.proofs.Imports.{[], All, All-head, ap, IsOfLinks, made_of, refl, StationState, subst, sym, ◌∙◌}
+use Rattle.machine_floor.proofs.{Imports.◌∷◌, Works.released}
 
 pub ear_turn-heard-requires : goal.ear_turn-heard-requires
 ear_turn-heard-requires g c = All-head (IsOfLinks c.args.links.now) _ []

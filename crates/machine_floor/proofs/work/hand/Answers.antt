@@ -1,9 +1,8 @@
-use Rattle.machine_floor.proofs.Imports.{◌≡◌, [], ◌∷◌, sym, ap, ◌∙◌, All, ticks_since, Tick, IsOfLinks, StationState}
-use Rattle.machine_floor.proofs.Imports.{made_of, All-head, IsPrefix, subst}
-use Rattle.machine_floor.proofs.Works.{hand_turned, released}
-use Rattle.machine_floor.proofs.work.hand.Given.{Over}
 use Rattle.machine_floor.proofs.work.hand.Goals as goal
-use Rattle.machine_floor.proofs.work.hand.Goals.{After-value-in-loop-turn}
+use Rattle.machine_floor.proofs.Imports.{[], All, All-head, ap, IsOfLinks, IsPrefix, made_of, StationState, subst, sym}
+use Rattle.machine_floor.proofs.Imports.{Tick, ticks_since, ◌∙◌, ◌∷◌, ◌≡◌}
+use Rattle.machine_floor.proofs.Works.{hand_turned, released}
+use Rattle.machine_floor.proofs.work.hand.{Given.Over, Goals.After-value-in-loop-turn}
 
 pub hand_turn-did-requires : goal.hand_turn-did-requires
 hand_turn-did-requires g c = All-head (IsOfLinks c.args.links.now) _ []

@@ -1,7 +1,6 @@
-use Rattle.office_commands.proofs.Imports.{[], refl, AtLast, GivesBytes, max_signed, unsigned_of}
-use Rattle.office_commands.proofs.Imports.{file_ends}
-use Rattle.office_commands.proofs.FileSteps.{file_last}
 use Rattle.office_commands.proofs.endorse.read_for.Goals as goal
+use Rattle.office_commands.proofs.FileSteps.{file_last}
+use Rattle.office_commands.proofs.Imports.{[], AtLast, file_ends, GivesBytes, max_signed, refl, unsigned_of}
 
 pub returns-in-Ok : goal.returns-in-Ok
 returns-in-Ok g c =

@@ -1,7 +1,6 @@
-use Rattle.office_commands.proofs.Imports.{[], refl, AtLast, GivesBytes, max_small, signed_of}
-use Rattle.office_commands.proofs.Imports.{file_ends}
-use Rattle.office_commands.proofs.FileSteps.{file_last}
 use Rattle.office_commands.proofs.endorsed.read_signature.Goals as goal
+use Rattle.office_commands.proofs.FileSteps.{file_last}
+use Rattle.office_commands.proofs.Imports.{[], AtLast, file_ends, GivesBytes, max_small, refl, signed_of}
 
 pub returns-in-Ok : goal.returns-in-Ok
 returns-in-Ok g c =

@@ -1,7 +1,6 @@
-use Rattle.office_commands.proofs.Imports.{[], ◌∷◌, AtLast, FileThen, GivesBytes, max_signed, max_small}
-use Rattle.office_commands.proofs.Imports.{signed_of}
-use Rattle.office_commands.proofs.Imports.{file_ends, file_joins}
 use Rattle.office_commands.proofs.endorsed.read_signed.Goals as goal
+use Rattle.office_commands.proofs.Imports.{[], AtLast, file_ends, file_joins, FileThen, GivesBytes, max_signed}
+use Rattle.office_commands.proofs.Imports.{max_small, signed_of, ◌∷◌}
 
 pub returns-in-Ok : goal.returns-in-Ok
 returns-in-Ok g c =

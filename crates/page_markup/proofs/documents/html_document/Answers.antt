@@ -1,9 +1,8 @@
-use Rattle.std.proofs.Common.{◌∙◌, ◌++◌, ◌∷◌, [], List, ℕ, codes, ap, sym, subst}
-use Rattle.page_markup.specs.declared.names.Tag.TheVariants.{Html}
-use Rattle.page_markup.specs.Elements.{element, html_document}
-use Rattle.page_markup.specs.WellFormed.{AreAttributes, IsContent, IsDocument}
-use Rattle.page_markup.proofs.Parts.{is_page}
 use Rattle.page_markup.proofs.documents.html_document.Goals as goal
+use Rattle.page_markup.proofs.Parts.{is_page}
+use Rattle.page_markup.specs.{Elements.element, Elements.html_document, WellFormed.AreAttributes, WellFormed.IsContent}
+use Rattle.page_markup.specs.{WellFormed.IsDocument, declared.names.Tag.TheVariants.Html}
+use Rattle.std.proofs.Common.{[], ap, codes, List, subst, sym, ℕ, ◌++◌, ◌∙◌, ◌∷◌}
 
 pub returns-clause-well_formed : goal.returns-clause-well_formed
 unfolding html_document

@@ -1,9 +1,8 @@
-use Rattle.std.proofs.Common.{◌∙◌, ◌++◌, ◌∷◌, [], List, ℕ, ap, sym, subst}
-use Rattle.page_markup.specs.declared.names.Tag.TheVariants.{Svg}
-use Rattle.page_markup.specs.Elements.{element, svg_document}
-use Rattle.page_markup.specs.WellFormed.{AreAttributes, IsContent, IsDocument}
-use Rattle.page_markup.proofs.Parts.{is_drawing}
 use Rattle.page_markup.proofs.documents.svg_document.Goals as goal
+use Rattle.page_markup.proofs.Parts.{is_drawing}
+use Rattle.page_markup.specs.{Elements.element, Elements.svg_document, WellFormed.AreAttributes, WellFormed.IsContent}
+use Rattle.page_markup.specs.{WellFormed.IsDocument, declared.names.Tag.TheVariants.Svg}
+use Rattle.std.proofs.Common.{[], ap, List, subst, sym, ℕ, ◌++◌, ◌∙◌, ◌∷◌}
 
 pub returns-clause-well_formed : goal.returns-clause-well_formed
 unfolding svg_document

@@ -1,7 +1,6 @@
-use Rattle.place_commands.proofs.Imports.{IsPlayOf}
-use Rattle.place_commands.proofs.ScriptCommands.{script_refused, script_answered}
-use Rattle.place_commands.proofs.PlayCommand.{play_tells}
 use Rattle.place_commands.proofs.play.play.Goals as goal
+use Rattle.place_commands.proofs.{Imports.IsPlayOf, PlayCommand.play_tells}
+use Rattle.place_commands.proofs.ScriptCommands.{script_answered, script_refused}
 
 pub returns-in-Err : goal.returns-in-Err
 returns-in-Err g c =

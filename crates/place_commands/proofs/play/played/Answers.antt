@@ -1,7 +1,6 @@
-use Rattle.place_commands.proofs.Imports.{play_files, machine_lines, ◌≡◌, ◌∙◌, ap, string_bytes, roster_of, WorldState}
-use Rattle.place_commands.proofs.Imports.{roster_has_text}
-use Rattle.place_commands.proofs.HonestPlaces.{players_leave_honest_files}
 use Rattle.place_commands.proofs.play.played.Goals as goal
+use Rattle.place_commands.proofs.{HonestPlaces.players_leave_honest_files, Imports.ap, Imports.machine_lines}
+use Rattle.place_commands.proofs.Imports.{play_files, roster_has_text, roster_of, string_bytes, WorldState, ◌∙◌, ◌≡◌}
 
 -- the world's roster is the script's
 pub files_of-requires : goal.files_of-requires

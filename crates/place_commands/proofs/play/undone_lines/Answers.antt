@@ -1,6 +1,5 @@
-use Rattle.place_commands.proofs.Imports.{string_bytes}
-use Rattle.place_commands.proofs.Undone.{undone_more}
 use Rattle.place_commands.proofs.play.undone_lines.Goals as goal
+use Rattle.place_commands.proofs.{Imports.string_bytes, Undone.undone_more}
 
 pub loop-machine-preserved : goal.loop-machine-preserved
 loop-machine-preserved c =

@@ -1,7 +1,6 @@
-use Rattle.place_commands.proofs.Imports.{IsRepairOf}
-use Rattle.place_commands.proofs.ScriptCommands.{script_refused, script_answered}
-use Rattle.place_commands.proofs.RepairCommand.{repair_tells}
 use Rattle.place_commands.proofs.repair.repair.Goals as goal
+use Rattle.place_commands.proofs.{Imports.IsRepairOf, RepairCommand.repair_tells}
+use Rattle.place_commands.proofs.ScriptCommands.{script_answered, script_refused}
 
 pub returns-in-Err : goal.returns-in-Err
 returns-in-Err g c =

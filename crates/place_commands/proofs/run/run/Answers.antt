@@ -1,7 +1,6 @@
-use Rattle.place_commands.proofs.Imports.{IsRunOf}
-use Rattle.place_commands.proofs.ScriptCommands.{script_refused, script_answered}
-use Rattle.place_commands.proofs.RunCommand.{run_tells}
 use Rattle.place_commands.proofs.run.run.Goals as goal
+use Rattle.place_commands.proofs.{Imports.IsRunOf, RunCommand.run_tells}
+use Rattle.place_commands.proofs.ScriptCommands.{script_answered, script_refused}
 
 pub returns-in-Err : goal.returns-in-Err
 returns-in-Err g c =

@@ -1,8 +1,7 @@
-use Rattle.polling_world.proofs.Imports.{rules, ◌≡◌, ◌∙◌, get_or, sym, ap, arith, length-map, History, node_of_sealed}
-use Rattle.polling_world.proofs.Imports.{SealedEntry, history, MachineState, machine_of, world_of}
-use Rattle.polling_world.proofs.Placing.{history_at}
-use Rattle.polling_world.proofs.Ranking.{ranked_all, ranked_more}
 use Rattle.polling_world.proofs.merging.rank_all.Goals as goal
+use Rattle.polling_world.proofs.Imports.{ap, arith, get_or, History, history, length-map, machine_of, MachineState}
+use Rattle.polling_world.proofs.Imports.{node_of_sealed, rules, SealedEntry, sym, world_of, ◌∙◌, ◌≡◌}
+use Rattle.polling_world.proofs.{Placing.history_at, Ranking.ranked_all, Ranking.ranked_more}
 
 -- the steps of one machine's events more
 pub loop-at-preserved : goal.loop-at-preserved

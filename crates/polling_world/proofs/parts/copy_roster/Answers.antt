@@ -1,6 +1,5 @@
-use Rattle.polling_world.proofs.Imports.{◌∙◌, refl}
-use Rattle.polling_world.proofs.Rosters.{election_is}
 use Rattle.polling_world.proofs.parts.copy_roster.Goals as goal
+use Rattle.polling_world.proofs.{Imports.refl, Imports.◌∙◌, Rosters.election_is}
 
 pub returns-clause-election : goal.returns-clause-election
 returns-clause-election c =

@@ -1,6 +1,5 @@
-use Rattle.polling_world.proofs.Imports.{◌≡◌, drop, roster_of}
-use Rattle.polling_world.proofs.Played.{Stays, Leads}
 use Rattle.polling_world.proofs.playing.play.Given as goal
+use Rattle.polling_world.proofs.{Imports.drop, Imports.roster_of, Imports.◌≡◌, Played.Leads, Played.Stays}
 
 -- the machines are made of what they were, and what is left of the steps leads where all of them
 -- lead

@@ -1,8 +1,7 @@
-use Rattle.polling_world.proofs.Imports.{◌∙◌, sym, subst, IsTrue, ◌↔◌, true≢false, IsWholeHistory, entries_in}
-use Rattle.polling_world.proofs.Imports.{needs_whole}
-use Rattle.polling_world.proofs.Ruled.{same_whole}
 use Rattle.polling_world.proofs.rules.booth_may.Goals as goal
-use Rattle.polling_world.proofs.rules.booth_may.Goals.{then-needs_whole, else-needs_whole}
+use Rattle.polling_world.proofs.Imports.{entries_in, IsTrue, IsWholeHistory, needs_whole, subst, sym, true≢false, ◌↔◌}
+use Rattle.polling_world.proofs.{Imports.◌∙◌, Ruled.same_whole}
+use Rattle.polling_world.proofs.rules.booth_may.Goals.{else-needs_whole, then-needs_whole}
 
 -- the log was asked where the deed needs it
 pub returns : goal.returns

@@ -1,9 +1,8 @@
-use Rattle.std.proofs.Common.{Some}
-use Rattle.polling_world.proofs.Imports.{◌∙◌, List, ap, arith, inr, subst, sym, slice_get, SealedEntry, Event, sent}
-use Rattle.polling_world.proofs.Imports.{History, MachineState}
-use Rattle.polling_world.proofs.Placing.{history_at}
-use Rattle.polling_world.proofs.Taking.{IsTold, refused_given, stands_at}
 use Rattle.polling_world.proofs.steps.hear_at.Goals as goal
+use Rattle.polling_world.proofs.Imports.{ap, arith, Event, History, inr, List, MachineState, SealedEntry, sent}
+use Rattle.polling_world.proofs.Imports.{slice_get, subst, sym, ◌∙◌}
+use Rattle.polling_world.proofs.{Placing.history_at, Taking.IsTold, Taking.refused_given, Taking.stands_at}
+use Rattle.std.proofs.Common.{Some}
 
 -- the entry isn't taken
 pub returns-then-not-takes-clause-ok : goal.returns-then-not-takes-clause-ok

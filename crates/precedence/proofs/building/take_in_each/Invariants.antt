@@ -1,8 +1,7 @@
-use Rattle.std.proofs.Common.{◌≡◌, ℕ, ◌||◌, ◌==◌, length, take}
-use Rattle.std.specs.List.{list_any}
-use Rattle.precedence.specs.Bits.{has_bit, row_has}
-use Rattle.precedence.specs.inside.Words.{words_below}
 use Rattle.precedence.proofs.building.take_in_each.Given as goal
+use Rattle.precedence.specs.{Bits.has_bit, Bits.row_has, inside.Words.words_below}
+use Rattle.std.proofs.Common.{length, take, ℕ, ◌==◌, ◌||◌, ◌≡◌}
+use Rattle.std.specs.List.{list_any}
 
 -- the parents so far are taken in
 abbrev pub invariant-loop-parent : goal.invariant-loop-parent

@@ -1,7 +1,6 @@
-use Rattle.report_page.proofs.Imports.{[], report_of}
-use Rattle.report_page.specs.Entries.{survivor_row}
-use Rattle.report_page.proofs.Pieces.{item_more}
 use Rattle.report_page.proofs.entries.entry_rows.Goals as goal
+use Rattle.report_page.proofs.{Imports.[], Imports.report_of, Pieces.item_more}
+use Rattle.report_page.specs.Entries.{survivor_row}
 
 pub loop-place-preserved : goal.loop-place-preserved
 loop-place-preserved c =

@@ -1,11 +1,8 @@
-use Rattle.report_page.proofs.Imports.{◌≡◌, ◌∙◌, ◌++◌, ℕ, [], Bool}
-use Rattle.report_page.proofs.Imports.{ap, sym, length, string_bytes, flat_map, range_with_len}
-use Rattle.report_page.proofs.Imports.{slice_get, slice_get_read, length-map, refl, arith}
-use Rattle.report_page.specs.Entries.{holder, is_in_log, number_if}
-use Rattle.report_page.specs.inside.Held.{has}
-use Rattle.report_page.proofs.LogDigests.{holder_at}
-use Rattle.report_page.proofs.Pieces.{place_more}
 use Rattle.report_page.proofs.entries.holders.Goals as goal
+use Rattle.report_page.proofs.Imports.{[], ap, arith, Bool, flat_map, length, length-map, range_with_len, refl}
+use Rattle.report_page.proofs.Imports.{slice_get, slice_get_read, string_bytes, sym, ℕ, ◌++◌, ◌∙◌, ◌≡◌}
+use Rattle.report_page.proofs.{LogDigests.holder_at, Pieces.place_more}
+use Rattle.report_page.specs.{Entries.holder, Entries.is_in_log, Entries.number_if, inside.Held.has}
 
 pub loop-place-preserved : goal.loop-place-preserved
 loop-place-preserved c =

@@ -1,7 +1,6 @@
-use Rattle.report_page.proofs.Imports.{report_of}
-use Rattle.report_page.specs.Findings.{unsettled_at}
-use Rattle.report_page.proofs.Pieces.{place_more}
 use Rattle.report_page.proofs.findings.add_all_unsettled.Goals as goal
+use Rattle.report_page.proofs.{Imports.report_of, Pieces.place_more}
+use Rattle.report_page.specs.Findings.{unsettled_at}
 
 pub loop-place-preserved : goal.loop-place-preserved
 loop-place-preserved c =

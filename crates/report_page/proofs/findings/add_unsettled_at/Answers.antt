@@ -1,12 +1,9 @@
-use Rattle.report_page.proofs.Imports.{◌≡◌, ◌∙◌, ◌++◌, ◌≤◌, List, Option, append-nil, ap, sym, length, map, slice_get}
-use Rattle.std.proofs.Common.{None, rules}
-use Rattle.std.proofs.lemmas.Option.{slice_get-map, slice_get_past}
-use Rattle.std.specs.Prelude.{option_map}
-use Rattle.rule_language.specs.declared.formula.Rule.{Rule}
-use Rattle.rule_language.specs.Forms.{rule_tree}
-use Rattle.rule_language.specs.Trees.{RuleTree}
-use Rattle.report_page.specs.Findings.{unsettled_findings}
 use Rattle.report_page.proofs.findings.add_unsettled_at.Goals as goal
+use Rattle.report_page.proofs.Imports.{ap, append-nil, length, List, map, Option, slice_get, sym, ◌++◌, ◌∙◌, ◌≡◌, ◌≤◌}
+use Rattle.report_page.specs.Findings.{unsettled_findings}
+use Rattle.rule_language.specs.{Forms.rule_tree, Trees.RuleTree, declared.formula.Rule.Rule}
+use Rattle.std.proofs.{Common.None, Common.rules, lemmas.Option.slice_get-map, lemmas.Option.slice_get_past}
+use Rattle.std.specs.Prelude.{option_map}
 
 -- there is no rule at the place
 pub returns-in-None : goal.returns-in-None

@@ -1,7 +1,6 @@
-use Rattle.report_page.proofs.Imports.{[], report_of}
-use Rattle.report_page.specs.Gaps.{maker_row}
-use Rattle.report_page.proofs.Pieces.{item_more}
 use Rattle.report_page.proofs.gaps.maker_rows.Goals as goal
+use Rattle.report_page.proofs.{Imports.[], Imports.report_of, Pieces.item_more}
+use Rattle.report_page.specs.Gaps.{maker_row}
 
 pub loop-seat-preserved : goal.loop-seat-preserved
 loop-seat-preserved c =

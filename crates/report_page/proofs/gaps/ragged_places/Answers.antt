@@ -1,8 +1,7 @@
-use Rattle.report_page.proofs.Imports.{◌∙◌, ◌++◌, [], Bool, ap}
-use Rattle.entry_graph.specs.EntryGraph.{ragged_of}
-use Rattle.report_page.specs.Gaps.{place_if}
-use Rattle.report_page.proofs.Pieces.{place_more}
 use Rattle.report_page.proofs.gaps.ragged_places.Goals as goal
+use Rattle.entry_graph.specs.EntryGraph.{ragged_of}
+use Rattle.report_page.proofs.{Imports.[], Imports.ap, Imports.Bool, Imports.◌++◌, Imports.◌∙◌, Pieces.place_more}
+use Rattle.report_page.specs.Gaps.{place_if}
 
 pub loop-place-preserved : goal.loop-place-preserved
 loop-place-preserved c =

@@ -1,9 +1,7 @@
-use Rattle.report_page.proofs.Imports.{◌≡◌, get_or, LogRead}
-use Rattle.std.proofs.Common.{rules}
-use Rattle.report_page.specs.Entries.{is_in_log}
-use Rattle.report_page.specs.inside.Held.{has}
-use Rattle.report_page.proofs.LogDigests.{said_more}
 use Rattle.report_page.proofs.held.all_held.Goals as goal
+use Rattle.report_page.proofs.{Imports.get_or, Imports.LogRead, Imports.◌≡◌, LogDigests.said_more}
+use Rattle.report_page.specs.{Entries.is_in_log, inside.Held.has}
+use Rattle.std.proofs.Common.{rules}
 
 pub loop-log-preserved : goal.loop-log-preserved
 loop-log-preserved c = λ d.

@@ -1,7 +1,6 @@
-use Rattle.report_page.proofs.Imports.{◌≡◌, ℕ, List, map, take}
-use Rattle.report_page.specs.Entries.{is_in_log}
-use Rattle.report_page.specs.inside.Held.{has}
 use Rattle.report_page.proofs.held.all_held.Given as goal
+use Rattle.report_page.proofs.Imports.{List, map, take, ℕ, ◌≡◌}
+use Rattle.report_page.specs.{Entries.is_in_log, inside.Held.has}
 
 -- the logs so far
 abbrev pub invariant-loop-log : goal.invariant-loop-log

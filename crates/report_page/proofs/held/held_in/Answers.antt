@@ -1,11 +1,10 @@
-use Rattle.report_page.proofs.Imports.{◌≡◌, ◌∙◌, ℕ, List, ap, get_or}
-use Rattle.std.proofs.Common.{rules}
-use Rattle.std.specs.Prelude.{◌||◌}
-use Rattle.std.specs.Str.{bytes_eq}
-use Rattle.log_files.specs.declared.sealed_log.Kept.{Kept}
-use Rattle.report_page.specs.inside.Held.{has}
-use Rattle.report_page.proofs.LogDigests.{any_more}
 use Rattle.report_page.proofs.held.held_in.Goals as goal
+use Rattle.log_files.specs.declared.sealed_log.Kept.{Kept}
+use Rattle.report_page.proofs.Imports.{ap, get_or, List, ℕ, ◌∙◌, ◌≡◌}
+use Rattle.report_page.proofs.LogDigests.{any_more}
+use Rattle.report_page.specs.inside.Held.{has}
+use Rattle.std.proofs.Common.{rules}
+use Rattle.std.specs.{Prelude.◌||◌, Str.bytes_eq}
 
 pub loop-kept-preserved : goal.loop-kept-preserved
 loop-kept-preserved c = λ d.

@@ -1,9 +1,8 @@
-use Rattle.report_page.proofs.Imports.{◌≡◌, ℕ, List, take}
-use Rattle.std.specs.List.{list_any}
-use Rattle.std.specs.Str.{bytes_eq}
-use Rattle.log_files.specs.declared.sealed_log.Kept.{Kept}
-use Rattle.report_page.specs.inside.Held.{has}
 use Rattle.report_page.proofs.held.held_in.Given as goal
+use Rattle.log_files.specs.declared.sealed_log.Kept.{Kept}
+use Rattle.report_page.proofs.Imports.{List, take, ℕ, ◌≡◌}
+use Rattle.report_page.specs.inside.Held.{has}
+use Rattle.std.specs.{List.list_any, Str.bytes_eq}
 
 -- the digests so far
 abbrev pub invariant-loop-kept : goal.invariant-loop-kept

@@ -1,7 +1,6 @@
-use Rattle.report_page.proofs.Imports.{report_of}
-use Rattle.report_page.specs.Machines.{rows_of_seat}
-use Rattle.report_page.proofs.Pieces.{place_more}
 use Rattle.report_page.proofs.machines.add_seats.Goals as goal
+use Rattle.report_page.proofs.{Imports.report_of, Pieces.place_more}
+use Rattle.report_page.specs.Machines.{rows_of_seat}
 
 pub loop-seat-preserved : goal.loop-seat-preserved
 loop-seat-preserved c =

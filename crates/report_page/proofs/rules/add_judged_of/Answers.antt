@@ -1,10 +1,9 @@
-use Rattle.report_page.proofs.Imports.{◌≡◌, ◌∙◌, ◌++◌, ◌≤◌, List, Option, append-nil, ap, sym, length, slice_get}
-use Rattle.std.proofs.Common.{Some, None, rules}
-use Rattle.std.proofs.lemmas.Option.{slice_get_past}
-use Rattle.rule_language.specs.Forms.{rule_tree}
-use Rattle.rule_engine.specs.declared.verdict.Verdict.{Verdict}
-use Rattle.report_page.specs.Rules.{judged_rows}
 use Rattle.report_page.proofs.rules.add_judged_of.Goals as goal
+use Rattle.report_page.proofs.Imports.{ap, append-nil, length, List, Option, slice_get, sym, ◌++◌, ◌∙◌, ◌≡◌, ◌≤◌}
+use Rattle.report_page.specs.Rules.{judged_rows}
+use Rattle.rule_engine.specs.declared.verdict.Verdict.{Verdict}
+use Rattle.rule_language.specs.Forms.{rule_tree}
+use Rattle.std.proofs.{Common.None, Common.rules, Common.Some, lemmas.Option.slice_get_past}
 
 -- there is no verdict at the place
 pub returns-in-None : goal.returns-in-None

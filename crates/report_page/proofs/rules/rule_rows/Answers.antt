@@ -1,7 +1,6 @@
-use Rattle.report_page.proofs.Imports.{[], report_of}
-use Rattle.report_page.specs.Rules.{rule_at}
-use Rattle.report_page.proofs.Pieces.{place_more}
 use Rattle.report_page.proofs.rules.rule_rows.Goals as goal
+use Rattle.report_page.proofs.{Imports.[], Imports.report_of, Pieces.place_more}
+use Rattle.report_page.specs.Rules.{rule_at}
 
 pub loop-place-preserved : goal.loop-place-preserved
 loop-place-preserved c =

@@ -1,7 +1,6 @@
-use Rattle.report_page.proofs.Imports.{◌≡◌, ◌++◌, take}
-use Rattle.report_page.specs.Cells.{passed_texts}
-use Rattle.report_page.specs.Tables.{titles_markup}
 use Rattle.report_page.proofs.tables.add_titles.Given as goal
+use Rattle.report_page.proofs.Imports.{take, ◌++◌, ◌≡◌}
+use Rattle.report_page.specs.{Cells.passed_texts, Tables.titles_markup}
 
 -- the titles so far
 abbrev pub invariant-loop-title : goal.invariant-loop-title

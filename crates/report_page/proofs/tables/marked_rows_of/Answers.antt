@@ -1,8 +1,7 @@
-use Rattle.report_page.proofs.Imports.{◌∙◌, ◌++◌, [], ap, get_or_read, report_of, slice_index_or}
-use Rattle.report_page.specs.Cells.{TableRow}
-use Rattle.report_page.specs.Tables.{marked_row}
-use Rattle.report_page.proofs.Pieces.{place_more}
 use Rattle.report_page.proofs.tables.marked_rows_of.Goals as goal
+use Rattle.report_page.proofs.Imports.{[], ap, get_or_read, report_of, slice_index_or, ◌++◌, ◌∙◌}
+use Rattle.report_page.proofs.Pieces.{place_more}
+use Rattle.report_page.specs.{Cells.TableRow, Tables.marked_row}
 
 pub loop-number-preserved : goal.loop-number-preserved
 loop-number-preserved c =

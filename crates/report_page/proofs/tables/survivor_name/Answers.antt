@@ -1,11 +1,10 @@
-use Rattle.report_page.proofs.Imports.{◌≡◌, ◌∙◌, ◌≤◌, Option, ap, sym, length, report_of, slice_get, string_bytes}
-use Rattle.std.proofs.Common.{Some, None, rules, subst}
-use Rattle.std.specs.Prelude.{IfOk}
-use Rattle.std.proofs.lemmas.Option.{slice_get_past}
+use Rattle.report_page.proofs.tables.survivor_name.Goals as goal
 use Rattle.entry_format.specs.SealedEntry.{SealedEntry}
 use Rattle.entry_graph.specs.EntryGraph.{EntryGraph}
+use Rattle.report_page.proofs.Imports.{ap, length, Option, report_of, slice_get, string_bytes, sym, ◌∙◌, ◌≡◌, ◌≤◌}
 use Rattle.report_page.specs.Tables.{survivor_name}
-use Rattle.report_page.proofs.tables.survivor_name.Goals as goal
+use Rattle.std.proofs.{Common.None, Common.rules, Common.Some, Common.subst, lemmas.Option.slice_get_past}
+use Rattle.std.specs.Prelude.{IfOk}
 
 pub returns-then-place-count : goal.returns-then-place-count
 returns-then-place-count c =

@@ -1,6 +1,5 @@
-use Rattle.roster.proofs.Imports.{List, members_of, Post}
-use Rattle.roster.proofs.Walk.{IsWalked}
 use Rattle.roster.proofs.reading.count_machines.Given as goal
+use Rattle.roster.proofs.{Imports.List, Imports.members_of, Imports.Post, Walk.IsWalked}
 
 -- the members so far are machines
 abbrev pub invariant-loop-member : goal.invariant-loop-member

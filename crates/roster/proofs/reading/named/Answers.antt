@@ -1,6 +1,5 @@
-use Rattle.roster.proofs.Imports.{ap, ◌∙◌, List, ℕ}
-use Rattle.roster.proofs.Raws.{name_is_text}
 use Rattle.roster.proofs.reading.named.Goals as goal
+use Rattle.roster.proofs.{Imports.ap, Imports.List, Imports.ℕ, Imports.◌∙◌, Raws.name_is_text}
 
 -- a name is text, so nothing of it is replaced
 pub returns : goal.returns

@@ -1,7 +1,6 @@
-use Rattle.roster.proofs.Imports.{◌∙◌, ◌∷◌, [], List, map, ap, subst, sym, Sexp, members_of, map-append, Post}
-use Rattle.roster.proofs.Imports.{post_of}
-use Rattle.roster.proofs.Walk.{IsWalked, walked_on, next_machine, some_unless}
 use Rattle.roster.proofs.reading.raws_of.Goals as goal
+use Rattle.roster.proofs.Imports.{[], ap, List, map, map-append, members_of, Post, post_of, Sexp, subst, sym, ◌∙◌, ◌∷◌}
+use Rattle.roster.proofs.Walk.{IsWalked, next_machine, some_unless, walked_on}
 
 -- the next member is a machine
 pub unwrap-requires : goal.unwrap-requires

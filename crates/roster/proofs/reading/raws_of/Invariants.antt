@@ -1,6 +1,5 @@
-use Rattle.roster.proofs.Imports.{map, members_of, post_of}
-use Rattle.roster.proofs.Walk.{IsWalked}
 use Rattle.roster.proofs.reading.raws_of.Given as goal
+use Rattle.roster.proofs.{Imports.map, Imports.members_of, Imports.post_of, Walk.IsWalked}
 
 -- the machines of the members so far
 abbrev pub invariant-loop-member : goal.invariant-loop-member

@@ -1,8 +1,7 @@
-use Rattle.std.proofs.Common.{◌≡◌, map, take}
-use Rattle.std.specs.Prelude.{not}
-use Rattle.std.specs.List.{filter}
-use Rattle.entry_order.specs.Naming.{is_named}
 use Rattle.small_worlds.proofs.digests.unnamed.Given as goal
+use Rattle.entry_order.specs.Naming.{is_named}
+use Rattle.std.proofs.Common.{map, take, ◌≡◌}
+use Rattle.std.specs.{List.filter, Prelude.not}
 
 abbrev pub invariant-loop-entry : goal.invariant-loop-entry
 invariant-loop-entry g l =

@@ -1,7 +1,6 @@
-use Rattle.std.proofs.Common.{◌∙◌}
-use Rattle.std.proofs.lemmas.Result.{IfOk-weaker}
-use Rattle.entry_order.proofs.Held.{frontier_held}
 use Rattle.small_worlds.proofs.history.held_frontier.Goals as goal
+use Rattle.entry_order.proofs.Held.{frontier_held}
+use Rattle.std.proofs.{Common.◌∙◌, lemmas.Result.IfOk-weaker}
 
 pub returns : goal.returns
 returns g c =

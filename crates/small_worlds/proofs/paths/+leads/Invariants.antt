@@ -1,8 +1,7 @@
-use Rattle.std.proofs.Common.{◌≡◌, ◌-◌, drop}
-use Rattle.std.specs.Prelude.{◌&&◌}
-use Rattle.std.specs.List.{list_any}
-use Rattle.small_worlds.specs.inside.Paths.{is_next, leads}
 use Rattle.small_worlds.proofs.paths.+leads.Given as goal
+use Rattle.small_worlds.specs.inside.Paths.{is_next, leads}
+use Rattle.std.proofs.Common.{drop, ◌-◌, ◌≡◌}
+use Rattle.std.specs.{List.list_any, Prelude.◌&&◌}
 
 abbrev pub decreases-leads : goal.decreases-leads
 decreases-leads g l = l.between

@@ -1,10 +1,8 @@
-use Rattle.std.proofs.Common.{◌∙◌, ap, sym, cond}
-use Rattle.std.specs.Prelude.{slice_get, slice_index_or}
-use Rattle.std.proofs.lemmas.Bool.{ne_eqb}
-use Rattle.entry_order.specs.History.{sent}
-use Rattle.entry_order.specs.World.{Machine, hear, history, with_machine}
-use Rattle.small_worlds.proofs.Fusions.{with_machine_at}
 use Rattle.small_worlds.proofs.world.hear.Goals as goal
+use Rattle.entry_order.specs.{History.sent, World.hear, World.history, World.Machine, World.with_machine}
+use Rattle.small_worlds.proofs.Fusions.{with_machine_at}
+use Rattle.std.proofs.{Common.ap, Common.cond, Common.sym, Common.◌∙◌, lemmas.Bool.ne_eqb}
+use Rattle.std.specs.Prelude.{slice_get, slice_index_or}
 
 pub returns-in_ok-hear-clause-ok : goal.returns-in_ok-hear-clause-ok
 returns-in_ok-hear-clause-ok g c =

@@ -1,10 +1,8 @@
-use Rattle.std.proofs.Common.{◌∙◌, ap, sym, subst, length}
-use Rattle.std.proofs.lemmas.Result.{on_ok_weaker}
-use Rattle.entry_order.specs.Naming.{Distinct}
-use Rattle.entry_order.specs.World.{World, start, sent_in, play}
-use Rattle.entry_order.specs.Receipt.{IsOrderly, OrderIsReceiptIn}
-use Rattle.entry_order.proofs.Plays.{order_is_receipt, IsOrderly-play, IsOrderly-start}
 use Rattle.small_worlds.proofs.world.run.Goals as goal
+use Rattle.entry_order.proofs.Plays.{IsOrderly-play, IsOrderly-start, order_is_receipt}
+use Rattle.entry_order.specs.{Naming.Distinct, Receipt.IsOrderly, Receipt.OrderIsReceiptIn}
+use Rattle.entry_order.specs.World.{play, sent_in, start, World}
+use Rattle.std.proofs.{Common.ap, Common.length, Common.subst, Common.sym, Common.◌∙◌, lemmas.Result.on_ok_weaker}
 
 pub returns-clause-played : goal.returns-clause-played
 returns-clause-played g c =

@@ -1,9 +1,8 @@
-use Rattle.deed_history.proofs.VersionOne.{first_alike, never_told}
-use Rattle.supervisor_core.specs.declared.state.SupervisorNot.TheVariants.{OtherOverride, NothingCommitted}
-use Rattle.supervisor_core.specs.Table.{causes_of}
-use Rattle.supervisor_core.specs.VersionOne.{causes_in_version_1}
-use Rattle.supervisor_core.proofs.OfVersion1.{rows_alike, no_other_override, no_nothing_committed}
 use Rattle.supervisor_core.proofs.laws.version_1_has_its_own_answers.Goals as goal
+use Rattle.deed_history.proofs.VersionOne.{first_alike, never_told}
+use Rattle.supervisor_core.proofs.OfVersion1.{no_nothing_committed, no_other_override, rows_alike}
+use Rattle.supervisor_core.specs.{Table.causes_of, VersionOne.causes_in_version_1}
+use Rattle.supervisor_core.specs.declared.state.SupervisorNot.TheVariants.{NothingCommitted, OtherOverride}
 
 pub returns-clause-same : goal.returns-clause-same
 returns-clause-same c = λ owner entries deed answer all one.

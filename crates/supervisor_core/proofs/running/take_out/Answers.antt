@@ -1,6 +1,5 @@
-use Rattle.std.proofs.Common.{rules}
-use Rattle.std.proofs.lemmas.Fn.{filter_same}
 use Rattle.supervisor_core.proofs.running.take_out.Goals as goal
+use Rattle.std.proofs.{Common.rules, lemmas.Fn.filter_same}
 
 pub returns-clause-items : goal.returns-clause-items
 returns-clause-items c = filter_same _ _ _ (λ x b f' k. search rules) _ _ c.retain.ensures.filtered

@@ -1,12 +1,10 @@
-use Rattle.std.proofs.Common.{◌≡◌, sym, subst}
-use Rattle.std.specs.Prelude.{Any, IsTrue, ◌↔◌}
-use Rattle.entry_format.specs.declared.deed.Deed.TheVariants.{Activate, Commit, Cast, Cancel, Challenge}
-use Rattle.deed_history.proofs.Deciding.{not_is, first_by}
-use Rattle.deed_history.proofs.Members.{listed_is}
-use Rattle.booth_core.specs.State.{StandsFor}
-use Rattle.booth_core.specs.Table.{causes_of, Refuses}
-use Rattle.booth_core.proofs.Rows.{committed_is, committed_to_is}
 use Rattle.booth_core.proofs.state.BoothState.may.Goals as goal
+use Rattle.booth_core.proofs.Rows.{committed_is, committed_to_is}
+use Rattle.booth_core.specs.{State.StandsFor, Table.causes_of, Table.Refuses}
+use Rattle.deed_history.proofs.{Deciding.first_by, Deciding.not_is, Members.listed_is}
+use Rattle.entry_format.specs.declared.deed.Deed.TheVariants.{Activate, Cancel, Cast, Challenge, Commit}
+use Rattle.std.proofs.Common.{subst, sym, ◌≡◌}
+use Rattle.std.specs.Prelude.{Any, IsTrue, ◌↔◌}
 
 pub returns-in-Activate : goal.returns-in-Activate
 returns-in-Activate c = λ owner entries stands.

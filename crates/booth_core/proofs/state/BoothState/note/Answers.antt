@@ -1,11 +1,10 @@
-use Rattle.std.proofs.Common.{◌∙◌, true, false, ap}
-use Rattle.std.proofs.lemmas.Bool.Decides.{Decides-eqb}
-use Rattle.entry_format.specs.declared.deed.Deed.TheVariants.{Opened, Authorise, Override, Closed, Activate, Commit}
-use Rattle.entry_format.specs.declared.deed.Deed.TheVariants.{Cast, Cancel, Challenge}
 use Rattle.entry_format.specs.declared.deed.How.TheVariants as word
-use Rattle.deed_history.proofs.Entries.{decides_true, decides_false}
-use Rattle.booth_core.proofs.Noted.{noted}
 use Rattle.booth_core.proofs.state.BoothState.note.Goals as goal
+use Rattle.booth_core.proofs.Noted.{noted}
+use Rattle.deed_history.proofs.Entries.{decides_false, decides_true}
+use Rattle.entry_format.specs.declared.deed.Deed.TheVariants.{Activate, Authorise, Cancel, Cast, Challenge, Closed}
+use Rattle.entry_format.specs.declared.deed.Deed.TheVariants.{Commit, Opened, Override}
+use Rattle.std.proofs.{Common.ap, Common.false, Common.true, Common.◌∙◌, lemmas.Bool.Decides.Decides-eqb}
 
 pub returns-then-booth-self-clause-kept : goal.returns-then-booth-self-clause-kept
 returns-then-booth-self-clause-kept c = λ owner entries stands.

@@ -1,7 +1,6 @@
-use Rattle.entangled_log.proofs.Imports.{List, ◌∙◌, ap, sym, subst, ◌↔◌, IsTrue, Event, entry_of, held, IsBorneIn}
-use Rattle.entangled_log.proofs.Imports.{StandsFor}
-use Rattle.entangled_log.proofs.Whole.{holds_entries}
 use Rattle.entangled_log.proofs.log.Log.holds.Goals as goal
+use Rattle.entangled_log.proofs.Imports.{ap, entry_of, Event, held, IsBorneIn, IsTrue, List, StandsFor, subst, sym, ◌↔◌}
+use Rattle.entangled_log.proofs.{Imports.◌∙◌, Whole.holds_entries}
 
 -- the frontier describes the events that the call reads
 pub bears-requires : goal.bears-requires

@@ -1,7 +1,6 @@
-use Rattle.entangled_log.proofs.Imports.{List, ◌∙◌, ap, sym, subst, ◌↔◌, not, IsTrue, Event, entry_of, held}
-use Rattle.entangled_log.proofs.Imports.{StandsFor, NamesOnlyHeld}
-use Rattle.entangled_log.proofs.Whole.{whole_entries}
 use Rattle.entangled_log.proofs.log.Log.is_whole.Goals as goal
+use Rattle.entangled_log.proofs.Imports.{ap, entry_of, Event, held, IsTrue, List, NamesOnlyHeld, not, StandsFor, subst}
+use Rattle.entangled_log.proofs.{Imports.sym, Imports.◌↔◌, Imports.◌∙◌, Whole.whole_entries}
 
 -- the frontier describes the events that the call reads
 pub wants-requires : goal.wants-requires

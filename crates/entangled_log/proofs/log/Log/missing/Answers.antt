@@ -1,7 +1,6 @@
-use Rattle.entangled_log.proofs.Imports.{◌∙◌, List, ap, sym, subst, IfOk-weaker, Event, entry_of, held, gaps}
-use Rattle.entangled_log.proofs.Imports.{StandsFor}
-use Rattle.entangled_log.proofs.Missing.{gaps_held}
 use Rattle.entangled_log.proofs.log.Log.missing.Goals as goal
+use Rattle.entangled_log.proofs.Imports.{ap, entry_of, Event, gaps, held, IfOk-weaker, List, StandsFor, subst, sym, ◌∙◌}
+use Rattle.entangled_log.proofs.Missing.{gaps_held}
 
 -- the frontier describes the events that the call reads
 pub missing-requires : goal.missing-requires

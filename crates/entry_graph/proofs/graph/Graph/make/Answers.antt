@@ -1,9 +1,8 @@
-use Rattle.entry_graph.proofs.Imports.{rules, ◌∙◌, ◌≤◌, length, ap, sym, subst, IsPermutation, gaps, EntryGraph}
-use Rattle.entry_graph.proofs.Imports.{AreForks, AreLinks, IsEntryGraph, IsGraphOfGiven, HasNoDigestTwice, NamesLower}
-use Rattle.entry_graph.proofs.GraphFacts.{survivors_single, survivors_few, parts_are_right, graph_is_right}
-use Rattle.entry_graph.proofs.NumberFacts.{single_moved}
-use Rattle.entry_graph.proofs.StrayFacts.{survivors_name_lower}
 use Rattle.entry_graph.proofs.graph.Graph.make.Goals as goal
+use Rattle.entry_graph.proofs.GraphFacts.{graph_is_right, parts_are_right, survivors_few, survivors_single}
+use Rattle.entry_graph.proofs.Imports.{ap, AreForks, AreLinks, EntryGraph, gaps, HasNoDigestTwice, IsEntryGraph}
+use Rattle.entry_graph.proofs.Imports.{IsGraphOfGiven, IsPermutation, length, NamesLower, rules, subst, sym, ◌∙◌, ◌≤◌}
+use Rattle.entry_graph.proofs.{NumberFacts.single_moved, StrayFacts.survivors_name_lower}
 
 -- the survivors have no digest twice
 pub number-requires : goal.number-requires

@@ -1,11 +1,10 @@
-use Rattle.std.proofs.Common.{◌≡◌, ◌++◌, ◌∙◌, ℕ, List, length, take, ap, arith, sym}
-use Rattle.std.proofs.lemmas.List.{take_all}
-use Rattle.lms_ots.specs.Ots.{u32str}
-use Rattle.lms_ots.proofs.Candidates.{length-u32str}
-use Rattle.lms_ots.proofs.Pieces.{two_begin}
-use Rattle.hss_sign.specs.TwoLevels.{TwoLevelSecret, hss_public}
-use Rattle.hss_sign.proofs.Keeping.{top_public}
 use Rattle.hss_sign.proofs.secret.HssSecret.public.Goals as goal
+use Rattle.hss_sign.proofs.Keeping.{top_public}
+use Rattle.hss_sign.specs.TwoLevels.{hss_public, TwoLevelSecret}
+use Rattle.lms_ots.proofs.{Candidates.length-u32str, Pieces.two_begin}
+use Rattle.lms_ots.specs.Ots.{u32str}
+use Rattle.std.proofs.Common.{ap, arith, length, List, sym, take, ℕ, ◌++◌, ◌∙◌, ◌≡◌}
+use Rattle.std.proofs.lemmas.List.{take_all}
 
 pub returns : goal.returns
 unfolding hss_public

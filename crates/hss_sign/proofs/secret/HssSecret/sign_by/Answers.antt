@@ -1,14 +1,12 @@
-use Rattle.std.proofs.Common.{◌≡◌, ◌+◌, ◌/◌, ◌^◌, ◌<◌, ◌≤◌, ◌∙◌, IfSome, length, ap, arith, sym, subst}
-use Rattle.lms_sign.specs.Height.{IsHeight}
-use Rattle.hss_sign.specs.Calls.{hss_used}
-use Rattle.hss_sign.specs.TwoLevels.{TwoLevelSecret, top_tree}
-use Rattle.hss_sign.specs.declared.low_tree.LowTree.{LowTree}
-use Rattle.hss_sign.proofs.Keeping.{IsReady, advances, from_kept, from_made, ready_signs, stays, to_make}
-use Rattle.hss_sign.proofs.Numbers.{left_of}
-use Rattle.hss_sign.proofs.Signed.{leaves_named, signed_verifies}
-use Rattle.hss_sign.proofs.secret.HssSecret.sign_by.Given.{Over}
 use Rattle.hss_sign.proofs.secret.HssSecret.sign_by.Goals as goal
-use Rattle.hss_sign.proofs.secret.HssSecret.sign_by.Goals.{in-Some, in-None+in_ok-key-in-None+in_ok-tree-in-None}
+use Rattle.hss_sign.proofs.Keeping.{advances, from_kept, from_made, IsReady, ready_signs, stays, to_make}
+use Rattle.hss_sign.proofs.{Numbers.left_of, Signed.leaves_named, Signed.signed_verifies}
+use Rattle.hss_sign.proofs.secret.HssSecret.sign_by.Given.{Over}
+use Rattle.hss_sign.proofs.secret.HssSecret.sign_by.Goals.{in-None+in_ok-key-in-None+in_ok-tree-in-None, in-Some}
+use Rattle.hss_sign.specs.{Calls.hss_used, TwoLevels.top_tree, TwoLevels.TwoLevelSecret}
+use Rattle.hss_sign.specs.declared.low_tree.LowTree.{LowTree}
+use Rattle.lms_sign.specs.Height.{IsHeight}
+use Rattle.std.proofs.Common.{ap, arith, IfSome, length, subst, sym, ◌+◌, ◌/◌, ◌<◌, ◌^◌, ◌∙◌, ◌≡◌, ◌≤◌}
 
 -- the secret is as before
 same : (g : Over) (c : goal.After-self-2-1 g) → record {

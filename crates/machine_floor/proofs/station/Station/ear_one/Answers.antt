@@ -1,13 +1,11 @@
-use Rattle.machine_floor.proofs.Imports.{◌≡◌, List, [], ◌∷◌, ◌++◌, refl, sym, ap, ◌∙◌, subst, arith, Some, History}
-use Rattle.machine_floor.proofs.Imports.{SealedEntry, Loss, LossWhy, Tick, IsStation, EarFoundNone, EarTook, cause_of}
-use Rattle.machine_floor.proofs.Imports.{state_of, Config, IsHeard, machine_after, MachineState, get_or_default}
-use Rattle.machine_floor.proofs.Imports.{slice_set}
-use Rattle.machine_floor.proofs.Ears.{Looked, found_none, maker_is, room_for_loss, room_for_heard, same_config, looked}
-use Rattle.machine_floor.proofs.Ears.{Adds, took_one}
-use Rattle.machine_floor.proofs.Ticks.{ticks_as_many}
-use Rattle.machine_floor.proofs.station.Station.ear_one.Given.{Over}
 use Rattle.machine_floor.proofs.station.Station.ear_one.Goals as goal
-use Rattle.machine_floor.proofs.station.Station.ear_one.Goals.{In_default, After-owner-own}
+use Rattle.machine_floor.proofs.Ears.{Adds, found_none, Looked, looked, maker_is, room_for_heard, room_for_loss}
+use Rattle.machine_floor.proofs.Ears.{same_config, took_one}
+use Rattle.machine_floor.proofs.Imports.{[], ap, arith, cause_of, Config, EarFoundNone, EarTook, get_or_default}
+use Rattle.machine_floor.proofs.Imports.{History, IsHeard, IsStation, List, Loss, LossWhy, machine_after, MachineState}
+use Rattle.machine_floor.proofs.Imports.{refl, SealedEntry, slice_set, Some, state_of, subst, sym, Tick, ◌++◌, ◌∙◌, ◌∷◌}
+use Rattle.machine_floor.proofs.{Imports.◌≡◌, Ticks.ticks_as_many, station.Station.ear_one.Given.Over}
+use Rattle.machine_floor.proofs.station.Station.ear_one.Goals.{After-owner-own, In_default}
 
 -- the link was found empty
 bare : (g : Over) (c : In_default g) →

@@ -1,12 +1,10 @@
-use Rattle.machine_floor.proofs.Imports.{◌≡◌, ℕ, ◌+◌, ◌<◌, ◌≤◌, List, length, refl, sym, ap, ◌∙◌, subst, arith, inl}
-use Rattle.machine_floor.proofs.Imports.{inr, LinkView, History, SealedEntry, IsOfLinks, StationState, made_of}
-use Rattle.machine_floor.proofs.Imports.{HasLooked, state_of, add-one}
-use Rattle.machine_floor.proofs.EarLoops.{heard_more, counts}
-use Rattle.machine_floor.proofs.Linked.{same_inns, same_outs, rows_are, row_is, ends_in, from_is}
-use Rattle.machine_floor.proofs.Ticks.{HasGrown, grown_none}
-use Rattle.machine_floor.proofs.station.Station.ear_turn.Given.{Over}
 use Rattle.machine_floor.proofs.station.Station.ear_turn.Goals as goal
-use Rattle.machine_floor.proofs.station.Station.ear_turn.Goals.{then-from-own, else-from-own, Then-from-own}
+use Rattle.machine_floor.proofs.{EarLoops.counts, EarLoops.heard_more, Imports.add-one, Imports.ap, Imports.arith}
+use Rattle.machine_floor.proofs.Imports.{HasLooked, History, inl, inr, IsOfLinks, length, LinkView, List, made_of, refl}
+use Rattle.machine_floor.proofs.Imports.{SealedEntry, state_of, StationState, subst, sym, ℕ, ◌+◌, ◌<◌, ◌∙◌, ◌≡◌, ◌≤◌}
+use Rattle.machine_floor.proofs.Linked.{ends_in, from_is, row_is, rows_are, same_inns, same_outs}
+use Rattle.machine_floor.proofs.{Ticks.grown_none, Ticks.HasGrown, station.Station.ear_turn.Given.Over}
+use Rattle.machine_floor.proofs.station.Station.ear_turn.Goals.{else-from-own, Then-from-own, then-from-own}
 
 pub loop-from-init : goal.loop-from-init
 loop-from-init g c = record {

@@ -1,6 +1,5 @@
-use Rattle.machine_floor.proofs.Imports.{◌≡◌, ◌≤◌, made_of, HasLooked}
-use Rattle.machine_floor.proofs.Ticks.{HasGrown}
 use Rattle.machine_floor.proofs.station.Station.ear_turn.Given as goal
+use Rattle.machine_floor.proofs.{Imports.HasLooked, Imports.made_of, Imports.◌≡◌, Imports.◌≤◌, Ticks.HasGrown}
 
 abbrev pub invariant-loop-from : goal.invariant-loop-from
 invariant-loop-from g l = record {

@@ -1,11 +1,9 @@
-use Rattle.machine_floor.proofs.Imports.{◌≡◌, [], ◌∷◌, ◌++◌, sym, ap, ◌∙◌, arith, History, SealedEntry, IsStation}
-use Rattle.machine_floor.proofs.Imports.{StationState, HandDid, state_of, MachineState, List, Lose, length, subst}
-use Rattle.machine_floor.proofs.Imports.{IsSentBelow}
-use Rattle.machine_floor.proofs.Hands.{lower, maker_is, number_is, room_for_tick, room_for_losses, copies_are}
-use Rattle.machine_floor.proofs.Hands.{copies_same, turned}
-use Rattle.machine_floor.proofs.Linked.{capacity_is, row_of}
-use Rattle.machine_floor.proofs.station.Station.hand_turn.Given.{Over}
 use Rattle.machine_floor.proofs.station.Station.hand_turn.Goals as goal
+use Rattle.machine_floor.proofs.Hands.{copies_are, copies_same, lower, maker_is, number_is, room_for_losses}
+use Rattle.machine_floor.proofs.Hands.{room_for_tick, turned}
+use Rattle.machine_floor.proofs.Imports.{[], ap, arith, HandDid, History, IsSentBelow, IsStation, length, List, Lose}
+use Rattle.machine_floor.proofs.Imports.{MachineState, SealedEntry, state_of, StationState, subst, sym, ◌++◌, ◌∙◌, ◌∷◌}
+use Rattle.machine_floor.proofs.{Imports.◌≡◌, Linked.capacity_is, Linked.row_of, station.Station.hand_turn.Given.Over}
 use Rattle.machine_floor.proofs.station.Station.hand_turn.Goals.{After-owner-own, After-send_all}
 
 pub push_reserved-requires : goal.push_reserved-requires

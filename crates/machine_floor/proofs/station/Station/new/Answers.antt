@@ -1,6 +1,5 @@
-use Rattle.machine_floor.proofs.Imports.{ap, ◌∙◌, arith, History}
-use Rattle.machine_floor.proofs.Beginnings.{IsStation-begun}
 use Rattle.machine_floor.proofs.station.Station.new.Goals as goal
+use Rattle.machine_floor.proofs.{Beginnings.IsStation-begun, Imports.ap, Imports.arith, Imports.History, Imports.◌∙◌}
 
 pub invariant_of-result : goal.invariant_of-result
 invariant_of-result c =

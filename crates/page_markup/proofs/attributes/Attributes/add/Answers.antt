@@ -1,8 +1,7 @@
-use Rattle.std.proofs.Common.{List, ℕ}
-use Rattle.page_markup.specs.Elements.{attribute}
-use Rattle.page_markup.specs.WellFormed.{AreAttributes}
-use Rattle.page_markup.proofs.Parts.{grown, attribute_added}
 use Rattle.page_markup.proofs.attributes.Attributes.add.Goals as goal
+use Rattle.page_markup.proofs.Parts.{attribute_added, grown}
+use Rattle.page_markup.specs.{Elements.attribute, WellFormed.AreAttributes}
+use Rattle.std.proofs.Common.{List, ℕ}
 
 pub invariant_of-self : goal.invariant_of-self
 invariant_of-self c =

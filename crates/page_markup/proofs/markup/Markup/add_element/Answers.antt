@@ -1,8 +1,7 @@
-use Rattle.std.proofs.Common.{List, ℕ, sym, subst}
-use Rattle.page_markup.specs.Elements.{element}
-use Rattle.page_markup.specs.WellFormed.{AreAttributes, IsContent}
-use Rattle.page_markup.proofs.Parts.{grown, element_added}
 use Rattle.page_markup.proofs.markup.Markup.add_element.Goals as goal
+use Rattle.page_markup.proofs.Parts.{element_added, grown}
+use Rattle.page_markup.specs.{Elements.element, WellFormed.AreAttributes, WellFormed.IsContent}
+use Rattle.std.proofs.Common.{List, subst, sym, ℕ}
 
 pub invariant_of-self : goal.invariant_of-self
 invariant_of-self c =

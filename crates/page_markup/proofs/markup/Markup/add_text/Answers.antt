@@ -1,8 +1,7 @@
-use Rattle.std.proofs.Common.{List, ℕ}
-use Rattle.page_markup.specs.Escaping.{escaped}
-use Rattle.page_markup.specs.WellFormed.{IsContent}
-use Rattle.page_markup.proofs.Parts.{grown, text_added}
 use Rattle.page_markup.proofs.markup.Markup.add_text.Goals as goal
+use Rattle.page_markup.proofs.Parts.{grown, text_added}
+use Rattle.page_markup.specs.{Escaping.escaped, WellFormed.IsContent}
+use Rattle.std.proofs.Common.{List, ℕ}
 
 pub invariant_of-self : goal.invariant_of-self
 invariant_of-self c =

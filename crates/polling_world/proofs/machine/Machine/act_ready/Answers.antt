@@ -1,6 +1,5 @@
-use Rattle.polling_world.proofs.Imports.{refl}
-use Rattle.polling_world.proofs.MadeEntries.{may_send, held_already}
 use Rattle.polling_world.proofs.machine.Machine.act_ready.Goals as goal
+use Rattle.polling_world.proofs.{Imports.refl, MadeEntries.held_already, MadeEntries.may_send}
 
 pub returns-then-holds-clause-ok : goal.returns-then-holds-clause-ok
 returns-then-holds-clause-ok c = (

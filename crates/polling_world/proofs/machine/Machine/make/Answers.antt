@@ -1,8 +1,7 @@
-use Rattle.polling_world.proofs.Imports.{◌≡◌, ◌∙◌, List, [], get_or, sym, ap, subst, get_or_from_slice_get, Role}
-use Rattle.polling_world.proofs.Imports.{HaveText, Cast0, Secret, StandFor, election_of}
-use Rattle.polling_world.proofs.Keeping.{is_fresh, IsKept-fresh}
-use Rattle.polling_world.proofs.Rosters.{roster_has_text}
 use Rattle.polling_world.proofs.machine.Machine.make.Goals as goal
+use Rattle.polling_world.proofs.Imports.{[], ap, Cast0, election_of, get_or, get_or_from_slice_get, HaveText, List}
+use Rattle.polling_world.proofs.Imports.{Role, Secret, StandFor, subst, sym, ◌∙◌, ◌≡◌}
+use Rattle.polling_world.proofs.{Keeping.is_fresh, Keeping.IsKept-fresh, Rosters.roster_has_text}
 
 pub copy_roster-requires : goal.copy_roster-requires
 copy_roster-requires c = subst HaveText (sym c.requires.roster) (roster_has_text c.args.script.now c.requires.lawful)

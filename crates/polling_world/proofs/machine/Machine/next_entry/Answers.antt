@@ -1,9 +1,8 @@
-use Rattle.polling_world.proofs.Imports.{◌≡◌, ◌∙◌, ◌+◌, length, refl, sym, ap, subst, arith, node_of_sealed}
-use Rattle.polling_world.proofs.Imports.{same_fields, IsAscending, frontier, held, sent, greatest_stamp, MachineState}
-use Rattle.polling_world.proofs.Imports.{election_of, next_entry, state_of}
-use Rattle.polling_world.proofs.Histories.{frontier_rises, few_in_frontier}
-use Rattle.polling_world.proofs.MadeEntries.{sealed_is_made}
 use Rattle.polling_world.proofs.machine.Machine.next_entry.Goals as goal
+use Rattle.polling_world.proofs.{Histories.few_in_frontier, Histories.frontier_rises, Imports.ap, Imports.arith}
+use Rattle.polling_world.proofs.Imports.{election_of, frontier, greatest_stamp, held, IsAscending, length, MachineState}
+use Rattle.polling_world.proofs.Imports.{next_entry, node_of_sealed, refl, same_fields, sent, state_of, subst, sym, ◌+◌}
+use Rattle.polling_world.proofs.{Imports.◌∙◌, Imports.◌≡◌, MadeEntries.sealed_is_made}
 
 pub seal-requires-clause-election : goal.seal-requires-clause-election
 unfolding election_of

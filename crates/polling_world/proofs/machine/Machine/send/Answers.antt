@@ -1,7 +1,6 @@
-use Rattle.polling_world.proofs.Imports.{◌≡◌, ◌∙◌, ◌∷◌, ◌++◌, [], ap, SealedEntry, Sent, History, state_of}
-use Rattle.polling_world.proofs.Keeping.{IsKept-sent}
-use Rattle.polling_world.proofs.MadeEntries.{may_follow}
 use Rattle.polling_world.proofs.machine.Machine.send.Goals as goal
+use Rattle.polling_world.proofs.Imports.{[], ap, History, SealedEntry, Sent, state_of, ◌++◌, ◌∙◌, ◌∷◌, ◌≡◌}
+use Rattle.polling_world.proofs.{Keeping.IsKept-sent, MadeEntries.may_follow}
 
 pub push_sent-requires-clause-next : goal.push_sent-requires-clause-next
 push_sent-requires-clause-next c =

@@ -1,8 +1,7 @@
-use Rattle.polling_world.proofs.Imports.{◌≢◌, ◌^◌, ◌∙◌, length, sym, ap, subst, arith, true≢false, eq-eqb}
-use Rattle.polling_world.proofs.Imports.{MachineState, IsGoing, IsReady, IsWhy}
-use Rattle.std.specs.Prelude.{not}
-use Rattle.polling_world.proofs.Ruled.{refused_why}
 use Rattle.polling_world.proofs.machine.Machine.why.Goals as goal
+use Rattle.polling_world.proofs.Imports.{ap, arith, eq-eqb, IsGoing, IsReady, IsWhy, length, MachineState, subst, sym}
+use Rattle.polling_world.proofs.{Imports.true≢false, Imports.◌^◌, Imports.◌∙◌, Imports.◌≢◌, Ruled.refused_why}
+use Rattle.std.specs.Prelude.{not}
 
 -- the cause of the rules
 pub returns-in-Err : goal.returns-in-Err

@@ -1,8 +1,7 @@
-use Rattle.polling_world.proofs.Imports.{◌≡◌, ◌∙◌, List, Bool, ap, subst, ◌↔◌, IsTrue, IfOk-weaker, node_of_sealed}
-use Rattle.polling_world.proofs.Imports.{SealedEntry, HeldBefore, IsOrderly, one_order, IsSentAt, MachineState}
-use Rattle.polling_world.proofs.Imports.{WorldState, world_of}
-use Rattle.polling_world.proofs.Placing.{sent_at_sent}
 use Rattle.polling_world.proofs.world.World.held_before.Goals as goal
+use Rattle.polling_world.proofs.Imports.{ap, Bool, HeldBefore, IfOk-weaker, IsOrderly, IsSentAt, IsTrue, List}
+use Rattle.polling_world.proofs.Imports.{MachineState, node_of_sealed, one_order, SealedEntry, subst, world_of}
+use Rattle.polling_world.proofs.{Imports.WorldState, Imports.◌↔◌, Imports.◌∙◌, Imports.◌≡◌, Placing.sent_at_sent}
 
 -- where digests differ, what was held before is what names lead to
 pub returns-clause-names : goal.returns-clause-names

@@ -1,6 +1,5 @@
-use Rattle.polling_world.proofs.WorldSteps.{after_step}
-use Rattle.polling_world.proofs.Imports.{rules}
 use Rattle.polling_world.proofs.world.World.step.Goals as goal
+use Rattle.polling_world.proofs.{Imports.rules, WorldSteps.after_step}
 
 pub invariant_of-self : goal.invariant_of-self
 invariant_of-self c =

@@ -1,9 +1,8 @@
-use Rattle.report_page.proofs.Imports.{◌≡◌, ◌∙◌, ℕ, Bool, List, ap}
-use Rattle.std.proofs.Common.{true, false, cond, refl}
-use Rattle.std.specs.Prelude.{◌||◌}
-use Rattle.std.specs.Str.{bytes_eq}
-use Rattle.report_page.specs.inside.Held.{has}
 use Rattle.report_page.proofs.held.Held.add.Goals as goal
+use Rattle.report_page.proofs.Imports.{ap, Bool, List, ℕ, ◌∙◌, ◌≡◌}
+use Rattle.report_page.specs.inside.Held.{has}
+use Rattle.std.proofs.Common.{cond, false, refl, true}
+use Rattle.std.specs.{Prelude.◌||◌, Str.bytes_eq}
 
 when : (b x : Bool) → cond b true x ≡ (b || x)
 when true x = refl

@@ -1,8 +1,7 @@
-use Rattle.roster.proofs.Imports.{◌∙◌, map, ap, sym, subst, length, arith, length-map, post_of}
-use Rattle.roster.proofs.Raws.{RawsNamed, named_raws}
-use Rattle.roster.proofs.Forms.{no_machines, form_of, fault_of_text}
-use Rattle.roster.proofs.Walk.{same_count}
 use Rattle.roster.proofs.rosters.Roster.read.Goals as goal
+use Rattle.roster.proofs.Forms.{fault_of_text, form_of, no_machines}
+use Rattle.roster.proofs.Imports.{ap, arith, length, length-map, map, post_of, subst, sym, ◌∙◌}
+use Rattle.roster.proofs.{Raws.named_raws, Raws.RawsNamed, Walk.same_count}
 
 -- the bytes aren't the text of machines
 pub returns-in_default : goal.returns-in_default

@@ -1,10 +1,9 @@
-use Rattle.std.proofs.Common.{sym, subst}
-use Rattle.std.specs.Prelude.{Contains, ◌↔◌}
-use Rattle.item_list.proofs.Rows.{iff_trans}
-use Rattle.deed_history.proofs.Members.{is_listed}
-use Rattle.supervisor_core.specs.Causes.{HasOverridden, other}
-use Rattle.supervisor_core.specs.State.{StandsFor}
 use Rattle.supervisor_core.proofs.state.SupervisorState.has_other_override.Goals as goal
+use Rattle.deed_history.proofs.Members.{is_listed}
+use Rattle.item_list.proofs.Rows.{iff_trans}
+use Rattle.std.proofs.Common.{subst, sym}
+use Rattle.std.specs.Prelude.{Contains, ◌↔◌}
+use Rattle.supervisor_core.specs.{Causes.HasOverridden, Causes.other, State.StandsFor}
 
 pub returns-in-Cancel : goal.returns-in-Cancel
 returns-in-Cancel c = λ owner entries stands.

@@ -1,13 +1,11 @@
-use Rattle.std.proofs.Common.{◌≡◌, ◌<◌, length, sym, subst}
-use Rattle.std.specs.Prelude.{Any, IsTrue, Contains, ◌↔◌}
-use Rattle.entry_format.specs.declared.deed.Deed.TheVariants.{Authorise, Override, Closed}
-use Rattle.entry_format.specs.declared.deed.How.TheVariants.{Cast}
-use Rattle.deed_history.proofs.Deciding.{not_is, first_by}
-use Rattle.deed_history.proofs.Members.{listed_is}
-use Rattle.supervisor_core.specs.State.{StandsFor}
-use Rattle.supervisor_core.specs.Table.{causes_of, Refuses}
-use Rattle.supervisor_core.proofs.Rows.{busy_is, left_is, lacking_is}
 use Rattle.supervisor_core.proofs.state.SupervisorState.may.Goals as goal
+use Rattle.deed_history.proofs.{Deciding.first_by, Deciding.not_is, Members.listed_is}
+use Rattle.entry_format.specs.declared.deed.Deed.TheVariants.{Authorise, Closed, Override}
+use Rattle.entry_format.specs.declared.deed.How.TheVariants.{Cast}
+use Rattle.std.proofs.Common.{length, subst, sym, ◌<◌, ◌≡◌}
+use Rattle.std.specs.Prelude.{Any, Contains, IsTrue, ◌↔◌}
+use Rattle.supervisor_core.proofs.Rows.{busy_is, lacking_is, left_is}
+use Rattle.supervisor_core.specs.{State.StandsFor, Table.causes_of, Table.Refuses}
 
 pub returns-in-Authorise : goal.returns-in-Authorise
 returns-in-Authorise c = λ owner entries stands.

@@ -1,14 +1,11 @@
-use Rattle.std.proofs.Common.{◌∙◌, true, false, ap, subst}
-use Rattle.std.specs.Prelude.{Contains}
-use Rattle.std.specs.Bool.{Decides}
-use Rattle.std.proofs.lemmas.Bool.Decides.{Decides-eqb}
-use Rattle.entry_format.specs.declared.deed.Deed.TheVariants.{Opened, Authorise, Override, Closed, Activate, Commit}
-use Rattle.entry_format.specs.declared.deed.Deed.TheVariants.{Cast, Cancel, Challenge}
 use Rattle.entry_format.specs.declared.deed.How.TheVariants as word
-use Rattle.deed_history.proofs.Entries.{decides_true, decides_false}
-use Rattle.deed_history.proofs.Members.{is_listed}
-use Rattle.supervisor_core.proofs.Noted.{noted, other_override}
 use Rattle.supervisor_core.proofs.state.SupervisorState.note.Goals as goal
+use Rattle.deed_history.proofs.{Entries.decides_false, Entries.decides_true, Members.is_listed}
+use Rattle.entry_format.specs.declared.deed.Deed.TheVariants.{Activate, Authorise, Cancel, Cast, Challenge, Closed}
+use Rattle.entry_format.specs.declared.deed.Deed.TheVariants.{Commit, Opened, Override}
+use Rattle.std.proofs.{Common.ap, Common.false, Common.subst, Common.true, Common.◌∙◌, lemmas.Bool.Decides.Decides-eqb}
+use Rattle.std.specs.{Bool.Decides, Prelude.Contains}
+use Rattle.supervisor_core.proofs.Noted.{noted, other_override}
 
 pub returns-in-Opened-clause-kept : goal.returns-in-Opened-clause-kept
 returns-in-Opened-clause-kept c = λ owner entries stands.
