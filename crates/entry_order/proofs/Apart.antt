@@ -1,8 +1,9 @@
 -- Entries with different digests, among others.
-use Rattle.entry_order.proofs.Imports.{◌≡◌, ◌≢◌, ℕ, ◌≤◌, inl, inr, List, [], ◌∷◌, ◌++◌, length, refl, sym, ap, subst}
-use Rattle.entry_order.proofs.Imports.{arith, Contains, sum_by, sum_by-append, sum_by-cons, Node}
-use Rattle.entry_order.proofs.Lists.{Contains-head, Contains-later, Contains-without}
-use Rattle.entry_order.proofs.Orders.{member_split}
+use Rattle.entry_order.proofs.Imports
+use Imports.{Contains, Contains-append_cases, Contains-append_left, Contains-append_right, Contains-cons_cases}
+use Imports.{Contains-head, Contains-later, List, Node, [], ap, arith, inl, inr, length, member_split, refl, sym, ℕ}
+use Imports.{◌++◌, ◌∷◌, ◌≡◌, ◌≢◌, ◌≤◌}
+use Rattle.std.{proofs.lemmas.List.Sums.sum_by-append, proofs.lemmas.List.Sums.sum_by-cons, specs.List.sum_by}
 
 module _ {T : Type 0} (node : T → Node) where
   -- no digest of an entry is that of a later one
@@ -16,12 +17,13 @@ module _ {T : Type 0} (node : T → Node) where
   sum_among f [] ys apart among = omega arith
   sum_among f (x ∷ xs) ys apart among =
       let (before, later, is) = member_split ys x (among x (Contains-head x xs)) in
-      let rest : sum_by f xs ≤ sum_by f (before ++ later) =
-      sum_among f xs (before ++ later) apart.1 (λ y c.
-      elim (Contains-without before x later y
-      (subst (λ (zs : List T). Contains zs y) is (among y (Contains-later x xs y c)))) [
-        | inl same ↦ absurd (apart.0 y c (ap (λ (z : T). (node z).digest) (sym same)))
-        | inr there ↦ there
+      let rest = sum_among f xs (before ++ later) apart.1 (λ y c.
+      elim (Contains-append_cases before (x ∷ later) y (rw is at (among y (Contains-later x xs y c)))) [
+        | inl first ↦ Contains-append_left before later y first
+        | inr last ↦ elim (Contains-cons_cases x later y last) [
+          | inl same ↦ absurd (apart.0 y c (ap (λ z. (node z).digest) (sym same)))
+          | inr after ↦ Contains-append_right before later y after
+        ]
       ]) in
       omega (
         arith,

@@ -1,7 +1,7 @@
 -- Numbers and digests as the order compares them.
-use Rattle.entry_order.proofs.Imports.{◌≡◌, ◌≢◌, ◌∙◌, ℕ, ◌<◌, false, List, refl, sym, ap, arith, slice_cmp, nat_cmp}
-use Rattle.entry_order.proofs.Imports.{ordering_reverse, is_lt, Ordering, Less, Equal, Greater, true≢false, nat_tests}
-use Rattle.entry_order.proofs.Imports.{nat_list_cmp_total, exact_bytes}
+use Rattle.entry_order.proofs.Imports.Words
+use Words.{Equal, Greater, Less, List, Ordering, ap, arith, exact_bytes, false, is_lt, nat_cmp, nat_list_cmp_total}
+use Words.{nat_tests, ordering_reverse, refl, slice_cmp, sym, true≢false, ℕ, ◌<◌, ◌∙◌, ◌≡◌, ◌≢◌}
 
 -- a lower number compares as less
 pub less : (m n : ℕ) → m < n → nat_cmp m n ≡ Less

@@ -1,12 +1,9 @@
 -- What is the same in every completion.
-use Rattle.entry_order.proofs.Imports.{◌≡◌, ℕ, List, [], ◌∷◌, refl, sym, subst, ◌∙◌, ◌⊎◌, inl, inr, ◌↔◌, not, Contains}
-use Rattle.entry_order.proofs.Imports.{filter, flat_map, true≢false, false_from_ne_true, Node, Names, IsNamedIn}
-use Rattle.entry_order.proofs.Imports.{IsBorneIn, has_digest, IsPath, Precedes, gaps, IsGaps, Completion, IsInPast}
-use Rattle.entry_order.proofs.Imports.{IsWhole, PathsAreSettled, cases_Bool}
-use Rattle.entry_order.proofs.Lists.{Contains-flat_map, Contains-flat_map_cases}
-use Rattle.entry_order.proofs.Ascending.{ascending_ascending, in_left, only_ascending}
-use Rattle.entry_order.proofs.Naming.{has_digest_of, has_digest_from}
-use Rattle.entry_order.proofs.Paths.{IsNoLater, precedes_on}
+use Rattle.entry_order.proofs.Imports
+use Imports.{Completion, Contains, Contains-flat_map, Contains-flat_map_cases, IsBorneIn, IsGaps, IsInPast, IsNamedIn}
+use Imports.{IsNoLater, IsPath, IsWhole, List, Names, Node, PathsAreSettled, Precedes, [], ascending_ascending}
+use Imports.{cases_Bool, false_from_ne_true, filter, flat_map, gaps, has_digest, has_digest_from, has_digest_of}
+use Imports.{in_left, inl, inr, not, only_ascending, precedes_on, refl, sym, true≢false, ℕ, ◌↔◌, ◌∙◌, ◌∷◌, ◌≡◌, ◌⊎◌}
 
 module _ {T : Type 0} (node : T → Node) (S : List T) where
   -- the digests that an entry names
@@ -16,14 +13,11 @@ module _ {T : Type 0} (node : T → Node) (S : List T) where
   -- the gaps are the digests that an entry names and none has
   gap_members : (d : List ℕ) → Contains (gaps node S) d ↔ (IsNamedIn node S d × (¬ (IsBorneIn node S d)))
   gap_members d = (
-    λ c.
-        let (there, free) = (in_left (has_digest node S) named d).0 c in (
-          Contains-flat_map_cases (λ y. (node y).names) S d there,
-          λ borne. true≢false (sym (has_digest_of node S d borne) ∙ free),
-        ),
+    λ c. let (there, free) = (in_left (has_digest node S) named d).0 c in
+        (Contains-flat_map_cases _ S d there, λ borne. true≢false (sym (has_digest_of node S d borne) ∙ free)),
     λ ((e, in_e, names), lost). (in_left (has_digest node S) named d).1 (
-      Contains-flat_map (λ y. (node y).names) S e d in_e names,
-      false_from_ne_true (has_digest node S d) (λ t. lost (has_digest_from node S d t)),
+      Contains-flat_map _ S e d in_e names,
+      false_from_ne_true _ (λ t. lost (has_digest_from node S d t)),
     ),
   )
 
@@ -35,9 +29,8 @@ module _ {T : Type 0} (node : T → Node) (S : List T) where
   pub gaps_are_unique : (ds : List (List ℕ)) → (ds ≡ gaps node S) ↔ IsGaps node S ds
   gaps_are_unique ds =
       let lost = filter (λ d. not (has_digest node S d)) named in (
-        λ is. subst (IsGaps node S) (sym is) (record { rises = ascending_ascending lost; members = gap_members }),
-        λ is. only_ascending lost (λ d. IsNamedIn node S d × (¬ (IsBorneIn node S d))) gap_members ds is.rises
-            is.members,
+        λ is. rw is (record { rises = ascending_ascending lost; members = gap_members }),
+        λ is. only_ascending lost _ gap_members ds is.rises is.members,
       )
 
   -- a named digest is a gap, or an entry has it
@@ -46,8 +39,7 @@ module _ {T : Type 0} (node : T → Node) (S : List T) where
   gap_or_bearer x d c n =
       elim (cases_Bool (has_digest node S d)) [
         | inl has ↦ inr (has_digest_from node S d has)
-        | inr free ↦ inl
-            ((in_left (has_digest node S) named d).1 (Contains-flat_map (λ y. (node y).names) S x d c n, free))
+        | inr free ↦ inl ((in_left (has_digest node S) named d).1 (Contains-flat_map _ S x d c n, free))
       ]
 
   module _ (machines : ℕ) (G : List T) (completion : Completion node machines S G) where
@@ -67,8 +59,7 @@ module _ {T : Type 0} (node : T → Node) (S : List T) where
 
     -- an entry of the completion whose digest a survivor has is that survivor
     pub survives : (f : T) → Contains G f → IsBorneIn node S (node f).digest → Contains S f
-    survives f cf (g, there, same) =
-        subst (Contains S) (completion.distinct g f (completion.keeps g there) cf same) there
+    survives f cf (g, there, same) = rw (completion.distinct g f (completion.keeps g there) cf same) at there
 
     -- f precedes x among the survivors, or it is or precedes an entry that was lost in x's past
     abbrev pub IsReached : T → T → Type 0
@@ -82,9 +73,7 @@ module _ {T : Type 0} (node : T → Node) (S : List T) where
     arrow_back x g f cg cx near cf names =
         elim (gap_or_bearer g (node f).digest cg names) [
           | inl gap ↦ inr (f, cf, (gap, (g, near, names)), inl refl)
-          | inr borne ↦
-              let there = survives f cf borne in
-              inl (precedes_on node S f g x (there, cg, [], names) near)
+          | inr borne ↦ inl (precedes_on node S f g x (survives f cf borne, cg, [], names) near)
         ]
 
     -- so is what precedes x in the completion
@@ -103,14 +92,12 @@ module _ {T : Type 0} (node : T → Node) (S : List T) where
         elim (back x cx y between cy path) [
           | inl before ↦ before
           | inr (h, _, (gap, (e, near, names)), _) ↦ absurd (elim near [
-            | inl is ↦ whole.itself (node h).digest (subst (λ u. Contains (node u).names (node h).digest) is names) gap
+            | inl is ↦ whole.itself (node h).digest (rw is at names) gap
             | inr early ↦ whole.ancestors e early (node h).digest names gap
           ])
         ]
 
 -- both, for all survivors and completions
 pub paths_are_settled : {T : Type 0} (node : T → Node) → PathsAreSettled node
-paths_are_settled node machines S G completion y x = (
-  before_in_completion node S machines G completion y x,
-  before_among_survivors node S machines G completion y x,
-)
+paths_are_settled node machines S G completion y x =
+    (before_in_completion node S machines G completion y x, before_among_survivors node S machines G completion y x)

@@ -1,11 +1,9 @@
 -- In an orderly world a stamp is at most how many entries were sent.
-use Rattle.entry_order.proofs.Imports.{◌≡◌, ℕ, zero, suc, ◌≤◌, max, List, [], ◌∷◌, length, map, refl, arith, ◌⊎◌, inl}
-use Rattle.entry_order.proofs.Imports.{inr, Contains, fold, cases_eq, cases_lt, length-map, Node, held, World, sent_in}
-use Rattle.entry_order.proofs.Imports.{IsOrderly, ◌+◌, ◌<◌, ◌==◌, list_any, true, eq-eqb}
-use Rattle.entry_order.proofs.Lists.{Contains-head, Contains-later, Contains-map, list_any_of}
-use Rattle.entry_order.proofs.Orders.{was_sent, held_was_sent, next_of}
-use Rattle.std.proofs.lemmas.Map.Steps.{le-length_from_below}
-use Rattle.std.proofs.Common.{◌-◌}
+use Rattle.entry_order.proofs.Imports
+use Imports.{Contains, Contains-head, Contains-later, Contains-map, IsOrderly, List, Node, World, [], arith, cases_eq}
+use Imports.{cases_lt, eq-eqb, fold, held, inl, inr, le-length_from_below, length, length-map, list_any, list_any_of}
+use Imports.{map, max, refl, sent_in, suc, true, zero, ℕ, ◌+◌, ◌-◌, ◌<◌, ◌==◌, ◌∷◌, ◌≡◌, ◌≤◌, ◌⊎◌}
+use Rattle.entry_order.proofs.Orders.{held_was_sent, next_of, was_sent}
 
 module _ {T : Type 0} (node : T → Node) where
   -- the greatest stamp is one of them, or what it began with
@@ -28,14 +26,13 @@ module _ {T : Type 0} (node : T → Node) where
         elim (cases_eq (node e).stamp t) [
           | inl s ↦ (e, c, s)
           | inr differs ↦
-              (let (past, s) = was_sent w e c in
-              let next = next_of node w orderly past e s in
+              let (past, s) = was_sent w e c in
+              let stamp = (next_of node w orderly past e s).stamp in
               elim (attained_from 0 (held past)) [
-                | inl none ↦ absurd (let h = next.stamp in omega arith)
+                | inl none ↦ absurd (omega arith)
                 | inr (g, there, is) ↦
-                    (let h = next.stamp in
-                    each_stamp n g (held_was_sent node w orderly past e s g there) (omega arith) t low (omega arith))
-              ])
+                    each_stamp n g (held_was_sent node w orderly past e s g there) (omega arith) t low (omega arith)
+              ]
         ]
 
     -- the number of stamps below an entry's, which count from 1
@@ -45,9 +42,7 @@ module _ {T : Type 0} (node : T → Node) where
     -- a stamp is at most the number of entries that were sent
     pub stamps_are_few : (e : T) → Contains (sent_in w) e → (node e).stamp ≤ length (sent_in w)
     stamps_are_few e c =
-        let each : (q : ℕ) → q < (node e).stamp → list_any (λ k. q == k) (map before (sent_in w)) ≡ true =
-        λ q low.
+        let each : (q : ℕ) → q < (node e).stamp → list_any (λ k. q == k) (map before (sent_in w)) ≡ true = λ q low.
         let (g, there, is) = each_stamp (node e).stamp e c (omega arith) (q + 1) (omega arith) (omega arith) in
-        list_any_of (λ k. q == k) (map before (sent_in w)) (before g) (Contains-map before (sent_in w) g there)
-        (eq-eqb q (before g) (omega arith)) in
+        list_any_of _ _ (before g) (Contains-map before _ g there) (eq-eqb q (before g) (omega arith)) in
         omega (arith, length-map (sent_in w) before, le-length_from_below (map before (sent_in w)) (node e).stamp each)

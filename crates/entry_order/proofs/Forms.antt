@@ -1,9 +1,9 @@
 -- The forms of being held before are one.
-use Rattle.entry_order.proofs.Imports.{ℕ, zero, suc, ◌≤◌, List, [], ◌∷◌, ◌++◌, inl, inr, arith, Node, World, start}
-use Rattle.entry_order.proofs.Imports.{play, HeldBefore, HeldBefore.itself, HeldBefore.descendant, IsOrderly}
-use Rattle.entry_order.proofs.Imports.{HeldItself, IsChain, HeldByChain, HeldWithin, FormsAgree}
-use Rattle.entry_order.proofs.Orders.{along, held_lower}
-use Rattle.entry_order.proofs.Plays.{IsOrderly-play, IsOrderly-start}
+use Rattle.entry_order.proofs.Imports
+use Imports.{FormsAgree, HeldBefore, HeldByChain, HeldItself, HeldWithin, IsChain, IsOrderly, List, Node, World, []}
+use Imports.{arith, descendant, inl, inr, itself, play, start, suc, zero, ℕ, ◌++◌, ◌∷◌, ◌≤◌}
+use Rattle.entry_order.proofs.{Orders.along, Orders.held_lower, Orders.held_rises, Plays.IsOrderly-play}
+use Rattle.entry_order.proofs.Plays.{IsOrderly-start}
 
 module _ {T : Type 0} (w : World T) where
   -- a chain with one more at its end
@@ -31,10 +31,8 @@ module _ {T : Type 0} (w : World T) where
 module _ {T : Type 0} (node : T → Node) (w : World T) (orderly : IsOrderly node w) where
   -- what was held before is held within the stamp
   to_within : (f e : T) → HeldBefore w f e → (n : ℕ) → (node e).stamp ≤ n → HeldWithin w n f e
-  to_within f e (itself past s c) zero l = absurd (let b = held_lower node w orderly past e s f c in omega arith)
+  to_within f e h zero l = absurd (omega (arith, held_rises node w orderly f e h))
   to_within f e (itself past s c) (suc n) l = inl (past, s, c)
-  to_within f e (descendant {g = g} past s c h) zero l =
-      absurd (let b = held_lower node w orderly past e s g c in omega arith)
   to_within f e (descendant {g = g} past s c h) (suc n) l =
       let b = held_lower node w orderly past e s g c in inr (g, (past, s, c), to_within f g h n (omega arith))
 
@@ -42,12 +40,7 @@ module _ {T : Type 0} (node : T → Node) (w : World T) (orderly : IsOrderly nod
 pub forms_agree : {T : Type 0} (node : T → Node) → FormsAgree node
 forms_agree node next log machines steps lawful distinct f e =
     let w = play node next log (start machines) steps in
-    let orderly : IsOrderly node w =
-    IsOrderly-play node next log lawful (start machines) steps (IsOrderly-start node machines) in (
+    let orderly = IsOrderly-play node next log lawful (start machines) steps (IsOrderly-start node machines) in (
       (λ c. from_chain w f c.0 e c.1, to_chain w f e),
-      (
-        from_within w
-            (node e).stamp f e,
-        λ h. to_within node w orderly f e h (node e).stamp (omega arith),
-      ),
+      (from_within w (node e).stamp f e, λ h. to_within node w orderly f e h (node e).stamp (omega arith)),
     )

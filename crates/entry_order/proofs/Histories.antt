@@ -1,10 +1,9 @@
 -- Histories with one event more: what is sent and held then, and whether they stay legal.
-use Rattle.entry_order.proofs.Imports.{◌≡◌, ℕ, zero, suc, ◌+◌, ◌≤◌, max, List, [], ◌∷◌, ◌++◌, length, refl, ap, subst}
-use Rattle.entry_order.proofs.Imports.{◌∙◌, ◌⊎◌, inl, inr, append_assoc, arith, slice_get, Contains, append-nil}
-use Rattle.entry_order.proofs.Imports.{fold-append, map-append, Event, Sent, Got, Node, IsNew, entry_of, held, sent}
-use Rattle.entry_order.proofs.Imports.{greatest_stamp, MayFollow, IsLegal, Some}
+use Rattle.entry_order.proofs.Imports.Words
+use Words.{Contains, Event, Got, IsLegal, IsNew, List, MayFollow, Node, Sent, Some, [], ap, append-nil, append_assoc}
+use Words.{arith, entry_of, fold-append, greatest_stamp, held, inl, inr, length, length-append, length_push}
+use Words.{map-append, max, refl, sent, slice_get, subst, suc, zero, ℕ, ◌++◌, ◌+◌, ◌∙◌, ◌∷◌, ◌≡◌, ◌≤◌, ◌⊎◌}
 use Rattle.entry_order.proofs.Lists.{Contains-at, Contains-later}
-use Rattle.std.proofs.lemmas.List.{length_push}
 
 -- ---- one more at the end
 
@@ -12,16 +11,13 @@ use Rattle.std.proofs.lemmas.List.{length_push}
 pub last_or_earlier : {X : Type 0} (xs : List X) (x : X) (before : List X) (y : X) (later : List X) →
     xs ++ x ∷ [] ≡ before ++ y ∷ later → ((rest : List X) × (xs ≡ before ++ y ∷ rest)) ⊎ ((xs ≡ before) × (x ≡ y))
 last_or_earlier [] x [] y later e = inr (refl, cc)
-last_or_earlier [] x (b ∷ []) y later e = cc
-last_or_earlier [] x (b ∷ c ∷ before) y later e = cc
+last_or_earlier [] x (b ∷ before) y later e = absurd (omega (arith, ap length e, length-append before (y ∷ later)))
 last_or_earlier (a ∷ xs) x [] y later e = inl (xs, cc)
 last_or_earlier {X} (a ∷ xs) x (b ∷ before) y later e =
     let head : a ≡ b = cc in
     let tail : xs ++ x ∷ [] ≡ before ++ y ∷ later = cc in
-    elim (last_or_earlier xs x before y later tail) [
-      | inl (rest, is) ↦ inl (rest, cc (is, head))
-      | inr (is, same) ↦ inr (cc (is, head), same)
-    ]
+    elim (last_or_earlier xs x before y later tail)
+    [ inl (rest, is) ↦ inl (rest, cc (is, head)) | inr (is, same) ↦ inr (cc (is, head), same) ]
 
 -- of two members of a list one is before the other, or they are one
 pub split_two : {X : Type 0} (p q : List X) (x y : X) (l m : List X) → p ++ x ∷ l ≡ q ++ y ∷ m →
@@ -79,13 +75,12 @@ module _ {T : Type 0} (node : T → Node) where
   IsLegal-push owner h x legal may before y later e =
       elim (last_or_earlier h x before y later e) [
         | inl (rest, is) ↦ legal before y rest is
-        | inr (is, same) ↦ subst (MayFollow node owner before) same (subst (λ p. MayFollow node owner p x) is may)
+        | inr (is, same) ↦ subst (MayFollow node owner before) same (rw is at may)
       ]
 
   -- the empty history is legal
   pub IsLegal-none : (owner : ℕ) → IsLegal node owner []
-  IsLegal-none owner [] x later e = cc
-  IsLegal-none owner (b ∷ before) x later e = cc
+  IsLegal-none owner before x later e = absurd (omega (arith, ap length e, length-append before (x ∷ later)))
 
   -- what may follow is new
   pub new_from_may : (owner : ℕ) (p : List (Event T)) (x : Event T) → MayFollow node owner p x →
@@ -96,27 +91,19 @@ module _ {T : Type 0} (node : T → Node) where
   -- the greatest stamp with one event more
   pub greatest_push : (p : List (Event T)) (x : Event T) →
       greatest_stamp node (held (p ++ x ∷ [])) ≡ max (greatest_stamp node (held p)) (node (entry_of x)).stamp
-  greatest_push p x =
-      ap (greatest_stamp node) (map-append entry_of p (x ∷ []))
-      ∙ fold-append (λ top e. max top (node e).stamp) 0 (held p) (entry_of x ∷ [])
+  greatest_push p x = rw (map-append entry_of p (x ∷ []), fold-append)
 
-  -- one event more leaves at most as many entries sent as the greatest stamp says
-  few_sent_push : (owner : ℕ) (p : List (Event T)) (x : Event T) → MayFollow node owner p x →
-      length (sent p) ≤ greatest_stamp node (held p) →
-      length (sent (p ++ x ∷ [])) ≤ greatest_stamp node (held (p ++ x ∷ []))
-  few_sent_push owner p (Sent e) may few =
-      omega (arith, may.1.stamp, sent_one_more p e, greatest_push p (Sent e), few)
-  few_sent_push owner p (Got e) may few = omega (arith, sent_as_many p e, greatest_push p (Got e), few)
-
-  -- so do all the events after a beginning
+  -- where at most as many entries were sent as the greatest stamp says, so it is after all events on
   few_sent_from : (owner : ℕ) (p q : List (Event T)) → IsLegal node owner (p ++ q) →
       length (sent p) ≤ greatest_stamp node (held p) →
       length (sent (p ++ q)) ≤ greatest_stamp node (held (p ++ q))
   few_sent_from owner p [] legal few = rw (append-nil p) few
-  few_sent_from owner p (x ∷ q) legal few =
-      rw (append_assoc p (x ∷ []) q) at
-      (few_sent_from owner (p ++ x ∷ []) q (rw (append_assoc p (x ∷ []) q) legal)
-      (few_sent_push owner p x (legal p x q refl) few))
+  few_sent_from owner p (Sent e ∷ q) legal few =
+      rw append_assoc at (few_sent_from owner (p ++ Sent e ∷ []) q (rw append_assoc legal)
+      (omega (arith, (legal p (Sent e) q refl).1.stamp, sent_one_more p e, greatest_push p (Sent e), few)))
+  few_sent_from owner p (Got e ∷ q) legal few =
+      rw append_assoc at (few_sent_from owner (p ++ Got e ∷ []) q (rw append_assoc legal)
+      (omega (arith, sent_as_many p e, greatest_push p (Got e), few)))
 
   -- in a legal history at most as many entries were sent as the greatest stamp says
   pub few_sent : (owner : ℕ) (h : List (Event T)) → IsLegal node owner h →

@@ -1,23 +1,13 @@
 -- What is left of an honest place.
-use Rattle.entry_order.proofs.Imports.{◌≡◌, ℕ, ◌<◌, false, List, [], ◌∷◌, ◌++◌, length, refl, sym, ap, subst, ◌∙◌}
-use Rattle.entry_order.proofs.Imports.{arith, not, Contains, not_from_false, Event, Sent, Node, IsNamedIn, IsBorneIn}
-use Rattle.entry_order.proofs.Imports.{Distinct, held, sent, World, start, history, sent_in, play, IsOrderly, is_stray}
-use Rattle.entry_order.proofs.Imports.{gaps, Completion, HasNoFork, OrderIsHeld, IsAllKnown, AgreesWith}
-use Rattle.entry_order.proofs.Imports.{HonestEntriesAgree, HonestEntriesAgreeInOrderlyWorlds, NumberedIsDistinct}
-use Rattle.entry_order.proofs.Lists.{Contains-head, filter_all}
-use Rattle.entry_order.proofs.Frontiers.{frontier_entry}
-use Rattle.entry_order.proofs.Strays.{no_stray_from}
-use Rattle.entry_order.proofs.Completions.{gap_cases}
-use Rattle.entry_order.proofs.Machines.{in_world, length_start, length_play, nth_of_sent}
-use Rattle.entry_order.proofs.Orders.{was_sent, held_was_sent, next_of, rises, one_order}
-use Rattle.entry_order.proofs.Plays.{IsOrderly-play, IsOrderly-start}
-use Rattle.entry_order.proofs.Settled.{settled}
-use Rattle.entry_order.proofs.Places.{member_at}
-
--- in one history, the entry that was sent after a given number of others is one
-nth_sent : {T : Type 0} (p q : List (Event T)) (e f : T) (l m : List (Event T)) →
-    p ++ Sent e ∷ l ≡ q ++ Sent f ∷ m → length (sent p) ≡ length (sent q) → e ≡ f
-nth_sent p q e f l m s n = cc (nth_of_sent p e l, nth_of_sent q f m)
+use Rattle.entry_order.proofs.{Completions.gap_cases, Imports.[], Imports.ap, Imports.arith}
+use Rattle.entry_order.proofs.Imports.{Completion, Contains, Contains-head, Distinct, false, filter_all, frontier_entry}
+use Rattle.entry_order.proofs.Imports.{gaps, held, history, in_world, is_stray, IsBorneIn, IsNamedIn, IsOrderly, length}
+use Rattle.entry_order.proofs.Imports.{length_play, length_start, List, member_at, no_stray_from, Node, not_from_false}
+use Rattle.entry_order.proofs.Imports.{nth_of_sent, play, refl, Sent, sent_in, start, sym, World, ℕ, ◌<◌, ◌∙◌, ◌∷◌, ◌≡◌}
+use Rattle.entry_order.proofs.Orders.{held_was_sent, next_of, one_order, rises, was_sent}
+use Rattle.entry_order.proofs.{Plays.IsOrderly-play, Plays.IsOrderly-start, Settled.settled}
+use Rattle.entry_order.specs.Honest.{AgreesWith, HasNoFork, HonestEntriesAgree, HonestEntriesAgreeInOrderlyWorlds}
+use Rattle.entry_order.specs.{Honest.IsAllKnown, Honest.OrderIsHeld, Made.NumberedIsDistinct}
 
 -- a list without a member is empty
 pub none_inside : {X : Type 0} (xs : List X) → ((x : X) → Contains xs x → ⊥) → xs ≡ []
@@ -33,26 +23,23 @@ module _ {T : Type 0} (node : T → Node) (w : World T) (orderly : IsOrderly nod
       let na = next_of node w orderly past e (m, later, at) in
       let nb = next_of node w orderly before f (k, rest, there) in
       let one : m ≡ k = sym na.maker ∙ made ∙ nb.maker in
-      nth_sent past before e f later rest (sym at ∙ ap (history w) one ∙ there) (sym na.number ∙ number ∙ nb.number)
+      cc (ap (history w) one, na.number, nb.number, nth_of_sent past e later, nth_of_sent before f rest)
 
   -- the sent entries have every digest that they name
   lacks_nothing : (d : List ℕ) → IsNamedIn node (sent_in w) d → IsBorneIn node (sent_in w) d
   lacks_nothing d (e, c, n) =
       let (past, s) = was_sent w e c in
-      let (g, there, same) = frontier_entry node (held past) d
-      (subst (λ (ds : List (List ℕ)). Contains ds d) (next_of node w orderly past e s).names n) in
+      let (g, there, same) = frontier_entry node (held past) d (rw (next_of node w orderly past e s).names at n) in
       (g, held_was_sent node w orderly past e s g there, same)
-
-  -- each maker is one of the machines
-  in_roster : (machines : ℕ) → length w ≡ machines → (e : T) → Contains (sent_in w) e → (node e).maker < machines
-  in_roster machines count e c =
-      let (past, (m, later, at)) = was_sent w e c in
-      let inside = in_world w m past (Sent e) later at in
-      let maker = (next_of node w orderly past e (m, later, at)).maker in
-      omega arith
 
   module _ (distinct : Distinct node (sent_in w)) (machines : ℕ) (count : length w ≡ machines) (given : List T)
       (were_sent : (e : T) → Contains given e → Contains (sent_in w) e) where
+    -- each maker is one of the machines
+    in_roster : (e : T) → Contains (sent_in w) e → (node e).maker < machines
+    in_roster e c =
+        let (past, (m, later, at)) = was_sent w e c in
+        omega (arith, in_world w m past (Sent e) later at, (next_of node w orderly past e (m, later, at)).maker)
+
     -- no given entry is a stray
     no_stray : (e : T) → Contains given e → is_stray node given e ≡ false
     no_stray e c = no_stray_from node given e (λ (g, cg, names, high).
@@ -62,20 +49,13 @@ module _ {T : Type 0} (node : T → Node) (w : World T) (orderly : IsOrderly nod
     -- what was sent completes what is given
     completed : Completion node machines given (sent_in w)
     completed =
-        record {
-          in_roster = in_roster machines count;
-          keeps = were_sent;
-          distinct = distinct;
-          lacks_nothing =
-              lacks_nothing;
-        }
+        record { in_roster = in_roster; keeps = were_sent; distinct = distinct; lacks_nothing = lacks_nothing }
 
     -- the order that is reported is that of receipt
     order : OrderIsHeld node w given
     order parents ragged graph y x f e fy ex =
         let s = settled node machines given parents ragged graph y x f e fy ex in
-        let same =
-        one_order node w orderly distinct f e (were_sent f (member_at given y f fy))
+        let same = one_order node w orderly distinct f e (were_sent f (member_at given y f fy))
         (were_sent e (member_at given x e ex)) in
         (λ t. same.0 (s.0 t (sent_in w) completed), λ t h. s.1 t (sent_in w) completed (same.1 h))
 
@@ -99,9 +79,7 @@ module _ {T : Type 0} (node : T → Node) (w : World T) (orderly : IsOrderly nod
     -- what is given agrees with the world
     pub agrees : AgreesWith node machines w given
     agrees = record {
-      survive =
-          filter_all (λ e. not (is_stray node given e)) given
-          (λ e c. not_from_false (is_stray node given e) (no_stray e c));
+      survive = filter_all _ given (λ e c. not_from_false _ (no_stray e c));
       no_fork = λ e f ce cf. no_fork e f (were_sent e ce) (were_sent f cf);
       completed = completed;
       order = order;
@@ -110,8 +88,7 @@ module _ {T : Type 0} (node : T → Node) (w : World T) (orderly : IsOrderly nod
 
 -- the law, of an orderly world
 pub honest_entries_agree_in_orderly_worlds : {T : Type 0} (node : T → Node) → HonestEntriesAgreeInOrderlyWorlds node
-honest_entries_agree_in_orderly_worlds node w orderly distinct given were_sent =
-    agrees node w orderly distinct (length w) refl given were_sent
+honest_entries_agree_in_orderly_worlds node w orderly distinct = agrees node w orderly distinct (length w) refl
 
 -- the law, of a world that any list of steps made
 pub honest_entries_agree : {T : Type 0} (node : T → Node) → HonestEntriesAgree node

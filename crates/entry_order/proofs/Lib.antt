@@ -19,13 +19,10 @@ pub mod Strays
 pub mod Completions
 pub mod Settled
 pub mod Filled
-pub mod AcyclicOrder
 pub mod Images
 pub mod Machines
 pub mod Honest
 pub mod Made
-pub mod Ranks
 pub mod Merged
 pub mod MergedOrder
 pub mod Forms
-pub mod Graphs

@@ -1,13 +1,13 @@
 -- Worlds of which one machine is changed, and how many machines they have.
-use Rattle.entry_order.proofs.Imports.{◌≡◌, ℕ, zero, suc, ◌<◌, true, false, cond, List, [], ◌∷◌, ◌++◌, length, Option}
-use Rattle.entry_order.proofs.Imports.{refl, ap, ◌∙◌, arith, slice_get, ◌==◌, Event, Sent, Got, Step, Act, Hear, Stop}
-use Rattle.entry_order.proofs.Imports.{Node, sent, Machine, World, start, history, with_machine, stop, send, hear}
-use Rattle.entry_order.proofs.Imports.{happens, play, Some}
+use Rattle.entry_order.proofs.Imports.Words
+use Words.{Act, Event, Got, Hear, List, Machine, Node, Option, Sent, Some, Step, Stop, World, [], ap, arith, cond_both}
+use Words.{false, happens, hear, history, length, length-append, play, refl, send, sent, slice_get, slice_get_read}
+use Words.{start, stop, suc, sym, with_machine, zero, ℕ, ◌++◌, ◌<◌, ◌==◌, ◌∙◌, ◌∷◌, ◌≡◌}
+use Rattle.std.proofs.lemmas.List.{get_or-replicate, length-replicate}
 
 -- a world has as many machines as it was started with
 pub length_start : (T : Type 0) (n : ℕ) → length (start {T = T} n) ≡ n
-length_start T zero = refl
-length_start T (suc n) = ap suc (length_start T n)
+length_start T n = length-replicate n _
 
 module _ {T : Type 0} where
   -- the machine that is changed
@@ -35,15 +35,12 @@ module _ {T : Type 0} where
 
   -- at the start nothing has happened
   pub get_start : (n m : ℕ) → m < n → slice_get (start {T = T} n) m ≡ Some (record { history = []; stopped = false })
-  get_start zero m l = absurd (omega arith)
-  get_start (suc n) zero l = refl
-  get_start (suc n) (suc m) l = get_start n m (omega arith)
+  get_start n m l = slice_get_read _ n m _ (sym (length_start T n)) l (sym (get_or-replicate n m _ _ l))
 
   -- a machine with an event is in the world
   pub in_world : (w : World T) (m : ℕ) (before : List (Event T)) (x : Event T) (later : List (Event T)) →
       history w m ≡ before ++ x ∷ later → m < length w
-  in_world [] m [] x later e = cc
-  in_world [] m (b ∷ before) x later e = cc
+  in_world [] m before x later e = absurd (omega (arith, ap length e, length-append before (x ∷ later)))
   in_world (a ∷ w) zero before x later e = omega arith
   in_world (a ∷ w) (suc m) before x later e = let l = in_world w m before x later e in omega arith
 
@@ -54,16 +51,13 @@ module _ {T : Type 0} where
   nth_of_sent (Sent g ∷ p) e l = nth_of_sent p e l
   nth_of_sent (Got g ∷ p) e l = nth_of_sent p e l
 
--- no step changes how many machines there are
 module _ {T : Type 0} (node : T → Node) (next : ℕ → List (Event T) → Option T) (log : ℕ) where
   -- no step changes how many machines there are
   length_happens : (v : World T) (s : Step) → length (happens node next log v s) ≡ length v
   length_happens v (Act m) = length-with_machine m (λ a. send (next m a.history) a) v
   length_happens v (Hear at from number) =
-      elim (at == from) as
-      (λ b. length
-      (cond b v (with_machine at (hear node log (slice_get (sent (history v from)) number)) v)) ≡ length v)
-      [ true ↦ refl | false ↦ length-with_machine at (hear node log (slice_get (sent (history v from)) number)) v ]
+      let change = hear node log (slice_get (sent (history v from)) number) in
+      cond_both (at == from) v _ (λ u. length u ≡ length v) (λ _. refl) (λ _. length-with_machine at change v)
   length_happens v (Stop m) = length-with_machine m stop v
 
   -- steps leave the number of machines as it was

@@ -1,7 +1,7 @@
 -- In a play each entry was its machine's next when it was sent.
-use Rattle.entry_order.proofs.Imports.{◌≡◌, ℕ, List, [], ◌∷◌, ◌++◌, Option, inl, inr, sym, subst, ◌∙◌, Event, Sent}
-use Rattle.entry_order.proofs.Imports.{Step, Node, World, start, history, happens, play, IsMadeBy, PlaysAreMade, Some}
-use Rattle.entry_order.proofs.Histories.{last_or_earlier}
+use Rattle.entry_order.proofs.Imports
+use Imports.{Event, IsMadeBy, List, Node, Option, PlaysAreMade, Sent, Step, World, [], ap, arith, happens, history}
+use Imports.{inl, inr, last_or_earlier, length, length-append, play, start, subst, sym, ℕ, ◌∙◌, ◌∷◌}
 use Rattle.entry_order.proofs.Plays.{Cause, Grows-step, start_is_empty}
 
 module _ {T : Type 0} (node : T → Node) (next : ℕ → List (Event T) → Option T) (log : ℕ) where
@@ -10,19 +10,16 @@ module _ {T : Type 0} (node : T → Node) (next : ℕ → List (Event T) → Opt
   made_step w s made m past e later is =
       elim (Grows-step node next log w s m) [
         | inl same ↦ made m past e later (sym same ∙ is)
-        | inr (x, more, cause) ↦ elim (last_or_earlier (history w m) x past (Sent e) later (sym more ∙ is)) [
+        | inr (x, more, cause) ↦ elim (last_or_earlier _ x past (Sent e) later (sym more ∙ is)) [
           | inl (rest, old) ↦ made m past e rest old
-          | inr (all, last) ↦ subst (λ h. next m h ≡ Some e) all (subst (Cause node next log w m (history w m)) last cause)
+          | inr (all, last) ↦ rw (← all) (subst (Cause node next log w m (history w m)) last cause)
         ]
       ]
 
   -- at the start nothing was sent
   pub made_start : (machines : ℕ) → IsMadeBy next (start machines)
-  made_start machines m past e later is = none past (sym is ∙ start_is_empty machines m)
-    where
-      none : (past : List (Event T)) → past ++ Sent e ∷ later ≡ [] → next m past ≡ Some e
-      none [] is = cc
-      none (x ∷ past) is = cc
+  made_start machines m past e later is =
+      absurd (omega (arith, ap length (sym is ∙ start_is_empty machines m), length-append past (Sent e ∷ later)))
 
   -- steps keep it so, from any world
   pub made_play : (w : World T) (steps : List Step) → IsMadeBy next w → IsMadeBy next (play node next log w steps)

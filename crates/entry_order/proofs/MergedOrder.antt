@@ -1,15 +1,12 @@
 -- Every world has a merged order: its events, in the ascending order of their keys.
-use Rattle.entry_order.proofs.Imports.{◌≡◌, ℕ, List, [], ◌∷◌, ◌++◌, length, map, refl, sym, ap, subst, ◌∙◌, inl, inr}
-use Rattle.entry_order.proofs.Imports.{Contains, Event, Node, World, history, PlacedEvent, sort_key, IsInSortOrder}
-use Rattle.entry_order.proofs.Imports.{IsEventOf, IsMergedOf, WorldsHaveOneMergedOrder, ascending, IsAscending}
-use Rattle.entry_order.proofs.Imports.{flat_map}
-use Rattle.std.proofs.lemmas.List.{take_at, get_or_at}
-use Rattle.entry_order.proofs.Lists.{Contains-none, Contains-head, Contains-later, Contains-cons_cases, Contains-map}
-use Rattle.entry_order.proofs.Lists.{Contains-map_cases, Contains-flat_map, Contains-flat_map_cases, numbers}
-use Rattle.entry_order.proofs.Lists.{in_numbers}
-use Rattle.entry_order.proofs.Machines.{in_world}
-use Rattle.entry_order.proofs.Ascending.{Contains-ascending, Contains-ascending_cases, ascending_ascending}
-use Rattle.entry_order.proofs.Merged.{same_sorted, placed_of, event_placed, placed_event}
+use Rattle.entry_order.proofs.Imports
+use Imports.{Contains, Contains-ascending, Contains-ascending_cases, Contains-cons_cases, Contains-flat_map}
+use Imports.{Contains-flat_map_cases, Contains-head, Contains-later, Contains-map, Contains-map_cases, Contains-none}
+use Imports.{IsAscending, IsEventOf, IsInSortOrder, IsMergedOf, List, Node, PlacedEvent, World}
+use Imports.{WorldsHaveOneMergedOrder, [], ap, ascending, ascending_ascending, flat_map, history, in_numbers, in_world}
+use Imports.{inl, inr, length, map, numbers, refl, sort_key, subst, sym, ℕ, ◌++◌, ◌∙◌, ◌∷◌, ◌≡◌}
+use Rattle.entry_order.proofs.Merged.{event_placed, placed_event, placed_of, same_sorted}
+use Rattle.std.proofs.lemmas.List.{get_or_at, take_at}
 
 module _ {T : Type 0} where
   -- events whose keys ascend are sorted
@@ -32,14 +29,6 @@ module _ {T : Type 0} where
       )
 
 module _ {T : Type 0} (node : T → Node) where
-  -- an event of a history is one by its place
-  same_event : (b c : List (Event T)) (x y : Event T) (l m : List (Event T)) → b ++ x ∷ l ≡ c ++ y ∷ m →
-      length b ≡ length c → (b ≡ c) × (x ≡ y)
-  same_event b c x y l m is n = (
-    cc (take_at b (x ∷ l) (length c) n, take_at c (y ∷ m) (length c) refl),
-    cc (get_or_at b x l x (length c) n, get_or_at c y m x (length c) refl),
-  )
-
   module _ (w : World T) where
     -- an event of the world is one by its key
     one_of_a_key : (x y : PlacedEvent T) → IsEventOf node w x → IsEventOf node w y → sort_key x ≡ sort_key y → x ≡ y
@@ -47,7 +36,9 @@ module _ {T : Type 0} (node : T → Node) where
         let machines : x.machine ≡ y.machine = cc in
         let places : length b ≡ length c = cc in
         let whole : b ++ x.event ∷ l ≡ c ++ y.event ∷ m = sym hx ∙ ap (history w) machines ∙ hy in
-        let both = same_event b c x.event y.event l m whole places in cc (both.0, both.1)
+        let before : b ≡ c = cc (take_at b (x.event ∷ l) (length c) places, take_at c (y.event ∷ m) (length c) refl) in
+        let event : x.event ≡ y.event =
+        cc (get_or_at b x.event l x.event (length c) places, get_or_at c y.event m x.event (length c) refl) in cc
 
     -- the events of all machines
     abbrev events : List (PlacedEvent T)
@@ -56,14 +47,12 @@ module _ {T : Type 0} (node : T → Node) where
     -- each of these is an event of the world
     events_cases : (x : PlacedEvent T) → Contains events x → IsEventOf node w x
     events_cases x h =
-        let (m, _, c) = Contains-flat_map_cases (λ m. placed_of node m [] (history w m)) (numbers (length w)) x h in
-        (placed_event node w m x c).1
+        let (m, _, c) = Contains-flat_map_cases _ (numbers (length w)) x h in (placed_event node w m x c).1
 
     -- and so is every event of the world
     events_all : (x : PlacedEvent T) → IsEventOf node w x → Contains events x
     events_all x (b, l, is, at) =
-        Contains-flat_map (λ m. placed_of node m [] (history w m)) (numbers (length w)) x.machine x
-        (in_numbers (length w) x.machine (in_world w x.machine b x.event l is))
+        Contains-flat_map _ _ x.machine x (in_numbers (length w) x.machine (in_world w x.machine b x.event l is))
         (event_placed node w x (b, l, is, at))
 
     -- its events by key
@@ -73,13 +62,12 @@ module _ {T : Type 0} (node : T → Node) where
         let (xs, same, each) = with_keys events (ascending keys) (Contains-ascending_cases keys) in (
           xs,
           record {
-            sorted = sorted_by_keys xs (subst IsAscending (sym same) (ascending_ascending keys));
+            sorted = sorted_by_keys xs (rw same (ascending_ascending keys));
             events = λ x. (
               λ c. events_cases x (each x c),
               λ event.
-                  let key = Contains-ascending keys (sort_key x) (Contains-map sort_key events x (events_all x event)) in
-                  let (y, there, is) = Contains-map_cases sort_key xs (sort_key x)
-                  (subst (λ ks. Contains ks (sort_key x)) (sym same) key) in
+                  let key = Contains-ascending keys _ (Contains-map sort_key events x (events_all x event)) in
+                  let (y, there, is) = Contains-map_cases sort_key xs (sort_key x) (rw same key) in
                   subst (Contains xs) (one_of_a_key y x (events_cases y (each y there)) event is) there,
             );
           },

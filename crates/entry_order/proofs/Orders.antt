@@ -1,17 +1,13 @@
 -- The two orders are one, in each world whose histories are legal and whose entries were sent
 -- before they were got.
-use Rattle.entry_order.proofs.Imports.{◌≡◌, ℕ, zero, suc, ◌+◌, ◌<◌, List, [], ◌∷◌, ◌++◌, sym, subst, inl, inr, arith}
-use Rattle.entry_order.proofs.Imports.{◌↔◌, Contains, Contains-append_left, Contains-append_right, Event, Sent, Got}
-use Rattle.entry_order.proofs.Imports.{Node, Names, Distinct, entry_of, held, sent, greatest_stamp, IsNext, Machine}
-use Rattle.entry_order.proofs.Imports.{World, history, sent_in, WasSentAfter, HeldBefore, HeldBefore.itself, IsPath}
-use Rattle.entry_order.proofs.Imports.{HeldBefore.descendant, Precedes, IsOrderly, NamesWereHeld, StampsRise}
+use Rattle.entry_order.proofs.Imports
+use Imports.{Contains, Contains-append_left, Contains-append_right, Contains-flat_map_cases, Contains-map_cases}
+use Imports.{Contains-middle, Contains-none, Distinct, Event, Got, HeldBefore, IsOrderly, IsPath, List, Machine, Names}
+use Imports.{Node, Precedes, Sent, World, [], arith, descendant, entry_of, frontier_entry, frontier_or_named}
+use Imports.{greatest_stamp, held, history, inl, inr, itself, member_split, nth_split, path_over, place_of, sent}
+use Imports.{sent-append, sent_in, stamp_below, suc, zero, ℕ, ◌++◌, ◌+◌, ◌<◌, ◌↔◌, ◌∷◌}
+use Rattle.entry_order.specs.{HeldBefore.WasSentAfter, History.IsNext, Receipt.NamesWereHeld, Receipt.StampsRise}
 pub use Rattle.entry_order.proofs.Lists.{member_split}
-use Rattle.entry_order.proofs.Lists.{Contains-none, Contains-middle, Contains-map_cases, Contains-flat_map_cases}
-use Rattle.entry_order.proofs.Places.{place_of}
-use Rattle.entry_order.proofs.Histories.{sent-append, nth_split}
-use Rattle.entry_order.proofs.Paths.{path_over}
-use Rattle.entry_order.proofs.Frontiers.{frontier_entry, frontier_or_named}
-use Rattle.entry_order.proofs.Stamps.{stamp_below}
 
 -- ---- what was sent
 
@@ -44,8 +40,7 @@ module _ {T : Type 0} where
   pub was_sent : (w : World T) (e : T) → Contains (sent_in w) e → (past : List (Event T)) × WasSentAfter w past e
   was_sent w e c =
       let (m, there) = sent_in_cases w e c in
-      let (past, later, is) = member_split (history w m) (Sent e) there in
-      (past, (m, later, is))
+      let (past, later, is) = member_split _ (Sent e) there in (past, (m, later, is))
 
   -- what was sent after a history was sent
   pub sent_from_after : (w : World T) (past : List (Event T)) (e : T) → WasSentAfter w past e → Contains (sent_in w) e
@@ -57,25 +52,24 @@ along w f g e h (itself past s c) = descendant past s c h
 along w f g e h (descendant {g = d} past s c i) = descendant past s c (along w f g d h i)
 
 module _ {T : Type 0} (node : T → Node) (w : World T) (orderly : IsOrderly node w) where
-  -- what a machine held when it sent was sent
-  pub held_was_sent : (past : List (Event T)) (e : T) → WasSentAfter w past e → (f : T) → Contains (held past) f →
-      Contains (sent_in w) f
-  held_was_sent past e (m, later, is) f c =
-      let (x, there, same) = Contains-map_cases entry_of past f c in
-      of_event x (rw is (Contains-append_left past (Sent e ∷ later) x there)) same
-    where
-      of_event : (x : Event T) → Contains (history w m) x → entry_of x ≡ f → Contains (sent_in w) f
-      of_event (Sent g) h s = subst (Contains (sent_in w)) s (sent_in_from w m g h)
-      of_event (Got g) h s = subst (Contains (sent_in w)) s (orderly.heard m g h)
+  module _ (past : List (Event T)) (e : T) (s : WasSentAfter w past e) where
+    -- what a machine held when it sent was sent
+    pub held_was_sent : (f : T) → Contains (held past) f → Contains (sent_in w) f
+    held_was_sent f c =
+        let (x, there, same) = Contains-map_cases entry_of past f c in
+        rw same at (of_event x (rw s.2 (Contains-append_left past (Sent e ∷ s.1) x there)))
+      where
+        of_event : (x : Event T) → Contains (history w s.0) x → Contains (sent_in w) (entry_of x)
+        of_event (Sent g) h = sent_in_from w s.0 g h
+        of_event (Got g) h = orderly.heard s.0 g h
 
-  -- what a legal history asks of e
-  pub next_of : (past : List (Event T)) (e : T) (s : WasSentAfter w past e) → IsNext node s.0 past e
-  next_of past e (m, later, is) = (orderly.legal m past (Sent e) later is).1
+    -- what a legal history asks of e
+    pub next_of : IsNext node s.0 past e
+    next_of = (orderly.legal s.0 past (Sent e) s.1 s.2).1
 
-  -- stamps rise from an entry that its maker held
-  pub held_lower : (past : List (Event T)) (e : T) → WasSentAfter w past e → (f : T) → Contains (held past) f →
-      (node f).stamp < (node e).stamp
-  held_lower past e s f c = omega (arith, stamp_below node (held past) f c, (next_of past e s).stamp)
+    -- stamps rise from an entry that its maker held
+    pub held_lower : (f : T) → Contains (held past) f → (node f).stamp < (node e).stamp
+    held_lower f c = omega (arith, stamp_below node (held past) f c, next_of.stamp)
 
   -- an entry that is held before another has a lower stamp
   pub held_rises : (f e : T) → HeldBefore w f e → (node f).stamp < (node e).stamp
@@ -87,35 +81,32 @@ module _ {T : Type 0} (node : T → Node) (w : World T) (orderly : IsOrderly nod
     pub named_held : (past : List (Event T)) (e : T) → WasSentAfter w past e → (f : T) → Contains (sent_in w) f →
         Names node e f → Contains (held past) f
     named_held past e s f c n =
-        let (g, there, same) = frontier_entry node (held past) (node f).digest
-        (subst (λ (ds : List (List ℕ)). Contains ds (node f).digest) (next_of past e s).names n) in
-        subst (λ (u : T). Contains (held past) u) (distinct g f (held_was_sent past e s g there) c same) there
+        let (g, there, same) = frontier_entry node (held past) (node f).digest (rw (next_of past e s).names at n) in
+        rw (distinct g f (held_was_sent past e s g there) c same) at there
 
     -- stamps rise along names
     pub rises : (f g : T) → Contains (sent_in w) f → Contains (sent_in w) g → Names node g f →
         (node f).stamp < (node g).stamp
-    rises f g cf cg n =
-        let (past, s) = was_sent w g cg in held_lower past g s f (named_held past g s f cf n)
+    rises f g cf cg n = let (past, s) = was_sent w g cg in held_lower past g s f (named_held past g s f cf n)
 
-    -- from each entry that e's maker held there is a path to e: it is in the frontier, or a later
-    -- one held names it; by induction on how far the stamp is below the greatest
-    covered : (past : List (Event T)) (e : T) → WasSentAfter w past e → (fuel : ℕ) (f : T) →
-        Contains (held past) f → greatest_stamp node (held past) < (node f).stamp + fuel →
-        (between : List T) × IsPath node (sent_in w) f between e
-    covered past e s zero f c enough = absurd (let below = stamp_below node (held past) f c in omega arith)
-    covered past e s (suc fuel) f c enough =
-        elim (frontier_or_named node (held past) f c) [
-          | inl free ↦ ([], subst (λ ds. Contains ds (node f).digest) (sym (next_of past e s).names) free)
-          | inr (g, there, names) ↦
-              let cg = held_was_sent past e s g there in
-              let up = rises f g (held_was_sent past e s f c) cg names in
-              let (between, path) = covered past e s fuel g there (omega arith) in (g ∷ between, (cg, names, path))
-        ]
+    module _ (past : List (Event T)) (e : T) (s : WasSentAfter w past e) where
+      -- from each entry that e's maker held there is a path to e: it is in the frontier, or a later
+      -- one held names it; by induction on how far the stamp is below the greatest
+      covered : (fuel : ℕ) (f : T) → Contains (held past) f → greatest_stamp node (held past) < (node f).stamp + fuel →
+          (between : List T) × IsPath node (sent_in w) f between e
+      covered zero f c enough = absurd (omega (arith, stamp_below node (held past) f c))
+      covered (suc fuel) f c enough =
+          elim (frontier_or_named node (held past) f c) [
+            | inl free ↦ ([], rw (next_of past e s).names free)
+            | inr (g, there, names) ↦
+                let cg = held_was_sent past e s g there in
+                let up = rises f g (held_was_sent past e s f c) cg names in
+                let (between, path) = covered fuel g there (omega arith) in (g ∷ between, (cg, names, path))
+          ]
 
-    -- what was held reaches what was sent by a path
-    reached : (past : List (Event T)) (e : T) → WasSentAfter w past e → (f : T) → Contains (held past) f →
-        (between : List T) × IsPath node (sent_in w) f between e
-    reached past e s f c = covered past e s (greatest_stamp node (held past) + 1) f c (omega arith)
+      -- what was held reaches what was sent by a path
+      reached : (f : T) → Contains (held past) f → (between : List T) × IsPath node (sent_in w) f between e
+      reached f c = covered (greatest_stamp node (held past) + 1) f c (omega arith)
 
     -- what was held before reaches it too
     path_from_held : (f e : T) → HeldBefore w f e → (between : List T) × IsPath node (sent_in w) f between e

@@ -1,6 +1,6 @@
 -- Paths of names: how they join, and what stands at their ends.
-use Rattle.entry_order.proofs.Imports.{◌≡◌, List, [], ◌∷◌, ◌++◌, refl, sym, subst, ◌⊎◌, inl, inr, Contains, Node, Names}
-use Rattle.entry_order.proofs.Imports.{IsPath, Precedes}
+use Rattle.entry_order.proofs.Imports.Words
+use Words.{Contains, IsPath, List, Names, Node, Precedes, [], inl, inr, refl, subst, ◌++◌, ◌∷◌, ◌≡◌, ◌⊎◌}
 
 module _ {T : Type 0} (node : T → Node) (E : List T) where
   -- a path and a path on from its end
@@ -24,15 +24,11 @@ module _ {T : Type 0} (node : T → Node) (E : List T) where
 
   -- what is no later than an entry is no later than what the entry is or precedes
   pub no_later_on : (f g e : T) → IsNoLater f g → IsNoLater g e → IsNoLater f e
-  no_later_on f g e near on =
-      elim near [
-        | inl is ↦ subst (λ v. IsNoLater v e) (sym is) on
-        | inr before ↦ inr (precedes_on f g e before on)
-      ]
+  no_later_on f g e near on = elim near [ inl is ↦ rw is on | inr before ↦ inr (precedes_on f g e before on) ]
 
   -- an entry is there if it precedes another or is one that is there
   pub is_there : (f e : T) → Contains E e → IsNoLater f e → Contains E f
-  is_there f e ce near = elim near [ inl is ↦ subst (Contains E) (sym is) ce | inr before ↦ before.0 ]
+  is_there f e ce near = elim near [ inl is ↦ rw is ce | inr before ↦ before.0 ]
 
   -- what precedes h is no later than an entry that h names
   pub last_arrow : (f : T) (between : List T) (h : T) → Contains E f → IsPath node E f between h →

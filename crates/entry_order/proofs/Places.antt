@@ -1,8 +1,10 @@
 -- What is at the places of a list.
-use Rattle.entry_order.proofs.Imports.{◌≡◌, ℕ, zero, suc, ◌<◌, List, [], ◌∷◌, ◌++◌, length, refl, sym, subst, arith}
-use Rattle.entry_order.proofs.Imports.{◌∙◌, ◌⊎◌, inl, inr, ◌+◌, take, get_or, ap, slice_get, All, Contains, All-nil}
-use Rattle.entry_order.proofs.Imports.{All-cons, take_more, slice_get_within, get_or_from_slice_get, slice_get_read}
-use Rattle.entry_order.proofs.Imports.{none-some, same_Some, Some}
+use Rattle.entry_order.proofs.Imports.Words
+use Words.{Contains, List, Some, [], ap, arith, get_or_from_slice_get, inl, inr, length, refl, slice_get}
+use Words.{slice_get_read, slice_get_within, subst, suc, sym, zero, ℕ, ◌++◌, ◌+◌, ◌<◌, ◌∙◌, ◌∷◌, ◌≡◌, ◌⊎◌}
+use Rattle.std.{proofs.Common.get_or, proofs.Common.take, proofs.lemmas.List.Elements.All-cons}
+use Rattle.std.{proofs.lemmas.List.Elements.All-nil, proofs.lemmas.List.take_more, proofs.lemmas.Option.none-some}
+use Rattle.std.{proofs.lemmas.Option.same_Some, specs.List.All}
 
 module _ {X : Type 0} where
   -- what is at a place is a member

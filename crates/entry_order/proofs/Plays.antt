@@ -1,35 +1,31 @@
 -- Each world that steps lead to has legal histories, and each entry that was got had been sent.
-use Rattle.entry_order.proofs.Imports.{◌≡◌, ◌≢◌, ℕ, zero, suc, Bool, true, false, cond, List, [], ◌∷◌, ◌++◌, length}
-use Rattle.entry_order.proofs.Imports.{refl, sym, ap, subst, ◌∙◌, ◌⊎◌, inl, inr, None, Option, slice_get, ◌||◌, nat_le}
-use Rattle.entry_order.proofs.Imports.{◌==◌, Contains, or_parts, eqb-false, false≢true, Contains-append_left, Event}
-use Rattle.entry_order.proofs.Imports.{Sent, Got, Step, Act, Hear, Stop, Node, has_digest, IsNew, held, sent, MayFollow}
-use Rattle.entry_order.proofs.Imports.{IsLegal, Machine, World, start, history, sent_in, with_machine, append, stop}
-use Rattle.entry_order.proofs.Imports.{send, cannot_hear, hear, IsLegalNext, happens, play, IsOrderly, OrderIsReceipt}
-use Rattle.entry_order.proofs.Imports.{Some, Contains-push_cases}
-use Rattle.entry_order.proofs.Lists.{Contains-none}
-use Rattle.entry_order.proofs.Naming.{has_digest_of}
-use Rattle.entry_order.proofs.Places.{member_at}
-use Rattle.entry_order.proofs.Histories.{IsLegal-push, IsLegal-none}
-use Rattle.entry_order.proofs.Orders.{Contains-sent_cases, member_split, sent_in_from, sent_in_cases, one_order}
+use Rattle.entry_order.proofs.Imports
+use Imports.{Act, Contains, Contains-append_left, Contains-none, Contains-push_cases, Event, Got, Hear, IsLegal}
+use Imports.{IsLegal-none, IsLegal-push, IsLegalNext, IsNew, IsOrderly, List, Machine, MayFollow, Node, None, Option}
+use Imports.{OrderIsReceipt, Sent, Some, Step, Stop, World, [], append, cannot_hear, cond, cond_both, eqb-false, false}
+use Imports.{false≢true, happens, has_digest, has_digest_of, hear, held, history, inl, inr, member_at, member_split}
+use Imports.{or_parts, play, refl, send, sent, sent_in, slice_get, start, stop, subst, suc, sym, true, with_machine}
+use Imports.{zero, ℕ, ◌++◌, ◌==◌, ◌||◌, ◌∙◌, ◌∷◌, ◌≡◌, ◌≢◌, ◌⊎◌}
+use Rattle.entry_order.proofs.Orders.{Contains-sent_cases, one_order, sent_in_cases, sent_in_from}
 
 module _ {T : Type 0} (node : T → Node) where
   -- the test of a digest says that the entry is new
   pub IsNew-from_test : (es : List T) (e : T) → has_digest node es (node e).digest ≡ false → IsNew node es e
-  IsNew-from_test es e free g c s =
-      false≢true (sym free ∙ has_digest_of node es (node e).digest (g, c, s))
+  IsNew-from_test es e free g c s = false≢true (sym free ∙ has_digest_of node es (node e).digest (g, c, s))
 
 -- ---- one machine changed
 
--- a machine's history after machine m changed
-pub changed : {T : Type 0} (m : ℕ) (change : Machine T → Machine T) (w : World T) (n : ℕ) →
-    (history (with_machine m change w) n ≡ history w n) ⊎
-    ((n ≡ m)
-    × ((a : Machine T) × (history w n ≡ a.history) × (history (with_machine m change w) n ≡ (change a).history)))
-changed m change [] n = inl refl
-changed zero change (a ∷ w) zero = inr (refl, (a, refl, refl))
-changed zero change (a ∷ w) (suc n) = inl refl
-changed (suc m) change (a ∷ w) zero = inl refl
-changed (suc m) change (a ∷ w) (suc n) = elim (changed m change w n) [ inl e ↦ inl e | inr r ↦ inr (ap suc r.0, r.1) ]
+-- what holds of each history that stays and of the one that is changed holds of every history
+changed : {T : Type 0} (R : ℕ → List (Event T) → List (Event T) → Type 0) →
+    ((n : ℕ) (h : List (Event T)) → R n h h) → (m : ℕ) (change : Machine T → Machine T) →
+    ((a : Machine T) → R m a.history (change a).history) → (w : World T) (n : ℕ) →
+    R n (history w n) (history (with_machine m change w) n)
+changed R same m change does [] n = same n []
+changed R same zero change does (a ∷ w) zero = does a
+changed R same zero change does (a ∷ w) (suc n) = same (suc n) (history w n)
+changed R same (suc m) change does (a ∷ w) zero = same zero a.history
+changed R same (suc m) change does (a ∷ w) (suc n) =
+    changed (λ k. R (suc k)) (λ k. same (suc k)) m change does w n
 
 -- ---- one step
 
@@ -45,16 +41,6 @@ module _ {T : Type 0} (node : T → Node) (next : ℕ → List (Event T) → Opt
   abbrev pub Grows : ℕ → List (Event T) → List (Event T) → Type 0
   Grows n h new = (new ≡ h) ⊎ ((x : Event T) × (new ≡ h ++ x ∷ []) × Cause n h x)
 
-  -- what a change does to one history is what the step does to the world's
-  Grows-changed : (m : ℕ) (change : Machine T → Machine T) →
-      ((a : Machine T) → Grows m a.history (change a).history) → (n : ℕ) →
-      Grows n (history w n) (history (with_machine m change w) n)
-  Grows-changed m change grows n =
-      elim (changed m change w n) [
-        | inl same ↦ inl same
-        | inr (is, (a, was, now)) ↦ rw (was, now, is) (grows a)
-      ]
-
   -- a machine that sends has its next entry more
   Grows-send : (m : ℕ) (a : Machine T) (o : Option T) → next m a.history ≡ o → Grows m a.history (send o a).history
   Grows-send m a None is = inl refl
@@ -66,60 +52,39 @@ module _ {T : Type 0} (node : T → Node) (next : ℕ → List (Event T) → Opt
   Grows-hear : (m from : ℕ) (a : Machine T) (o : Option T) → m ≢ from →
       ((e : T) → o ≡ Some e → Contains (sent (history w from)) e) → Grows m a.history (hear node log o a).history
   Grows-hear m from a None apart there = inl refl
-  Grows-hear m from a (Some e) apart there = by (cannot_hear node log a (node e).digest) refl
-    where
-      by : (b : Bool) → cannot_hear node log a (node e).digest ≡ b →
-          Grows m a.history (cond b a (append (Got e) a)).history
-      by true s = inl refl
-      by false s =
-          let (able, _) = or_parts (a.stopped || has_digest node (held a.history) (node e).digest)
-          (nat_le log (length a.history)) s in
-          let (_, free) = or_parts a.stopped (has_digest node (held a.history) (node e).digest) able in
-          inr (Got e, refl, (free, (from, apart, there e refl)))
+  Grows-hear m from a (Some e) apart there =
+      cond_both (cannot_hear node log a (node e).digest) a (append (Got e) a) (λ u. Grows m a.history u.history)
+      (λ _. inl refl) (λ s.
+      let (able, _) = or_parts (a.stopped || has_digest node (held a.history) (node e).digest) _ s in
+      inr (Got e, refl, ((or_parts a.stopped _ able).1, (from, apart, there e refl))))
 
   -- a step does one of these
   pub Grows-step : (s : Step) (n : ℕ) → Grows n (history w n) (history (happens node next log w s) n)
   Grows-step (Act m) n =
-      Grows-changed m (λ a. send (next m a.history) a) (λ a. Grows-send m a (next m a.history) refl) n
-  Grows-step (Hear at from number) n = by (at == from) refl
-    where
-      by : (b : Bool) → (at == from) ≡ b →
-          Grows n (history w n)
-          (history (cond b w (with_machine at (hear node log (slice_get (sent (history w from)) number)) w)) n)
-      by true s = inl refl
-      by false s =
-          Grows-changed at (hear node log (slice_get (sent (history w from)) number))
-          (λ a. Grows-hear at from a (slice_get (sent (history w from)) number) (eqb-false at from s)
-          (member_at (sent (history w from)) number)) n
-  Grows-step (Stop m) n = Grows-changed m stop (λ a. inl refl) n
+      changed Grows (λ _ _. inl refl) m _ (λ a. Grows-send m a (next m a.history) refl) w n
+  Grows-step (Hear at from number) n =
+      let change = hear node log (slice_get (sent (history w from)) number) in
+      cond_both (at == from) w (with_machine at change w) (λ v. Grows n (history w n) (history v n)) (λ _. inl refl)
+      (λ s. changed Grows (λ _ _. inl refl) at change
+      (λ a. Grows-hear at from a _ (eqb-false at from s) (member_at _ number)) w n)
+  Grows-step (Stop m) n = changed Grows (λ _ _. inl refl) m stop (λ _. inl refl) w n
 
   module _ (lawful : IsLegalNext node next) (orderly : IsOrderly node w) where
-    -- what a machine sent has it as its maker
-    made_by : (from : ℕ) (e : T) → Contains (sent (history w from)) e → (node e).maker ≡ from
-    made_by from e c =
-        let (past, later, is) = member_split (history w from) (Sent e) (Contains-sent_cases (history w from) e c) in
-        (orderly.legal from past (Sent e) later is).1.maker
-
     -- what has a cause may follow
     may_follow : (n : ℕ) (x : Event T) → Cause n (history w n) x → MayFollow node n (history w n) x
     may_follow n (Sent e) is = lawful n (history w n) e is
     may_follow n (Got e) (free, (from, apart, there)) =
-        (IsNew-from_test node (held (history w n)) e free, λ me. apart (sym me ∙ made_by from e there))
-
-    -- what was in a history still is
-    Contains-step : (s : Step) (m : ℕ) (x : Event T) → Contains (history w m) x →
-        Contains (history (happens node next log w s) m) x
-    Contains-step s m x c =
-        elim (Grows-step s m) [
-          | inl same ↦ rw same c
-          | inr (added, more, _) ↦ rw more (Contains-append_left (history w m) (added ∷ []) x c)
-        ]
+        let (past, later, is) = member_split (history w from) (Sent e) (Contains-sent_cases _ e there) in
+        (IsNew-from_test node _ e free, λ me. apart (sym me ∙ (orderly.legal from past (Sent e) later is).1.maker))
 
     -- what was sent in the world still is
     sent_in-step : (s : Step) (e : T) → Contains (sent_in w) e → Contains (sent_in (happens node next log w s)) e
     sent_in-step s e c =
         let (m, there) = sent_in_cases w e c in
-        sent_in_from (happens node next log w s) m e (Contains-step s m (Sent e) there)
+        sent_in_from (happens node next log w s) m e (elim (Grows-step s m) [
+          | inl same ↦ rw same there
+          | inr (added, more, _) ↦ rw more (Contains-append_left (history w m) (added ∷ []) (Sent e) there)
+        ])
 
     -- a step keeps the world orderly
     IsOrderly-step : (s : Step) → IsOrderly node (happens node next log w s)
@@ -129,8 +94,7 @@ module _ {T : Type 0} (node : T → Node) (next : ℕ → List (Event T) → Opt
         legal m =
             elim (Grows-step s m) [
               | inl same ↦ rw same (orderly.legal m)
-              | inr (x, more, cause) ↦
-                  rw more (IsLegal-push node m (history w m) x (orderly.legal m) (may_follow m x cause))
+              | inr (x, more, cause) ↦ rw more (IsLegal-push node m _ x (orderly.legal m) (may_follow m x cause))
             ]
 
         got_before : (m : ℕ) (e : T) → Grows m (history w m) (history (happens node next log w s) m) →
@@ -139,9 +103,8 @@ module _ {T : Type 0} (node : T → Node) (next : ℕ → List (Event T) → Opt
         got_before m e (inr (x, more, cause)) c =
             elim (Contains-push_cases (history w m) x (Got e) (rw more at c)) [
               | inl old ↦ orderly.heard m e old
-              | inr is ↦
-                  let (_, (from, _, there)) = subst (Cause m (history w m)) is cause in
-                  sent_in_from w from e (Contains-sent_cases (history w from) e there)
+              | inr is ↦ let (_, (from, _, there)) = subst (Cause m (history w m)) is cause in
+                  sent_in_from w from e (Contains-sent_cases _ e there)
             ]
 
 -- ---- the whole run
@@ -170,5 +133,4 @@ module _ {T : Type 0} (node : T → Node) where
   -- the law, after every list of steps
   pub order_is_receipt : OrderIsReceipt node
   order_is_receipt next log machines steps lawful distinct f e cf ce =
-      one_order node (play node next log (start machines) steps)
-      (IsOrderly-play next log lawful (start machines) steps (IsOrderly-start machines)) distinct f e cf ce
+      one_order node _ (IsOrderly-play next log lawful _ steps (IsOrderly-start machines)) distinct f e cf ce

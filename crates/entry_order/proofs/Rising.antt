@@ -1,12 +1,23 @@
 -- Lists in which each member is below all later ones.
-use Rattle.entry_order.proofs.Imports.{◌≡◌, ◌∙◌, List, [], ◌∷◌, refl, sym, subst, inl, inr, Contains}
-use Rattle.entry_order.proofs.Lists.{Contains-none, Contains-head, Contains-later, Contains-cons_cases}
+use Rattle.entry_order.proofs.Imports.Words
+use Words.{Bool, Contains, List, [], cond, false, filter, inl, inr, refl, subst, sym, true, ◌∙◌, ◌∷◌, ◌≡◌}
+use Rattle.entry_order.proofs.Lists.{Contains-cons_cases, Contains-filter_cases, Contains-head, Contains-later}
+use Rattle.entry_order.proofs.Lists.{Contains-none}
 
 module _ {X : Type 0} (Below : X → X → Type 0) where
   -- each is below all after it
   abbrev pub Rises : List X → Type 0
   Rises [] = Unit {0}
   Rises (x ∷ xs) = ((y : X) → Contains xs y → Below x y) × Rises xs
+
+  -- a part of such a list is such a list
+  pub rises_filter : (p : X → Bool) (xs : List X) → Rises xs → Rises (filter p xs)
+  rises_filter p [] a = tt
+  rises_filter p (x ∷ xs) (x_below, xs_rise) =
+      elim (p x) as (λ b. Rises (cond b (x ∷ filter p xs) (filter p xs))) [
+        | true ↦ (λ y h. x_below y (Contains-filter_cases p xs y h).0, rises_filter p xs xs_rise)
+        | false ↦ rises_filter p xs xs_rise
+      ]
 
   module _ (not_both : (x y : X) → Below x y → Below y x → ⊥) where
     -- what is after the first of one list is after the same first of another that has all its members
@@ -28,12 +39,9 @@ module _ {X : Type 0} (Below : X → X → Type 0) where
         let heads : x ≡ y =
         elim (Contains-cons_cases y ys x (to x (Contains-head x xs))) [
           | inl e ↦ sym e
-          | inr u ↦ elim (Contains-cons_cases x xs y (from y (Contains-head y ys))) [
-            | inl e ↦ e
-            | inr v ↦ absurd (not_both x y (x_below y v) (y_below x u))
-          ]
+          | inr u ↦ elim (Contains-cons_cases x xs y (from y (Contains-head y ys)))
+              [ inl e ↦ e | inr v ↦ absurd (not_both x y (x_below y v) (y_below x u)) ]
         ] in
-        let forth = below_first x y xs ys heads x_below to in
-        let back = below_first y x ys xs (sym heads) y_below from in
-        let tails : xs ≡ ys = same_rising xs ys xs_rise ys_rise forth back in
+        let tails = same_rising xs ys xs_rise ys_rise (below_first x y xs ys heads x_below to)
+        (below_first y x ys xs (sym heads) y_below from) in
         λ i. heads i ∷ tails i

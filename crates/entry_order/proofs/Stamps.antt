@@ -1,7 +1,6 @@
 -- The greatest stamp is at least each stamp.
-use Rattle.entry_order.proofs.Imports.{ℕ, zero, suc, ◌≤◌, max, List, [], ◌∷◌, ap, arith, Contains, fold, Node}
-use Rattle.entry_order.proofs.Imports.{greatest_stamp}
-use Rattle.entry_order.proofs.Lists.{Contains-none}
+use Rattle.entry_order.proofs.Imports.Words.{[], ap, arith, Contains, fold, greatest_stamp, List, max, Node, suc, zero}
+use Rattle.entry_order.proofs.{Imports.Words.ℕ, Imports.Words.◌∷◌, Imports.Words.◌≤◌, Lists.Contains-none}
 
 module _ {T : Type 0} (node : T → Node) where
   -- a greatest stamp is at least what it began with

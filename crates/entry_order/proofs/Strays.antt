@@ -1,26 +1,23 @@
 -- Survivors are no strays, and so stamps rise along their names.
-use Rattle.entry_order.proofs.Imports.{◌≡◌, ◌<◌, true, false, List, [], ◌∷◌, sym, ◌∙◌, inl, inr, arith, not, ◌&&◌}
-use Rattle.entry_order.proofs.Imports.{nat_le, Contains, cases_lt, and_parts, and_from, le-leb, leb-true, not-true}
-use Rattle.entry_order.proofs.Imports.{not_from_false, true≢false, false_from_ne_true, Node, Names, names_digest}
-use Rattle.entry_order.proofs.Imports.{IsPath, IsStray, is_stray, survivors, SurvivorsAreNoStrays, SurvivorsHaveNoCycle}
-use Rattle.entry_order.proofs.Lists.{Contains-filter, Contains-filter_cases, list_any_some, list_any_of}
-use Rattle.entry_order.proofs.Naming.{names_digest_of, names_digest_from}
+use Rattle.entry_order.proofs.Imports.Words
+use Words.{Contains, IsPath, IsStray, List, Names, Node, SurvivorsAreNoStrays, SurvivorsHaveNoCycle, [], and_from}
+use Words.{and_parts, arith, cases_lt, false, false_from_ne_true, inl, inr, is_stray, le-leb, leb-true, names_digest}
+use Words.{not-true, not_from_false, survivors, sym, true, true≢false, ◌<◌, ◌∙◌, ◌∷◌, ◌≡◌}
+use Rattle.entry_order.proofs.Lists.{Contains-filter, Contains-filter_cases, list_any_of, list_any_some}
+use Rattle.entry_order.proofs.Naming.{names_digest_from, names_digest_of}
 
 module _ {T : Type 0} (node : T → Node) where
   -- a stray is found
   pub is_stray_of : (given : List T) (e : T) → IsStray node given e → is_stray node given e ≡ true
-  is_stray_of given e (g, there, names, high) =
-      list_any_of (λ g. names_digest node e (node g).digest && nat_le (node e).stamp (node g).stamp) given g there
-      (and_from (names_digest node e (node g).digest) (nat_le (node e).stamp (node g).stamp)
-      (names_digest_of node e (node g).digest names) (le-leb (node e).stamp (node g).stamp high))
+  is_stray_of given e (g, there, names, high) = list_any_of _ given g there
+      (and_from _ _ (names_digest_of node e (node g).digest names) (le-leb (node e).stamp (node g).stamp high))
 
   -- what is found is a stray
   pub is_stray_from : (given : List T) (e : T) → is_stray node given e ≡ true → IsStray node given e
   is_stray_from given e t =
-      let (g, there, test) = list_any_some
-      (λ g. names_digest node e (node g).digest && nat_le (node e).stamp (node g).stamp) given t in
-      let parts = and_parts (names_digest node e (node g).digest) (nat_le (node e).stamp (node g).stamp) test in
-      (g, there, names_digest_from node e (node g).digest parts.0, leb-true (node e).stamp (node g).stamp parts.1)
+      let (g, there, test) = list_any_some _ given t in
+      let (names, high) = and_parts (names_digest node e (node g).digest) _ test in
+      (g, there, names_digest_from node e (node g).digest names, leb-true (node e).stamp (node g).stamp high)
 
   -- what is no stray is not found to be one
   pub no_stray_from : (given : List T) (e : T) → (¬ (IsStray node given e)) → is_stray node given e ≡ false
@@ -29,12 +26,9 @@ module _ {T : Type 0} (node : T → Node) where
   -- a filter keeps what its test lets through
   pub survivors_are_no_strays : SurvivorsAreNoStrays node
   survivors_are_no_strays given e = (
-    λ c.
-        let r = Contains-filter_cases (λ e. not (is_stray node given e)) given e c in
-        (r.0, λ stray. true≢false (sym (is_stray_of given e stray) ∙ not-true (is_stray node given e) r.1)),
-    λ (c, sound).
-        Contains-filter (λ e. not (is_stray node given e)) given e c
-        (not_from_false (is_stray node given e) (no_stray_from given e sound)),
+    λ c. let (there, kept) = Contains-filter_cases _ given e c in
+        (there, λ stray. true≢false (sym (is_stray_of given e stray) ∙ not-true _ kept)),
+    λ (c, sound). Contains-filter _ given e c (not_from_false _ (no_stray_from given e sound)),
   )
 
   -- what is no stray has a higher stamp than each given entry that it names
@@ -50,11 +44,9 @@ module _ {T : Type 0} (node : T → Node) where
   rises_along given f [] e cf ce n =
       stamp_rises given e f ((survivors_are_no_strays given e).0 ce).1 ((survivors_are_no_strays given f).0 cf).0 n
   rises_along given f (g ∷ gs) e cf ce (there, names, path) =
-      let first =
-      stamp_rises given g f ((survivors_are_no_strays given g).0 there).1
+      let first = stamp_rises given g f ((survivors_are_no_strays given g).0 there).1
       ((survivors_are_no_strays given f).0 cf).0 names in
-      let rest = rises_along given g gs e there ce path in
-      omega arith
+      omega (arith, first, rises_along given g gs e there ce path)
 
   -- no path among survivors leads from an entry back to itself
   pub survivors_have_no_cycle : SurvivorsHaveNoCycle node

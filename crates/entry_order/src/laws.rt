@@ -62,6 +62,7 @@ pub fn stamps_are_few<T: Knot>()
 
 /// What is said of the order of two survivors holds in every completion: by paths among them, and
 /// by the graph that they have, whose ancestors and whole places are exactly those of the entries.
+#[tactic(auto, using(crate::proofs::Settled::survivors_have_a_graph))]
 pub fn order_is_settled<T: Knot>()
     ensures paths { PathsAreSettled T.node }
     ensures settled { OrderIsSettled T.node }

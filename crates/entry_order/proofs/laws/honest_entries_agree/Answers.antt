@@ -1,5 +1,4 @@
-use Rattle.entry_order.proofs.Honest.{honest_entries_agree}
 use Rattle.entry_order.proofs.laws.honest_entries_agree.Goals as goal
 
 pub returns : goal.returns
-returns g c = honest_entries_agree g.T.Knot.node
+returns g c = Rattle.entry_order.proofs.Honest.honest_entries_agree g.T.Knot.node
