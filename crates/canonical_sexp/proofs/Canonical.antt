@@ -14,14 +14,12 @@ canonical_is_whole bytes answer is (tree, fits, text) =
 -- one text stops nowhere
 pub stops_nowhere : (bytes : List ℕ) (at : ℕ) → IsCanonical bytes → StopsAt bytes at → ⊥
 stops_nowhere bytes at canonical (inl (why, is)) =
-    let same : read.Bad at why ≡ read.Whole canonical.0 (length bytes) =
-    canonical_is_whole bytes (read.Bad at why) is canonical in cc
+    let same = canonical_is_whole bytes (read.Bad at why) is canonical in cc
 stops_nowhere bytes at canonical (inr (inl (tree, is, more))) =
     let whole = canonical_is_whole bytes (read.Whole tree at) is canonical in
     let same : at ≡ length bytes = cc in omega arith
 stops_nowhere bytes at canonical (inr (inr (is, end))) =
-    let same : read.Cut ≡ read.Whole canonical.0 (length bytes) =
-    canonical_is_whole bytes read.Cut is canonical in cc
+    let same = canonical_is_whole bytes read.Cut is canonical in cc
 
 -- where an answer says that the bytes stop
 abbrev stop_of : List ℕ → Read → ℕ

@@ -1,7 +1,16 @@
--- A list's members as they are built: those so far, and those that are left.
-use Rattle.canonical_sexp.proofs.Imports.{◌≡◌, ℕ, ◌<◌, ◌≤◌, ap, refl, arith, Sexp, Atom, Forest, no_trees, atom_then}
-use Rattle.canonical_sexp.proofs.Imports.{list_then, joined, size_of, in_front}
-use Rattle.canonical_sexp.specs.declared.sexp.Sexp.TheVariants.{List as Branch}
+-- The sizes of rows: a member is smaller than its row, also as the row is built.
+use Rattle.canonical_sexp.proofs.Imports.{suc, zero, List, [], ◌∷◌, length, get_or, ap, ◌≡◌, deep-Sexp, forest_of, ℕ}
+use Rattle.canonical_sexp.proofs.Imports.{◌<◌, ◌≤◌, arith, Sexp, Atom, Forest, no_trees, atom_then, list_then, joined}
+use Rattle.canonical_sexp.proofs.Imports.{size_of, in_front, Branch}
+
+-- the member at a place is no deeper than its list's row is large
+pub member_le : (trees : List Sexp) (i : ℕ) (tree : Sexp) → i < length trees → tree ≡ get_or trees i tree →
+    deep-Sexp tree ≤ size_of (forest_of trees)
+member_le [] i tree h is = absurd (omega arith)
+member_le (Atom octets ∷ trees) zero tree h is = omega (arith, ap deep-Sexp is)
+member_le (Branch inner ∷ trees) zero tree h is = omega (arith, ap deep-Sexp is)
+member_le (Atom octets ∷ trees) (suc i) tree h is = omega (arith, member_le trees i tree (omega arith) is)
+member_le (Branch inner ∷ trees) (suc i) tree h is = omega (arith, member_le trees i tree (omega arith) is)
 
 -- larger than that of each member
 abbrev pub weight : Sexp → ℕ
@@ -29,11 +38,3 @@ pub member_lighter : (done : Forest) (tree : Sexp) (rest : Forest) →
     weight tree < weight (Branch (joined done (in_front tree rest)))
 member_lighter done tree rest =
     omega (arith, weight_in_front tree rest, size_of-joined-le done (in_front tree rest))
-
--- a member goes from those that are left to those so far
-pub joined-one : (done : Forest) (tree : Sexp) (rest : Forest) →
-    joined (joined done (in_front tree no_trees)) rest ≡ joined done (in_front tree rest)
-joined-one no_trees (Atom octets) rest = refl
-joined-one no_trees (Branch inner) rest = refl
-joined-one (atom_then octets done) tree rest = ap (atom_then octets) (joined-one done tree rest)
-joined-one (list_then inner done) tree rest = ap (list_then inner) (joined-one done tree rest)

@@ -1,7 +1,5 @@
-use Rattle.canonical_sexp.proofs.Imports.{◌≡◌, count_of, joined}
-use Rattle.canonical_sexp.specs.declared.sexp.Sexp.TheVariants.{List as Branch}
-use Rattle.canonical_sexp.proofs.Growing.{weight}
 use Rattle.canonical_sexp.proofs.read.+tree_of.Given as goal
+use Rattle.canonical_sexp.proofs.{Growing.weight, Imports.Branch, Imports.count_of, Imports.joined, Imports.◌≡◌}
 
 abbrev pub decreases-tree_of : goal.decreases-tree_of
 decreases-tree_of l = weight l.text.now

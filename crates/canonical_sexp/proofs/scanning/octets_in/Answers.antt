@@ -14,15 +14,11 @@ pub returns-in-Whole-clause-found : goal.returns-in-Whole-clause-found
 returns-in-Whole-clause-found c =
     let (tree, (fits, text)) = c.requires in
     let (octets, few, spelt, _) = is_atom c.args.bytes.now tree fits text c.if-bytes-eq40.false in
-    let same = after_length c.args.bytes.now octets c.in-Whole.octets c.in-Whole.used few spelt
-    c.in-Whole.ensures.few c.in-Whole.ensures.spelt in
+    let same = after_length c.args.bytes.now octets _ _ few spelt c.in-Whole.ensures in
     (omega (arith, ap length same, few), spelt ∙ ap atom_text (sym same))
 
 pub returns-in-Cut-clause-none : goal.returns-in-Cut-clause-none
-returns-in-Cut-clause-none c = λ octets small e.
-    not_cut c.args.bytes.now octets c.in-Cut.ensures.value small e c.in-Cut.ensures.few c.in-Cut.ensures.digits
+returns-in-Cut-clause-none c = λ octets small e. not_cut _ octets small e c.in-Cut.ensures
 
 pub returns-in-Bad-clause-none : goal.returns-in-Bad-clause-none
-returns-in-Bad-clause-none c = λ octets small e.
-    not_bad c.args.bytes.now octets c.in-Bad.at c.in-Bad.ensures.value c.in-Bad.why small e c.in-Bad.ensures.inside
-    c.in-Bad.ensures.few c.in-Bad.ensures.digits c.in-Bad.ensures.fault
+returns-in-Bad-clause-none c = λ octets small e. not_bad _ octets _ _ small e c.in-Bad.ensures

@@ -1,6 +1,5 @@
-use Rattle.canonical_sexp.proofs.Imports.{inl, inr, refl}
-use Rattle.canonical_sexp.proofs.Canonical.{stops}
 use Rattle.canonical_sexp.proofs.whole.whole_text.Goals as goal
+use Rattle.canonical_sexp.proofs.{Canonical.stops, Imports.inl, Imports.inr, Imports.refl}
 
 pub returns-then-used-bytes-clause-err : goal.returns-then-used-bytes-clause-err
 returns-then-used-bytes-clause-err c =

@@ -1,5 +1,4 @@
-use Rattle.canonical_sexp.proofs.Imports.{◌∙◌, ap, sym, subst, Fits}
-use Rattle.canonical_sexp.specs.declared.sexp.Sexp.TheVariants.{List as Branch}
+use Rattle.canonical_sexp.proofs.Imports.{◌∙◌, ap, sym, subst, Fits, Branch}
 use Rattle.canonical_sexp.proofs.InPlace.{listed, row_spelt, same_members}
 use Rattle.canonical_sexp.proofs.in_place.Text.as_list.Goals as goal
 
