@@ -1,20 +1,16 @@
 -- What stands under one name, while a file is made there.
-use Rattle.std.proofs.Common.{◌≡◌, ◌∙◌, ℕ, Bool, true, List, ◌∷◌, Option, Some, None, ne_eqb, refl, subst}
+use Rattle.std.proofs.Common.{◌≡◌, ◌∙◌, ℕ, Bool, true, List, Option, Some, None, arith}
 use Rattle.std.specs.Prelude.{Result, Ok, Err, OnErr}
-use Rattle.folder_calls.specs.World.{FolderMoment, Among, IsUnused, IsClear, Moments, Now, Goes, Does, does, Creates, removed, created}
-use Rattle.folder_calls.specs.Creating.{IsTried}
+use Rattle.folder_calls.specs.World.{FolderMoment, IsUnused, IsClear, Moments, Now, Goes, Does, does, Creates, removed}
+use Rattle.folder_calls.specs.{World.created, Creating.IsTried}
 use Rattle.folder_calls.proofs.Goes.{now_any, goes_same, goes_none, goes_first, goes_then}
 use Rattle.folder_calls.proofs.Steps.{not_same}
 
 module _ (name : List ℕ) where
   clear_same : (w : FolderMoment) → IsClear name w w
-  clear_same w = record {
-    at = λ other differs. refl;
-    before = λ other differs. refl;
-    node = λ other i differs among. refl;
-  }
+  clear_same w = search
 
-  pub clear_on : (u v w : FolderMoment) → IsClear name u v → IsClear name v w → IsClear name u w
+  clear_on : (u v w : FolderMoment) → IsClear name u v → IsClear name v w → IsClear name u w
   clear_on u v w first later = record {
     at = λ other differs. later.at other differs ∙ first.at other differs;
     before = λ other differs. later.before other differs ∙ first.before other differs;
@@ -22,25 +18,15 @@ module _ (name : List ℕ) where
         (rw (first.at other differs, first.before other differs) among) ∙ first.node other i differs among;
   }
 
-  pub clear_removed : (w : FolderMoment) → IsClear name w (removed name w)
-  clear_removed w = record {
-    at = λ other differs. rw (not_same other name differs) refl;
-    before = λ other differs. rw (not_same other name differs) refl;
-    node = λ other i differs among. refl;
-  }
+  clear_removed : (w : FolderMoment) → IsClear name w (removed name w)
+  clear_removed w = grind (arith, not_same)
 
   clear_created : (i : ℕ) (w : FolderMoment) → IsUnused i w → IsClear name w (created name i w)
-  clear_created i w fresh = record {
-    at = λ other differs. rw (not_same other name differs) refl;
-    before = λ other differs. rw (not_same other name differs) refl;
-    node = λ other j differs among.
-        rw (ne_eqb j i (λ same. fresh other (subst (λ k. Among (w.at other ∷ w.before other) (Some k)) same among)))
-        refl;
-  }
+  clear_created i w fresh = grind (arith, not_same)
 
   pub clears_on : (a b c : Moments) → Goes (IsClear name) a b → Goes (IsClear name) b c → Goes (IsClear name) a c
   clears_on a b c first later = goes_then (IsClear name) (λ s any. clear_same s) a b c (λ s w any clear. clear)
-      (λ s v w any so clear. clear_on s v w so clear) (now_any a) first later
+      (λ s v w any. clear_on s v w) (now_any a) first later
 
   pub clears_same : (a b : Moments) → b ≡ a → Goes (IsClear name) a b
   clears_same a b same = goes_same (IsClear name) a b same
@@ -48,26 +34,18 @@ module _ (name : List ℕ) where
   pub clears_removed : (ok : Bool) (a b : Moments) → Does (removed name) ok a b → Goes (IsClear name) a b
   clears_removed ok a b did = goes_first (IsClear name) (removed name) ok a b (λ s any. clear_removed s) (now_any a) did
 
-  pub clears_created : (i : ℕ) (a b : Moments) → b ≡ does (created name i) a → Now a (IsUnused i) → Goes (IsClear name) a b
-  clears_created i a b did fresh = goes_first (IsClear name) (created name i) true a b
-      (λ s unused. clear_created i s unused) fresh did
+  pub clears_created : (i : ℕ) (a b : Moments) → b ≡ does (created name i) a → Now a (IsUnused i)
+      → Goes (IsClear name) a b
+  clears_created i a b did fresh = goes_first (IsClear name) (created name i) true a b (clear_created i) fresh did
 
   pub made_creates : (i : ℕ) (a b c : Moments) → b ≡ does (created name i) a → Now a (IsUnused i) → c ≡ b
       → Creates name a c i
-  made_creates i a b c did fresh same = record {
-    mid = a;
-    clears = goes_none (IsClear name) a;
-    did = same ∙ did;
-    fresh = fresh;
-  }
+  made_creates i a b c did fresh same =
+      record { mid = a; clears = goes_none (IsClear name) a; did = same ∙ did; fresh = fresh }
 
   pub creates_after : (i : ℕ) (a b c : Moments) → Goes (IsClear name) a b → Creates name b c i → Creates name a c i
-  creates_after i a b c clears creates = record {
-    mid = creates.mid;
-    clears = clears_on a b creates.mid clears creates.clears;
-    did = creates.did;
-    fresh = creates.fresh;
-  }
+  creates_after i a b c clears creates =
+      record { mid = _; clears = clears_on a b _ clears creates.clears; did = creates.did; fresh = creates.fresh }
 
   pub creates_clears : (i : ℕ) (a b : Moments) → Creates name a b i → Goes (IsClear name) a b
   creates_clears i a b creates =

@@ -44,6 +44,7 @@ fn in_set(stopped: Stopped, others: usize) -> Stopped {
 /// Puts the files in place, in the order in which they were begun. Of a set the mark is put in place
 /// last; what it replaces has the name `aside` meanwhile. Where a call fails, the files that aren't
 /// in place are removed.
+#[tactic(auto, using(crate::proofs::Wholes::placing_files, crate::proofs::Wholes::placing_set))]
 pub fn finish<F: Folder>(folder: &mut F, begun: &[Begun], aside: &str) -> Result<(), Stopped>
     requires { Now (F.moments folder.old) (AreBegun begun.now) }
     ensures any_moment { Goes (IsPlacing begun.now)

@@ -1,447 +1,235 @@
 -- Files that are begun and written, as the store shows them.
-use Rattle.std.proofs.Common.{◌≡◌, ◌∙◌, ℕ, Bool, true, false, cond, List, [], ◌∷◌, ◌++◌, Option, Some, None, eqb-true, eq-eqb, refl, ap, sym, subst, inl, take}
-use Rattle.std.specs.Prelude.{option_map, IsSomeAnd, unwrap_or, string_bytes, nat_eq, Result, Ok, Err, IfOk, OnErr, is_some, not}
-use Rattle.std.specs.Str.{bytes_eq}
-use Rattle.std.proofs.Math.Path.{fun_ext}
-use Rattle.std.proofs.lemmas.Bool.{false≢true}
-use Rattle.std.proofs.lemmas.Slice.Eq.{bytes_eq-Decides}
-use Rattle.hall_outside.specs.Files.{file_set, with_file}
-use Rattle.hall_outside.specs.Writing.{with_appended, IsCountOf}
-use Rattle.folder_calls.specs.Writes.{IsCount}
-use Rattle.folder_calls.specs.declared.begun.Begun.{Begun}
-use Rattle.folder_calls.specs.World.{FolderMoment, Inode, Moments, Among, IsUnused, IsClear, Creates, created, holding, longer_by, emptied, does, Now, Since, none_since, one_more, Goes, GivesPart}
-use Rattle.folder_calls.specs.Placing.{is_other, view, IsApart, StandsBegun, AreBegun, number_of, IsUnshared, AreOwn, StandsInOrder, shown_files}
-use Rattle.folder_calls.specs.Asides.{AreElsewhere}
-use Rattle.hall_outside.specs.Reading.{IsTaken, IsPartFrom}
-use Rattle.hall_outside.specs.Beginning.{taken_of}
-use Rattle.folder_calls.proofs.Steps.{same_name, eq_self, not_same, apart_names, since_now}
+use Rattle.hall_outside.proofs.Imports.{[], Among, ap, apart_names, AreBegun, AreElsewhere, AreOwn, Begun, bytes_eq}
+use Rattle.hall_outside.proofs.Imports.{cases_Bool, Creates, does, eq-eqb, eq_self, false, file_set, Files}
+use Rattle.hall_outside.proofs.Imports.{FolderMoment, fun_ext, GivesPart, Goes, holding, inl, is_other, IsApart}
+use Rattle.hall_outside.proofs.Imports.{IsClear, IsTaken, IsUnshared, IsUnused, List, Moments, nat_eq, ne_eqb, None}
+use Rattle.hall_outside.proofs.Imports.{not_same, Now, now_always, number_of, Option, option_map, refl, shown_files}
+use Rattle.hall_outside.proofs.Imports.{since_now, Some, StandsInOrder, string_bytes, sym, taken_of, true, view}
+use Rattle.hall_outside.proofs.Imports.{with_file, ℕ, ⊎_elim, ◌++◌, ◌∙◌, ◌∷◌, ◌≡◌}
+use Rattle.folder_calls.specs.World.{created}
+use Rattle.hall_outside.proofs.FileLists.{compared, flip, set_again, set_behind}
 
-flip : (a b : List ℕ) → bytes_eq a b ≡ bytes_eq b a
-flip a b = elim (bytes_eq a b) as (λ t. bytes_eq a b ≡ t → t ≡ bytes_eq b a) [
-  | true ↦ λ e. sym (subst (λ x. bytes_eq b x ≡ true) (sym (same_name a b e)) (eq_self b))
-  | false ↦ λ e. sym (not_same b a (λ is. false≢true (sym e ∙ (bytes_eq-Decides a b).1 (sym is))))
-] refl
+-- a plain name isn't one of the other kind
+kind_differs : (name other : List ℕ) → is_other name ≡ false → is_other other ≡ true → name ≡ other → ⊥
+kind_differs name other plain is_so is = cc
 
-num_differs : (i j : ℕ) → (i ≡ j → ⊥) → nat_eq i j ≡ false
-num_differs i j differ = elim (nat_eq i j) as (λ t. nat_eq i j ≡ t → t ≡ false) [
-  | true ↦ λ e. absurd (differ (eqb-true i j e))
-  | false ↦ λ e. refl
-] refl
+-- an entry stands for the same bytes at two moments
+same_entry : (v w : FolderMoment) (entry : Option ℕ)
+    → ((i : ℕ) → entry ≡ Some i → (v.node i).bytes ≡ (w.node i).bytes)
+    → option_map (λ i. (v.node i).bytes) entry ≡ option_map (λ i. (w.node i).bytes) entry
+same_entry v w None same = refl
+same_entry v w (Some i) same = ap Some (same i refl)
 
-abbrev IsThere : Option ℕ → Type 0
-IsThere None = ⊥
-IsThere (Some i) = Unit {0}
+-- what is in place is the same at two moments
+same_in_place : (v w : FolderMoment) (name : List ℕ) → (is_other name ≡ false → v.at name ≡ w.at name)
+    → (is_other name ≡ false → (i : ℕ) → w.at name ≡ Some i → (v.node i).bytes ≡ (w.node i).bytes)
+    → view [] v name ≡ view [] w name
+same_in_place v w name at bytes = ⊎_elim (λ other. rw other refl)
+    (λ plain. rw plain (rw (at plain) (same_entry v w (w.at name) (bytes plain)))) (cases_Bool (is_other name))
 
-not_none : (k : ℕ) → Some k ≡ None → ⊥
-not_none k e = subst IsThere e tt
-
-kind_differs : (name other : List ℕ) → is_other name ≡ false → is_other other ≡ true → (name ≡ other → ⊥)
-kind_differs name other plain is_so is = false≢true (sym plain ∙ ap is_other is ∙ is_so)
-
--- what an ended program left is removed
-clear_begun : (other : List ℕ) (bs : List Begun) (first w : FolderMoment) → AreElsewhere other bs → IsClear other first w
-    → AreBegun bs first → AreBegun bs w
-clear_begun other [] first w elsewhere clear begun = tt
-clear_begun other (b ∷ bs) first w elsewhere clear begun = (
-  record {
-    stands = clear.at (string_bytes b.other_name) (apart_names (string_bytes b.other_name) other elsewhere.0) ∙ begun.0.stands;
-    other = begun.0.other;
-    name = begun.0.name;
-  },
-  begun.1,
-  clear_begun other bs first w elsewhere.1 clear begun.2,
-)
-
-clear_own : (other : List ℕ) (bs : List Begun) (first w : FolderMoment) → is_other other ≡ true → IsClear other first w
-    → AreOwn bs first → AreOwn bs w
-clear_own other [] first w is_so clear own = tt
-clear_own other (b ∷ bs) first w is_so clear own = (
-  (λ name plain among. own.0 name plain
-      (subst (λ l. Among (first.at name ∷ l) (Some b.number)) (clear.before name (kind_differs name other plain is_so))
-      (subst (λ e. Among (e ∷ w.before name) (Some b.number)) (clear.at name (kind_differs name other plain is_so)) among))),
-  own.1,
-  clear_own other bs first w is_so clear own.2,
-)
-
-clear_mapped : (other : List ℕ) (first w : FolderMoment) (name : List ℕ) (entry : Option ℕ) → (name ≡ other → ⊥)
-    → first.at name ≡ entry → IsClear other first w
-    → option_map (λ i. (w.node i).bytes) entry ≡ option_map (λ i. (first.node i).bytes) entry
-clear_mapped other first w name None differs at clear = refl
-clear_mapped other first w name (Some i) differs at clear = ap (λ n. Some n.bytes) (clear.node name i differs (inl (sym at)))
-
-clear_view : (other : List ℕ) (bs : List Begun) (first w : FolderMoment) → is_other other ≡ true → AreElsewhere other bs
-    → AreBegun bs first → IsClear other first w → (name : List ℕ) → view bs w name ≡ view bs first name
-clear_view other [] first w is_so elsewhere begun clear name = elim (is_other name) as (λ o. is_other name ≡ o
-    → cond o None (option_map (λ i. (w.node i).bytes) (w.at name)) ≡ cond o None (option_map (λ i. (first.node i).bytes) (first.at name))) [
-      | true ↦ λ o. refl
-      | false ↦ λ o. ap (option_map (λ i. (w.node i).bytes)) (clear.at name (kind_differs name other o is_so))
-          ∙ clear_mapped other first w name (first.at name) (kind_differs name other o is_so) refl clear
-    ] refl
+-- where nothing is changed but what stands under another name, the same is shown
+clear_view : (other : List ℕ) (bs : List Begun) (first w : FolderMoment) → is_other other ≡ true
+    → AreElsewhere other bs → AreBegun bs first → IsClear other first w → (name : List ℕ)
+    → view bs w name ≡ view bs first name
+clear_view other [] first w is_so elsewhere begun clear name = same_in_place w first name
+    (λ plain. clear.at name (kind_differs name other plain is_so))
+    (λ plain i at. ap (λ n. n.bytes) (clear.node name i (kind_differs name other plain is_so) (inl (sym at))))
 clear_view other (b ∷ bs) first w is_so elsewhere begun clear name =
-    ap (λ n. cond (bytes_eq name (string_bytes b.name)) (Some n.bytes) (view bs w name))
-    (clear.node (string_bytes b.other_name) b.number (apart_names (string_bytes b.other_name) other elsewhere.0) (inl (sym begun.0.stands)))
-    ∙ ap (λ v. cond (bytes_eq name (string_bytes b.name)) (Some (first.node b.number).bytes) v)
-    (clear_view other bs first w is_so elsewhere.1 begun.2 clear name)
+    let differs = apart_names (string_bytes b.other_name) other elsewhere.0 in rw (
+      clear.node (string_bytes b.other_name) b.number differs (inl (sym begun.0.stands)),
+      clear_view other bs first w is_so elsewhere.1 begun.2 clear name,
+    ) refl
 
-clear_same : (other : List ℕ) (w : FolderMoment) → IsClear other w w
-clear_same other w = record {
-  at = λ name differs. refl;
-  before = λ name differs. refl;
-  node = λ name i differs among. refl;
+-- and what was begun stands ready as before
+clear_ready : (other : List ℕ) (bs : List Begun) (first w : FolderMoment) → is_other other ≡ true
+    → AreElsewhere other bs → IsClear other first w → StandsInOrder bs first → StandsInOrder bs w
+clear_ready other [] first w is_so elsewhere clear ready = record { stand = tt; own = tt }
+clear_ready other (b ∷ bs) first w is_so elsewhere clear ready =
+    let stands = clear.at (string_bytes b.other_name) (apart_names (string_bytes b.other_name) other elsewhere.0)
+    ∙ ready.stand.0.stands in
+    assumption (stands, own, clear_ready other bs first w is_so elsewhere.1 clear assumption)
+  where
+    own : (name : List ℕ) → is_other name ≡ false → Among (w.at name ∷ w.before name) (Some b.number) → ⊥
+    own name plain among = let differs = kind_differs name other plain is_so in
+        ready.own.0 name plain (rw (clear.at name differs, clear.before name differs) at among)
+
+-- creating a file changes nothing but what stands under its name
+created_clear : (other : List ℕ) (i : ℕ) (w : FolderMoment) → IsUnused i w → IsClear other w (created other i w)
+created_clear other i w fresh = record {
+  at = λ name differs. rw (not_same name other differs) refl;
+  before = λ name differs. rw (not_same name other differs) refl;
+  node = λ name j differs among. rw (ne_eqb j i (λ same. fresh name (rw same at among))) refl;
 }
 
--- a file that is created
-abbrev new_node : Inode
-new_node = record { bytes = []; flushed = false; regular = true }
+-- where a name has no number the first file hasn't the name, and the others have none for it
+named_none : (x : Begun) (xs : List Begun) (name : List ℕ) → number_of (x ∷ xs) name ≡ None
+    → (bytes_eq (string_bytes x.name) name ≡ false) × (number_of xs name ≡ None)
+named_none x xs name none = ⊎_elim (λ is. cc) (λ differs. (differs, rw differs at none))
+    (cases_Bool (bytes_eq (string_bytes x.name) name))
 
-module _ (b : Begun) (w : FolderMoment) (is_so : is_other (string_bytes b.other_name) ≡ true)
-    (plain : is_other (string_bytes b.name) ≡ false) (fresh : IsUnused b.number w) where
-  abbrev next : FolderMoment
-  next = created (string_bytes b.other_name) b.number w
+-- the file that is begun last is shown under its name
+last_view : (b : Begun) (bs : List Begun) (w : FolderMoment) (name : List ℕ) → number_of bs (string_bytes b.name) ≡ None
+    → view (bs ++ b ∷ []) w name ≡ file_set (view bs w) (string_bytes b.name) (w.node b.number).bytes name
+last_view b [] w name none = refl
+last_view b (x ∷ xs) w name none = let parts = named_none x xs (string_bytes b.name) none in
+    set_behind (string_bytes x.name) (string_bytes b.name) name _ _ _ _ parts.0 (last_view b xs w name parts.1)
 
-  old_number : (name : List ℕ) (j : ℕ) → w.at name ≡ Some j → nat_eq j b.number ≡ false
-  old_number name j at = num_differs j b.number (λ same. fresh name (inl (sym (at ∙ ap Some same))))
+-- where no file was begun with one's names or number, that one may come last
+last_apart : (b x : Begun) (xs : List Begun) → IsApart x xs × IsUnshared x.number xs
+    → IsApart x (b ∷ []) × IsUnshared x.number (b ∷ [])
+    → IsApart x (xs ++ b ∷ []) × IsUnshared x.number (xs ++ b ∷ [])
+last_apart b x [] first last = last
+last_apart b x (y ∷ ys) first last = let rest = last_apart b x ys (first.0.2, first.1.1) last in
+    ((first.0.0, first.0.1, rest.0), (first.1.0, rest.1))
 
-  new_number : (x : Begun) → StandsBegun x w → nat_eq b.number x.number ≡ false
-  new_number x is = num_differs b.number x.number (λ same. fresh (string_bytes x.other_name) (inl (sym (is.stands ∙ ap Some (sym same)))))
-
-  old_bytes : (j : ℕ) → nat_eq j b.number ≡ false → (next.node j).bytes ≡ (w.node j).bytes
-  old_bytes j differs = ap (λ t. (cond t new_node (w.node j)).bytes) differs
-
-  mapped : (name : List ℕ) (entry : Option ℕ) → w.at name ≡ entry
-      → option_map (λ j. (next.node j).bytes) entry ≡ option_map (λ j. (w.node j).bytes) entry
-  mapped name None at = refl
-  mapped name (Some j) at = ap Some (old_bytes j (old_number name j at))
-
-  not_other : (name : List ℕ) → is_other name ≡ false → bytes_eq name (string_bytes b.other_name) ≡ false
-  not_other name o = not_same name (string_bytes b.other_name) (kind_differs name (string_bytes b.other_name) o is_so)
-
-  base_view : (name : List ℕ) → view [] next name ≡ view [] w name
-  base_view name = elim (is_other name) as (λ o. is_other name ≡ o
-      → cond o None (option_map (λ j. (next.node j).bytes) (cond (bytes_eq name (string_bytes b.other_name)) (Some b.number) (w.at name)))
-      ≡ cond o None (option_map (λ j. (w.node j).bytes) (w.at name))) [
-        | true ↦ λ o. refl
-        | false ↦ λ o. ap (λ t. option_map (λ j. (next.node j).bytes) (cond t (Some b.number) (w.at name))) (not_other name o)
-            ∙ mapped name (w.at name) refl
-      ] refl
-
-  pub unseen_view : (bs : List Begun) (name : List ℕ) → AreBegun bs w → view bs next name ≡ view bs w name
-  unseen_view [] name begun = base_view name
-  unseen_view (x ∷ xs) name begun =
-      ap (λ c. cond (bytes_eq name (string_bytes x.name)) (Some c) (view xs next name))
-      (old_bytes x.number (old_number (string_bytes x.other_name) x.number begun.0.stands))
-      ∙ ap (λ v. cond (bytes_eq name (string_bytes x.name)) (Some (w.node x.number).bytes) v) (unseen_view xs name begun.2)
-
-  named_none : (x : Begun) (xs : List Begun) (name : List ℕ) → number_of (x ∷ xs) name ≡ None
-      → (bytes_eq (string_bytes x.name) name ≡ false) × (number_of xs name ≡ None)
-  named_none x xs name = elim (bytes_eq (string_bytes x.name) name) as
-      (λ t. cond t (Some x.number) (number_of xs name) ≡ None → (t ≡ false) × (number_of xs name ≡ None)) [
-        | true ↦ λ e. absurd (not_none x.number e)
-        | false ↦ λ e. (refl, e)
-      ]
-
-  pub begun_view : (bs : List Begun) (name : List ℕ) → AreBegun bs w → number_of bs (string_bytes b.name) ≡ None
-      → view (bs ++ b ∷ []) next name ≡ file_set (view bs w) (string_bytes b.name) [] name
-  begun_view [] name begun none =
-      ap (λ t. cond (bytes_eq name (string_bytes b.name)) (Some (cond t new_node (w.node b.number)).bytes) (view [] next name))
-      (eq-eqb b.number b.number refl)
-      ∙ ap (λ v. cond (bytes_eq name (string_bytes b.name)) (Some []) v) (base_view name)
-  begun_view (x ∷ xs) name begun none =
-      let parts = named_none x xs (string_bytes b.name) none in
-      (elim (bytes_eq name (string_bytes x.name)) as (λ t. bytes_eq name (string_bytes x.name) ≡ t
-      → cond t (Some (next.node x.number).bytes) (view (xs ++ b ∷ []) next name)
-      ≡ cond (bytes_eq name (string_bytes b.name)) (Some []) (cond t (Some (w.node x.number).bytes) (view xs w name))) [
-        | true ↦ λ is. ap Some (old_bytes x.number (old_number (string_bytes x.other_name) x.number begun.0.stands))
-            ∙ sym (ap (λ u. cond u (Some []) (Some (w.node x.number).bytes))
-            (ap (λ n. bytes_eq n (string_bytes b.name)) (same_name name (string_bytes x.name) is) ∙ parts.0))
-        | false ↦ λ differs. begun_view xs name begun.2 parts.1
-      ]) refl
-
-  new_among : (name : List ℕ) (entry : Option ℕ) → is_other name ≡ false
-      → Among (next.at name ∷ next.before name) entry → Among (w.at name ∷ w.before name) entry
-  new_among name entry o among = subst
-      (λ t. Among (cond t (Some b.number) (w.at name)
-      ∷ cond t (w.at (string_bytes b.other_name) ∷ w.before (string_bytes b.other_name)) (w.before name)) entry)
-      (not_other name o) among
-
-  last_apart : (x : Begun) (xs : List Begun) → IsApart x xs → bytes_eq (string_bytes b.name) (string_bytes x.name) ≡ false
-      → bytes_eq (string_bytes b.other_name) (string_bytes x.other_name) ≡ false → IsApart x (xs ++ b ∷ [])
-  last_apart x [] apart names others = (names, others, tt)
-  last_apart x (y ∷ ys) apart names others = (apart.0, apart.1, last_apart x ys apart.2 names others)
-
-  still_begun : (x : Begun) → StandsBegun x w → bytes_eq (string_bytes x.other_name) (string_bytes b.other_name) ≡ false → StandsBegun x next
-  still_begun x is differs = record {
-    stands = ap (λ t. cond t (Some b.number) (w.at (string_bytes x.other_name))) differs ∙ is.stands;
-    other = is.other;
-    name = is.name;
-  }
-
-  all_begun : (bs : List Begun) → AreBegun bs w → number_of bs (string_bytes b.name) ≡ None
-      → AreElsewhere (string_bytes b.other_name) bs → AreBegun (bs ++ b ∷ []) next
-  all_begun [] begun none elsewhere = (
-    record {
-      stands = ap (λ t. cond t (Some b.number) (w.at (string_bytes b.other_name))) (eq_self (string_bytes b.other_name));
-      other = is_so;
-      name = plain;
-    },
+-- a file that is created stands in order after those that were begun
+last_ready : (b : Begun) (bs : List Begun) (w : FolderMoment) → is_other (string_bytes b.other_name) ≡ true
+    → is_other (string_bytes b.name) ≡ false → IsUnused b.number w → number_of bs (string_bytes b.name) ≡ None
+    → AreElsewhere (string_bytes b.other_name) bs → StandsInOrder bs w
+    → StandsInOrder (bs ++ b ∷ []) (created (string_bytes b.other_name) b.number w)
+last_ready b [] w is_so plain fresh none elsewhere ready = record {
+  stand = (record { stands = rw (eq_self (string_bytes b.other_name)) refl; other = is_so; name = plain }, tt, tt);
+  own = (
+    (λ name o among. fresh name (rw (not_same name (string_bytes b.other_name)
+        (kind_differs name (string_bytes b.other_name) o is_so)) at among)),
     tt,
     tt,
-  )
-  all_begun (x ∷ xs) begun none elsewhere =
-      let parts = named_none x xs (string_bytes b.name) none in (
-        still_begun x begun.0 elsewhere.0,
-        last_apart x xs begun.1 (flip (string_bytes b.name) (string_bytes x.name) ∙ parts.0)
-            (flip (string_bytes b.other_name) (string_bytes x.other_name) ∙ elsewhere.0),
-        all_begun xs begun.2 parts.1 elsewhere.1,
-      )
+  );
+}
+last_ready b (x ∷ xs) w is_so plain fresh none elsewhere ready =
+    let parts = named_none x xs (string_bytes b.name) none in
+    let number = ne_eqb b.number x.number
+    (λ same. fresh (string_bytes x.other_name) (inl (sym (ready.stand.0.stands ∙ ap Some (sym same))))) in
+    let last = last_apart b x xs (ready.stand.1, ready.own.1) (
+      (
+        flip (string_bytes b.name) (string_bytes x.name) ∙ parts.0,
+        flip (string_bytes b.other_name) (string_bytes x.other_name) ∙ elsewhere.0,
+        tt,
+      ),
+      (number, tt),
+    ) in
+    let now = clear_ready (string_bytes b.other_name) (x ∷ xs) w (created (string_bytes b.other_name) b.number w) is_so
+    elsewhere (created_clear (string_bytes b.other_name) b.number w fresh) ready in
+    let rest = last_ready b xs w is_so plain fresh parts.1 elsewhere.1 assumption in
+    record { stand = (now.stand.0, last.0, rest.stand); own = (now.own.0, last.1, rest.own) }
 
-  last_alone : (k : ℕ) (xs : List Begun) → IsUnshared k xs → nat_eq b.number k ≡ false → IsUnshared k (xs ++ b ∷ [])
-  last_alone k [] alone differs = (differs, tt)
-  last_alone k (y ∷ ys) alone differs = (alone.0, last_alone k ys alone.1 differs)
+-- where no plain name and no other file stands for the number, its bytes aren't shown
+untouched : (i : ℕ) (bytes : List ℕ) (bs : List Begun) (w : FolderMoment) (name : List ℕ) → IsUnshared i bs
+    → ((name : List ℕ) → is_other name ≡ false → Among (w.at name ∷ w.before name) (Some i) → ⊥)
+    → view bs (holding i bytes w) name ≡ view bs w name
+untouched i bytes [] w name alone own = same_in_place (holding i bytes w) w name (λ plain. refl)
+    (λ plain j at. rw (ne_eqb j i (λ same. own name plain (inl (sym (at ∙ ap Some same))))) refl)
+untouched i bytes (b ∷ bs) w name alone own = rw (alone.0, untouched i bytes bs w name alone.1 own) refl
 
-  all_own : (bs : List Begun) → AreBegun bs w → AreOwn bs w → AreOwn (bs ++ b ∷ []) next
-  all_own [] begun own = (
-    (λ name o among. fresh name (new_among name (Some b.number) o among)),
-    tt,
-    tt,
-  )
-  all_own (x ∷ xs) begun own = (
-    (λ name o among. own.0 name o (new_among name (Some x.number) o among)),
-    last_alone x.number xs own.1 (new_number x begun.0),
-    all_own xs begun.2 own.2,
-  )
-
-  pub all_ready : (bs : List Begun) → StandsInOrder bs w → number_of bs (string_bytes b.name) ≡ None
-      → AreElsewhere (string_bytes b.other_name) bs → StandsInOrder (bs ++ b ∷ []) next
-  all_ready bs ready none elsewhere = record {
-    stand = all_begun bs ready.stand none elsewhere;
-    own = all_own bs ready.stand ready.own;
-  }
-
--- bytes that a file holds from now on
-module _ (i : ℕ) (bytes : List ℕ) (w : FolderMoment) where
-  abbrev held : Inode
-  held = record (w.node i) { bytes = bytes; flushed = false }
-
-  other_bytes : (j : ℕ) → nat_eq j i ≡ false → ((holding i bytes w).node j).bytes ≡ (w.node j).bytes
-  other_bytes j differs = ap (λ t. (cond t held (w.node j)).bytes) differs
-
-  rest_mapped : (name : List ℕ) (entry : Option ℕ) → (Among (w.at name ∷ w.before name) (Some i) → ⊥) → w.at name ≡ entry
-      → option_map (λ j. ((holding i bytes w).node j).bytes) entry ≡ option_map (λ j. (w.node j).bytes) entry
-  rest_mapped name None own at = refl
-  rest_mapped name (Some j) own at =
-      ap Some (other_bytes j (num_differs j i (λ same. own (inl (sym (at ∙ ap Some same))))))
-
-  untouched : (bs : List Begun) (name : List ℕ) → IsUnshared i bs
-      → ((name : List ℕ) → is_other name ≡ false → Among (w.at name ∷ w.before name) (Some i) → ⊥)
-      → view bs (holding i bytes w) name ≡ view bs w name
-  untouched [] name alone own = elim (is_other name) as (λ o. is_other name ≡ o
-      → cond o None (option_map (λ j. ((holding i bytes w).node j).bytes) (w.at name))
-      ≡ cond o None (option_map (λ j. (w.node j).bytes) (w.at name))) [
-        | true ↦ λ o. refl
-        | false ↦ λ o. rest_mapped name (w.at name) (own name o) refl
-      ] refl
-  untouched (b ∷ bs) name alone own =
-      ap (λ c. cond (bytes_eq name (string_bytes b.name)) (Some c) (view bs (holding i bytes w) name)) (other_bytes b.number alone.0)
-      ∙ ap (λ v. cond (bytes_eq name (string_bytes b.name)) (Some (w.node b.number).bytes) v) (untouched bs name alone.1 own)
-
-  held_begun : (bs : List Begun) → AreBegun bs w → AreBegun bs (holding i bytes w)
-  held_begun [] begun = tt
-  held_begun (b ∷ bs) begun = (
-    record { stands = begun.0.stands; other = begun.0.other; name = begun.0.name },
-    begun.1,
-    held_begun bs begun.2,
-  )
-
-  held_own : (bs : List Begun) → AreOwn bs w → AreOwn bs (holding i bytes w)
-  held_own [] own = tt
-  held_own (b ∷ bs) own = (own.0, own.1, held_own bs own.2)
-
-  pub held_ready : (bs : List Begun) → StandsInOrder bs w → StandsInOrder bs (holding i bytes w)
-  held_ready bs ready = record { stand = held_begun bs ready.stand; own = held_own bs ready.own }
+-- what was begun stands ready whatever bytes a file holds
+pub held_ready : (i : ℕ) (bytes : List ℕ) (w : FolderMoment) (bs : List Begun) → StandsInOrder bs w
+    → StandsInOrder bs (holding i bytes w)
+held_ready i bytes w [] ready = record { stand = tt; own = tt }
+held_ready i bytes w (b ∷ bs) ready = assumption (held_ready i bytes w bs assumption)
 
 -- the number of one of them isn't that of a file apart
-alone_number : (bs : List Begun) (name : List ℕ) (k i : ℕ) → IsUnshared k bs → number_of bs name ≡ Some i → i ≡ k → ⊥
-alone_number [] name k i alone found same = not_none i (sym found)
-alone_number (x ∷ xs) name k i alone found same =
-    (elim (bytes_eq (string_bytes x.name) name) as (λ t. cond t (Some x.number) (number_of xs name) ≡ Some i → ⊥) [
-      | true ↦ λ f. false≢true (sym alone.0 ∙ eq-eqb x.number k (ap (λ o. unwrap_or o 0) f ∙ same))
-      | false ↦ λ f. alone_number xs name k i alone.1 f same
-    ]) found
+alone_number : (bs : List Begun) (name : List ℕ) (k i : ℕ) → IsUnshared k bs → number_of bs name ≡ Some i
+    → nat_eq k i ≡ false
+alone_number [] name k i alone found = cc
+alone_number (x ∷ xs) name k i alone found = ⊎_elim
+    (λ is. ne_eqb k i (λ same. cc (alone.0, eq-eqb k k refl)))
+    (λ differs. alone_number xs name k i alone.1 (rw differs at found))
+    (cases_Bool (bytes_eq (string_bytes x.name) name))
 
-hold_view : (bs : List Begun) (w : FolderMoment) (at : List ℕ) (i : ℕ) (bytes name : List ℕ) → AreOwn bs w → number_of bs at ≡ Some i
-    → view bs (holding i bytes w) name ≡ file_set (view bs w) at bytes name
-hold_view [] w at i bytes name own found = absurd (not_none i (sym found))
-hold_view (b ∷ bs) w at i bytes name own found =
-    (elim (bytes_eq (string_bytes b.name) at) as (λ t. bytes_eq (string_bytes b.name) at ≡ t
-    → cond t (Some b.number) (number_of bs at) ≡ Some i
-    → view (b ∷ bs) (holding i bytes w) name ≡ file_set (view (b ∷ bs) w) at bytes name) [
-      | true ↦ λ is f. mine (same_name (string_bytes b.name) at is) (ap (λ o. unwrap_or o 0) f)
-      | false ↦ λ differs f. later differs f (hold_view bs w at i bytes name own.2 f)
-    ]) refl found
-  where
-    mine : string_bytes b.name ≡ at → b.number ≡ i → view (b ∷ bs) (holding i bytes w) name ≡ file_set (view (b ∷ bs) w) at bytes name
-    mine is number = subst (λ a. view (b ∷ bs) (holding i bytes w) name ≡ file_set (view (b ∷ bs) w) a bytes name) is
-        (subst (λ k. view (b ∷ bs) (holding k bytes w) name ≡ file_set (view (b ∷ bs) w) (string_bytes b.name) bytes name) number core)
-      where
-        core : view (b ∷ bs) (holding b.number bytes w) name ≡ file_set (view (b ∷ bs) w) (string_bytes b.name) bytes name
-        core = elim (bytes_eq name (string_bytes b.name)) as (λ t.
-            cond t (Some (cond (nat_eq b.number b.number) (held b.number bytes w) (w.node b.number)).bytes) (view bs (holding b.number bytes w) name)
-            ≡ cond t (Some bytes) (cond t (Some (w.node b.number).bytes) (view bs w name))) [
-              | true ↦ ap (λ t. Some (cond t (held b.number bytes w) (w.node b.number)).bytes) (eq-eqb b.number b.number refl)
-              | false ↦ untouched b.number bytes w bs name own.1 own.0
-            ]
+-- the bytes that one of them holds from now on are shown under its name
+pub hold_view : (bs : List Begun) (w : FolderMoment) (at : List ℕ) (i : ℕ) (bytes name : List ℕ) → AreOwn bs w
+    → number_of bs at ≡ Some i → view bs (holding i bytes w) name ≡ file_set (view bs w) at bytes name
+hold_view [] w at i bytes name own found = cc
+hold_view (b ∷ bs) w at i bytes name own found = ⊎_elim
+    (λ is. let number : i ≡ b.number = cc (eq_self at) in rw (
+      ← is,
+      number,
+      eq-eqb b.number b.number refl,
+      untouched b.number bytes bs w name own.1 own.0,
+    ) (sym (set_again (view bs w) (string_bytes b.name) (w.node b.number).bytes bytes name)))
+    (λ differs. let later : number_of bs at ≡ Some i = rw differs at found in
+    rw (alone_number bs at b.number i own.1 later) (set_behind (string_bytes b.name) at name _ _ _ _ differs
+    (hold_view bs w at i bytes name own.2 later)))
+    (compared (string_bytes b.name) at)
 
-    later : bytes_eq (string_bytes b.name) at ≡ false → number_of bs at ≡ Some i
-        → view bs (holding i bytes w) name ≡ file_set (view bs w) at bytes name
-        → view (b ∷ bs) (holding i bytes w) name ≡ file_set (view (b ∷ bs) w) at bytes name
-    later differs f rest =
-        (elim (bytes_eq name (string_bytes b.name)) as (λ t. bytes_eq name (string_bytes b.name) ≡ t
-        → cond t (Some ((holding i bytes w).node b.number).bytes) (view bs (holding i bytes w) name)
-        ≡ cond (bytes_eq name at) (Some bytes) (cond t (Some (w.node b.number).bytes) (view bs w name))) [
-          | true ↦ λ e. ap Some (other_bytes i bytes w b.number (num_differs b.number i (λ same. alone_number bs at b.number i own.1 f (sym same))))
-              ∙ sym (ap (λ t. cond t (Some bytes) (Some (w.node b.number).bytes))
-              (ap (λ n. bytes_eq n at) (same_name name (string_bytes b.name) e) ∙ differs))
-          | false ↦ λ e. rest
-        ]) refl
+-- what is shown under a name, by the number of the file that was begun under it
+abbrev shown : FolderMoment → List ℕ → Option ℕ → Option (List ℕ)
+shown w name None = view [] w name
+shown w name (Some i) = Some (w.node i).bytes
 
-view_of : (bs : List Begun) (w : FolderMoment) (at : List ℕ) (i : ℕ) → number_of bs at ≡ Some i → view bs w at ≡ Some (w.node i).bytes
-view_of [] w at i found = absurd (not_none i (sym found))
-view_of (b ∷ bs) w at i found =
-    ap (λ t. cond t (Some (w.node b.number).bytes) (view bs w at)) (flip at (string_bytes b.name))
-    ∙ (elim (bytes_eq (string_bytes b.name) at) as (λ t. cond t (Some b.number) (number_of bs at) ≡ Some i
-    → cond t (Some (w.node b.number).bytes) (view bs w at) ≡ Some (w.node i).bytes) [
-      | true ↦ λ f. ap (λ k. Some (w.node k).bytes) (ap (λ o. unwrap_or o 0) f)
-      | false ↦ λ f. view_of bs w at i f
-    ]) found
+-- the file that was begun under the name is what is shown, and else what is in place
+view_is : (bs : List Begun) (w : FolderMoment) (name : List ℕ) → view bs w name ≡ shown w name (number_of bs name)
+view_is [] w name = refl
+view_is (b ∷ bs) w name = rw (flip name (string_bytes b.name)) (⊎_elim (λ is. rw is refl) (λ differs. rw differs
+    (view_is bs w name)) (cases_Bool (bytes_eq (string_bytes b.name) name)))
 
--- the same of the moments so far
-pub empty_shown : (bs : List Begun) (ws new : Moments) (at : List ℕ) (i : ℕ) → Now ws (StandsInOrder bs)
-    → number_of bs at ≡ Some i → new ≡ does (emptied i) ws → shown_files bs new ≡ with_file (shown_files bs ws) at []
-empty_shown bs [] new at i ready found done = ap (shown_files bs) done
-empty_shown bs (w ∷ ws) new at i ready found done =
-    ap (shown_files bs) done ∙ ap Some (fun_ext (λ name. hold_view bs w at i [] name ready.own found))
+-- the bytes of a file that was begun are shown
+pub view_of : (bs : List Begun) (w : FolderMoment) (at : List ℕ) (i : ℕ) → number_of bs at ≡ Some i
+    → view bs w at ≡ Some (w.node i).bytes
+view_of bs w at i found = view_is bs w at ∙ ap (shown w at) found
 
-pub empty_ready : (bs : List Begun) (ws new : Moments) (i : ℕ) → Now ws (StandsInOrder bs)
-    → new ≡ does (emptied i) ws → Now new (StandsInOrder bs)
-empty_ready bs [] new i ready done = subst (λ n. Now n (StandsInOrder bs)) (sym done) tt
-empty_ready bs (w ∷ ws) new i ready done = subst (λ n. Now n (StandsInOrder bs)) (sym done) (held_ready i [] w bs ready)
+-- what a step changes of what is shown
+pub shown_did : {P : FolderMoment → Type 0} (bs cs : List Begun) (change : Files → Files)
+    (step : FolderMoment → FolderMoment) (ws new : Moments)
+    → ((w : FolderMoment) → P w → (name : List ℕ) → view cs (step w) name ≡ change (view bs w) name)
+    → new ≡ does step ws → Now ws P → shown_files cs new ≡ option_map change (shown_files bs ws)
+shown_did bs cs change step [] new to did here = ap (shown_files cs) did
+shown_did bs cs change step (w ∷ ws) new to did here = ap (shown_files cs) did ∙ ap Some (fun_ext (to w here))
 
-pub append_shown : (bs : List Begun) (ws new : Moments) (at : List ℕ) (i : ℕ) (piece : List ℕ) → Now ws (StandsInOrder bs)
-    → number_of bs at ≡ Some i → new ≡ does (longer_by i piece) ws → shown_files bs new ≡ with_appended (shown_files bs ws) at piece
-append_shown bs [] new at i piece ready found done = ap (shown_files bs) done
-append_shown bs (w ∷ ws) new at i piece ready found done =
-    ap (shown_files bs) done ∙ ap Some (fun_ext (λ name.
-    hold_view bs w at i ((w.node i).bytes ++ piece) name ready.own found
-    ∙ sym (ap (λ o. file_set (view bs w) at (unwrap_or o [] ++ piece) name) (view_of bs w at i found))))
-
-pub append_ready : (bs : List Begun) (ws new : Moments) (i : ℕ) (piece : List ℕ) → Now ws (StandsInOrder bs)
-    → new ≡ does (longer_by i piece) ws → Now new (StandsInOrder bs)
-append_ready bs [] new i piece ready done = subst (λ n. Now n (StandsInOrder bs)) (sym done) tt
-append_ready bs (w ∷ ws) new i piece ready done = subst (λ n. Now n (StandsInOrder bs)) (sym done)
-    (held_ready i ((w.node i).bytes ++ piece) w bs ready)
-
-abbrev IsExposed : Moments → Type 0
-IsExposed [] = ⊥
-IsExposed (w ∷ ws) = Unit {0}
-
-never_hidden : {P : FolderMoment → Type 0} (s : FolderMoment) (ss n : Moments) → Since P (s ∷ ss) n → IsExposed n
-never_hidden s ss n (none_since) = tt
-never_hidden s ss n (one_more w ws here rest) = tt
+-- nothing is changed from a moment to itself
+clear_same : (other : List ℕ) (w : FolderMoment) → IsClear other w w
+clear_same other w = record { at = λ name to. refl; before = λ name to. refl; node = λ name i to among. refl }
 
 -- what was left under another name shows nothing
 pub clear_shown : (other : List ℕ) (bs : List Begun) (a b : Moments) → is_other other ≡ true → AreElsewhere other bs
     → Now a (StandsInOrder bs) → Goes (IsClear other) a b → shown_files bs b ≡ shown_files bs a
 clear_shown other bs [] b is_so elsewhere ready goes = ap (shown_files bs) goes
-clear_shown other bs (s ∷ ss) [] is_so elsewhere ready goes = absurd (never_hidden s ss [] goes)
+clear_shown other bs (s ∷ ss) [] is_so elsewhere ready goes = elim goes [ ]
 clear_shown other bs (s ∷ ss) (w ∷ ws) is_so elsewhere ready goes =
-    ap Some (fun_ext (clear_view other bs s w is_so elsewhere ready.stand (since_now (w ∷ ws) goes (clear_same other s))))
-
-clear_ready : (other : List ℕ) (bs : List Begun) (a b : Moments) → is_other other ≡ true → AreElsewhere other bs
-    → Goes (IsClear other) a b → Now a (StandsInOrder bs) → Now b (StandsInOrder bs)
-clear_ready other bs [] b is_so elsewhere goes ready = subst (λ n. Now n (StandsInOrder bs)) (sym goes) tt
-clear_ready other bs (s ∷ ss) [] is_so elsewhere goes ready = tt
-clear_ready other bs (s ∷ ss) (w ∷ ws) is_so elsewhere goes ready =
     let clear = since_now (w ∷ ws) goes (clear_same other s) in
-    record {
-      stand = clear_begun other bs s w elsewhere clear ready.stand;
-      own = clear_own other bs s w is_so clear ready.own;
-    }
+    ap Some (fun_ext (clear_view other bs s w is_so elsewhere ready.stand clear))
 
-module _ (b : Begun) (bs : List Begun) (ws new : Moments) (is_so : is_other (string_bytes b.other_name) ≡ true)
-    (plain : is_other (string_bytes b.name) ≡ false) (creates : Creates (string_bytes b.other_name) ws new b.number)
-    (elsewhere : AreElsewhere (string_bytes b.other_name) bs) (ready : Now ws (StandsInOrder bs)) where
-  mid_ready : Now creates.mid (StandsInOrder bs)
-  mid_ready = clear_ready (string_bytes b.other_name) bs ws creates.mid is_so elsewhere creates.clears ready
+module _ (b : Begun) (bs : List Begun) (is_so : is_other (string_bytes b.other_name) ≡ true)
+    (plain : is_other (string_bytes b.name) ≡ false) (none : number_of bs (string_bytes b.name) ≡ None)
+    (elsewhere : AreElsewhere (string_bytes b.other_name) bs) where
+  abbrev other : List ℕ
+  other = string_bytes b.other_name
 
-  pub begin_unseen : shown_files bs new ≡ shown_files bs ws
-  begin_unseen = ap (shown_files bs) creates.did ∙ each creates.mid mid_ready creates.fresh
-      ∙ clear_shown (string_bytes b.other_name) bs ws creates.mid is_so elsewhere ready creates.clears
+  -- what a file that was created shows, before it is added to those that were begun and after that
+  abbrev IsBegun : Moments → Moments → Type 0
+  IsBegun ws new = (shown_files bs new ≡ shown_files bs ws)
+      × (shown_files (bs ++ b ∷ []) new ≡ with_file (shown_files bs ws) (string_bytes b.name) [])
+      × Now new (StandsInOrder (bs ++ b ∷ []))
+
+  pub is_begun : (ws new : Moments) → Now ws (StandsInOrder bs) → Creates other ws new b.number → IsBegun ws new
+  is_begun ws new ready creates = rw creates.did (each ws creates.mid ready creates.clears creates.fresh)
     where
-      each : (m : Moments) → Now m (StandsInOrder bs) → Now m (IsUnused b.number)
-          → shown_files bs (does (created (string_bytes b.other_name) b.number) m) ≡ shown_files bs m
-      each [] ready fresh = refl
-      each (w ∷ ms) ready fresh = ap Some (fun_ext (λ name. unseen_view b w is_so plain fresh bs name ready.stand))
+      each : (ws mid : Moments) → Now ws (StandsInOrder bs) → Goes (IsClear other) ws mid
+          → Now mid (IsUnused b.number) → IsBegun ws (does (created other b.number) mid)
+      each [] mid ready clears fresh = rw clears (refl, refl, tt)
+      each (s ∷ ss) [] ready clears fresh = elim clears [ ]
+      each (s ∷ ss) (w ∷ ws) ready clears fresh =
+          let clear = since_now (w ∷ ws) clears (clear_same other s) in
+          let cleared = clear_ready other bs s w is_so elsewhere clear ready in
+          let unseen : (name : List ℕ) → view bs (created other b.number w) name ≡ view bs s name =
+          λ name. clear_view other bs w (created other b.number w) is_so elsewhere cleared.stand
+          (created_clear other b.number w fresh) name
+          ∙ clear_view other bs s w is_so elsewhere ready.stand clear name in (
+            ap Some (fun_ext unseen),
+            ap Some (fun_ext (λ name. last_view b bs (created other b.number w) name none
+                ∙ rw (unseen name, eq-eqb b.number b.number refl) refl)),
+            last_ready b bs w is_so plain fresh none elsewhere cleared,
+          )
 
-  pub begin_shown : number_of bs (string_bytes b.name) ≡ None → shown_files (bs ++ b ∷ []) new ≡ with_file (shown_files bs ws) (string_bytes b.name) []
-  begin_shown none = ap (shown_files (bs ++ b ∷ [])) creates.did ∙ each creates.mid mid_ready creates.fresh
-      ∙ ap (λ v. with_file v (string_bytes b.name) []) (clear_shown (string_bytes b.other_name) bs ws creates.mid is_so elsewhere ready creates.clears)
-    where
-      each : (m : Moments) → Now m (StandsInOrder bs) → Now m (IsUnused b.number)
-          → shown_files (bs ++ b ∷ []) (does (created (string_bytes b.other_name) b.number) m) ≡ with_file (shown_files bs m) (string_bytes b.name) []
-      each [] ready fresh = refl
-      each (w ∷ ms) ready fresh = ap Some (fun_ext (λ name. begun_view b w is_so plain fresh bs name ready.stand none))
-
-  pub begin_ready : number_of bs (string_bytes b.name) ≡ None → Now new (StandsInOrder (bs ++ b ∷ []))
-  begin_ready none = subst (λ n. Now n (StandsInOrder (bs ++ b ∷ []))) (sym creates.did) (each creates.mid mid_ready creates.fresh)
-    where
-      each : (m : Moments) → Now m (StandsInOrder bs) → Now m (IsUnused b.number)
-          → Now (does (created (string_bytes b.other_name) b.number) m) (StandsInOrder (bs ++ b ∷ []))
-      each [] ready fresh = tt
-      each (w ∷ ms) ready fresh = all_ready b w is_so plain fresh bs ready none elsewhere
-
-pub ok_map : {T E : Type 0} (r : Result T E) (P Q : T → Type 0) → ((x : T) → P x → Q x) → IfOk r P → IfOk r Q
-ok_map (Ok x) P Q f p = f x p
-ok_map (Err e) P Q f p = tt
-
-pub pushed : (ok err : Bool) (xs ys zs : List Begun) → ok ≡ not err → err ≡ false → zs ≡ cond ok ys xs → zs ≡ ys
-pushed ok err xs ys zs is so items = items ∙ ap (λ t. cond t ys xs) (is ∙ ap not so)
-
-pub where_err : {T E : Type 0} (r : Result T E) (P Q : Type 0) → (P → Q) → OnErr r P → OnErr r Q
-where_err (Ok x) P Q f p = tt
-where_err (Err e) P Q f p = f p
-
-pub count_of : (piece : List ℕ) (n : ℕ) → IsCount piece n → IsCountOf piece n
-count_of piece n is = record { some = is.some; at_most = is.at_most }
-
+-- where nothing was begun all stands ready
 pub none_ready : (bs : List Begun) (ws : Moments) → bs ≡ [] → Now ws (StandsInOrder bs)
-none_ready bs ws none = subst (λ l. Now ws (StandsInOrder l)) (sym none) (each ws)
-  where
-    each : (ws : Moments) → Now ws (StandsInOrder [])
-    each [] = tt
-    each (w ∷ ws) = record { stand = tt; own = tt }
+none_ready bs ws none = rw none (now_always ws (λ w. record { stand = tt; own = tt }))
 
--- what is in place is shown_files, where no file was begun under the name
-shown_in_place : (bs : List Begun) (w : FolderMoment) (name : List ℕ) → number_of bs name ≡ None → is_other name ≡ false
-    → option_map (λ i. (w.node i).bytes) (w.at name) ≡ view bs w name
-shown_in_place [] w name none plain = sym (ap (λ o. cond o None (option_map (λ i. (w.node i).bytes) (w.at name))) plain)
-shown_in_place (b ∷ bs) w name none plain = (elim (bytes_eq (string_bytes b.name) name) as (λ t. bytes_eq (string_bytes b.name) name ≡ t
-    → cond t (Some b.number) (number_of bs name) ≡ None → option_map (λ i. (w.node i).bytes) (w.at name) ≡ view (b ∷ bs) w name) [
-      | true ↦ λ e n. absurd (not_none b.number n)
-      | false ↦ λ e n. shown_in_place bs w name n plain
-          ∙ sym (ap (λ t. cond t (Some (w.node b.number).bytes) (view bs w name)) (flip name (string_bytes b.name) ∙ e))
-    ]) refl none
-
+-- what a read gave of a file that wasn't begun is what is shown
 pub taken_shown : (bs : List Begun) (ws : Moments) (name : List ℕ) (at : ℕ) (old new : List ℕ) (given : Option ℕ)
     → number_of bs name ≡ None → is_other name ≡ false → GivesPart ws name at old new given
     → IsTaken (shown_files bs ws) name at old new (taken_of given)
-taken_shown bs [] name at old new None none plain is = (is.0, tt)
-taken_shown bs [] name at old new (Some n) none plain is = (is.0, is.1, tt)
-taken_shown bs (w ∷ ws) name at old new None none plain is =
-    (is.0, subst (λ file. file ≡ None) (shown_in_place bs w name none plain) is.1)
-taken_shown bs (w ∷ ws) name at old new (Some n) none plain is =
-    (is.0, is.1, subst (λ file. IsSomeAnd file (IsPartFrom at (take n new))) (shown_in_place bs w name none plain) is.2)
-
-pub none_of : (o : Option ℕ) → is_some o ≡ false → o ≡ None
-none_of None e = refl
-none_of (Some i) e = absurd (false≢true (sym e))
+taken_shown bs [] name at old new None none plain is = is
+taken_shown bs [] name at old new (Some n) none plain is = is
+taken_shown bs (w ∷ ws) name at old new None none plain is = rw (view_is bs w name, none, plain) is
+taken_shown bs (w ∷ ws) name at old new (Some n) none plain is = rw (view_is bs w name, none, plain) is

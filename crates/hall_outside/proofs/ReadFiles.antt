@@ -1,12 +1,7 @@
 -- What holds of each file that is as it was found.
-use Rattle.std.proofs.Common.{ℕ, ◌+◌, List, Option, Some, None, replicate, refl, arith}
-use Rattle.std.proofs.lemmas.List.{length-replicate}
-use Rattle.std.specs.Prelude.{Result, Ok, Err, ⊤}
-use Rattle.hall_outside.specs.declared.reading.FileFault.{FileFault}
-use Rattle.hall_outside.specs.declared.reading.FileFault.TheVariants.{Absent, TooLong, ReadFault, Memory}
-use Rattle.hall_outside.specs.declared.stores.Store.{Ghosts as StoreGhosts}
-use Rattle.hall_outside.specs.Files.{Files, OnFile}
-use Rattle.hall_outside.specs.ReadFile.{IsFound, OnReadFile}
+use Rattle.hall_outside.proofs.Imports.{arith, Err, FileFault, IsFound, length-replicate, List, Memory, None, Ok}
+use Rattle.hall_outside.proofs.Imports.{OnReadFile, Option, ReadFault, refl, replicate, Result, Some, TooLong, ℕ, ◌+◌}
+use Rattle.hall_outside.specs.declared.{reading.FileFault.TheVariants.Absent, stores.Store.Ghosts as StoreGhosts}
 
 -- some file is as it was found
 pub found_file : (limit : ℕ) (found : Result (List ℕ) FileFault) → (file : Option (List ℕ)) × IsFound limit found file
@@ -16,11 +11,6 @@ found_file limit (Err TooLong) =
     let long = length-replicate {A = ℕ} (limit + 1) 0 in (Some (replicate (limit + 1) 0), omega (arith, long))
 found_file limit (Err ReadFault) = (None, tt)
 found_file limit (Err Memory) = (None, tt)
-
--- nothing is said of the named file
-pub any_file : (files : Option Files) (name : List ℕ) → OnFile files name (λ file. ⊤)
-any_file None name = tt
-any_file (Some files) name = tt
 
 module _ {S : Type 0} (of : StoreGhosts S) (name : List ℕ) (limit : ℕ) where
   -- what follows of any file follows of each as found

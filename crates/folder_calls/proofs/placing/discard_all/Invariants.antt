@@ -1,9 +1,7 @@
-use Rattle.std.proofs.Common.{List, take, drop}
-use Rattle.folder_calls.specs.World.{Goes, Now}
-use Rattle.folder_calls.specs.Placing.{IsFewer, HaveOtherNames}
-use Rattle.folder_calls.specs.Leftovers.{AreGone}
-use Rattle.folder_calls.specs.declared.begun.Begun.{Begun}
 use Rattle.folder_calls.proofs.placing.discard_all.Given as goal
+use Rattle.folder_calls.specs.{Leftovers.AreGone, Placing.HaveOtherNames, Placing.IsFewer, World.Goes, World.Now}
+use Rattle.folder_calls.specs.declared.begun.Begun.{Begun}
+use Rattle.std.proofs.Common.{drop, List, take}
 
 abbrev pub invariant-loop-file : goal.invariant-loop-file
 invariant-loop-file g l =

@@ -1,8 +1,7 @@
-use Rattle.std.proofs.Common.{drop}
-use Rattle.folder_calls.specs.World.{Goes}
-use Rattle.folder_calls.specs.Placing.{IsFlushedMore}
-use Rattle.folder_calls.proofs.Endings.{Flushes}
 use Rattle.folder_calls.proofs.placing.flush_all.Given as goal
+use Rattle.folder_calls.proofs.Endings.{Flushes}
+use Rattle.folder_calls.specs.{Placing.IsFlushedMore, World.Goes}
+use Rattle.std.proofs.Common.{drop}
 
 abbrev pub invariant-loop-file : goal.invariant-loop-file
 invariant-loop-file g l =

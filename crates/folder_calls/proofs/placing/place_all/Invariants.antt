@@ -1,10 +1,8 @@
-use Rattle.std.proofs.Common.{◌≡◌, ◌≤◌, true, take, drop}
-use Rattle.folder_calls.specs.World.{Now}
-use Rattle.folder_calls.specs.Placing.{AreBegun, AreFlushed, StandsReady}
-use Rattle.folder_calls.specs.declared.begun.Begun.{Begun}
-use Rattle.folder_calls.specs.Leftovers.{AreRenamed}
-use Rattle.folder_calls.proofs.Steps.{Completes, CompletesPlaced}
 use Rattle.folder_calls.proofs.placing.place_all.Given as goal
+use Rattle.folder_calls.proofs.Steps.{Completes, CompletesPlaced}
+use Rattle.folder_calls.specs.{Leftovers.AreRenamed, Placing.AreBegun, Placing.AreFlushed, Placing.StandsReady}
+use Rattle.folder_calls.specs.{World.Now, declared.begun.Begun.Begun}
+use Rattle.std.proofs.Common.{drop, take, true, ◌≡◌, ◌≤◌}
 
 -- the files that are left stand ready, and complete what was begun
 abbrev pub invariant-loop-file : goal.invariant-loop-file

@@ -1,18 +1,23 @@
-use Rattle.std.proofs.Common.{take, sym}
-use Rattle.hall_outside.proofs.Begins.{append_shown, append_ready, ok_map, count_of}
+use Rattle.hall_outside.proofs.Imports.{file_appended, IfOk-weaker, longer_by, now_did, StandsInOrder, sym, take, ◌++◌}
+use Rattle.hall_outside.proofs.Begins.{held_ready, hold_view, shown_did, view_of}
 use Rattle.hall_outside.proofs.begun_files.append_to.Goals as goal
 
-pub returns-in-Some-clause-took : goal.returns-in-Some-clause-took
-returns-in-Some-clause-took g c = ok_map c.append.result _ _ (λ n is. count_of c.args.piece.now n is) c.append.ensures.took
-
-pub returns-in-Some-clause-ok : goal.returns-in-Some-clause-ok
-returns-in-Some-clause-ok g c =
-    let moments = g.F.Folder.moments in
-    ok_map c.append.result _ _ (λ n done. append_shown c.args.begun.now (moments c.args.folder.now) (moments c.append.new.self)
-    c.args.name.now c.in-Some.number (take n c.args.piece.now) c.requires.ready (sym c.in-Some.ensures) done) c.append.ensures.ok
-
-pub returns-in-Some-clause-ready : goal.returns-in-Some-clause-ready
-returns-in-Some-clause-ready g c =
-    let moments = g.F.Folder.moments in
-    ok_map c.append.result _ _ (λ n done. append_ready c.args.begun.now (moments c.args.folder.now) (moments c.append.new.self)
-    c.in-Some.number (take n c.args.piece.now) c.requires.ready done) c.append.ensures.ok
+pub returns-in-Some : goal.returns-in-Some
+returns-in-Some g c =
+    let bs = c.args.begun.now in
+    let name = c.args.name.now in
+    let number = c.in-Some.number in
+    let found = sym c.in-Some.ensures in
+    record {
+      took = IfOk-weaker c.append.result _ _ (λ n is. record { some = is.some; at_most = is.at_most })
+          c.append.ensures.took;
+      ok = IfOk-weaker c.append.result _ _ (λ n did. let piece = take n c.args.piece.now in
+          shown_did bs bs (λ files. file_appended files name piece) (longer_by number piece) _ _
+          (λ w ready other. rw (view_of bs w name number found)
+          (hold_view bs w name number ((w.node number).bytes ++ piece) other ready.own found))
+          did c.requires.ready) c.append.ensures.ok;
+      err = c.append.ensures.err;
+      ready = IfOk-weaker c.append.result _ _ (λ n did. now_did (StandsInOrder bs) _ _
+          (λ w. held_ready number ((w.node number).bytes ++ take n c.args.piece.now) w bs) did c.requires.ready)
+          c.append.ensures.ok;
+    }

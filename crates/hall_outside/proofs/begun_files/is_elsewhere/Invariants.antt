@@ -1,5 +1,4 @@
-use Rattle.std.proofs.Common.{drop}
-use Rattle.folder_calls.specs.Asides.{AreElsewhere}
+use Rattle.hall_outside.proofs.Imports.{AreElsewhere, drop}
 use Rattle.hall_outside.proofs.begun_files.is_elsewhere.Given as goal
 
 -- where the rest is elsewhere all are

@@ -1,5 +1,4 @@
-use Rattle.std.proofs.Common.{◌≡◌, drop}
-use Rattle.folder_calls.specs.Placing.{number_of}
+use Rattle.hall_outside.proofs.Imports.{drop, number_of, ◌≡◌}
 use Rattle.hall_outside.proofs.begun_files.number_of.Given as goal
 
 abbrev pub invariant-loop-file : goal.invariant-loop-file

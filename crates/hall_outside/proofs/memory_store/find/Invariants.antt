@@ -1,6 +1,4 @@
-use Rattle.std.proofs.Common.{◌≡◌, ◌+◌, ℕ, drop}
-use Rattle.hall_outside.specs.MemoryStore.{content_of}
-use Rattle.hall_outside.specs.StoreView.{stored, IsPlaceOf}
+use Rattle.hall_outside.proofs.Imports.{content_of, drop, IsPlaceOf, stored, ℕ, ◌+◌, ◌≡◌}
 use Rattle.hall_outside.proofs.memory_store.find.Given as goal
 
 -- what is left has the file where all have it

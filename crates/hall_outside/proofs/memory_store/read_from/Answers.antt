@@ -1,55 +1,34 @@
-use Rattle.std.proofs.Common.{◌≡◌, ◌∙◌, ◌-◌, ℕ, List, ap, sym, arith, length, drop, take, min}
-use Rattle.std.proofs.lemmas.List.{take_rest, length-drop}
-use Rattle.hall_outside.specs.MemoryStore.{content_of}
-use Rattle.hall_outside.specs.StoreView.{stored}
-use Rattle.hall_outside.proofs.FileLists.{some_and, content_is, taken_none, taken_some}
 use Rattle.hall_outside.proofs.memory_store.read_from.Goals as goal
+use Rattle.hall_outside.proofs.{FileLists.content_is, FileLists.taken_none, FileLists.taken_some, Imports.ap}
+use Rattle.hall_outside.proofs.Imports.{arith, content_of, drop, length, length-drop, stored, take, take_rest, ◌∙◌, ◌≡◌}
 
-pub returns-then-at-bytes-clause-taken : goal.returns-then-at-bytes-clause-taken
-returns-then-at-bytes-clause-taken c =
-    let same : c.as_slice-bytes.result.now ≡ c.index-files-place.result.bytes.items = c.as_slice-bytes.ensures.value
-    ∙ ap (λ file. file.bytes.items) (sym c.index-files-place.is) in
-    taken_none (content_of (stored c.args.files.now)) c.args.name.now c.index-files-place.result.bytes.items
-    c.args.into.now c.args.at
-    (content_is c.args.files.now c.args.name.now c.in-Some.place c.index-files-place.result c.in-Some.ensures.found
-    c.index-files-place.is)
-    (omega (arith, ap length same))
+pub returns-then-at-bytes : goal.returns-then-at-bytes
+returns-then-at-bytes c =
+    let file = c.index-files-place.result in
+    let content = content_is c.args.files.now c.args.name.now c.in-Some.place file c.in-Some.ensures.found
+    c.index-files-place.is in
+    let same : c.as_slice-bytes.result.now ≡ file.bytes.items =
+    rw c.index-files-place.is c.as_slice-bytes.ensures.value in
+    record {
+      taken = taken_none (content_of (stored c.args.files.now)) c.args.name.now file.bytes.items c.args.into.now
+          c.args.at content (omega (arith, ap length same));
+      most = rw content (omega (arith, ap length same));
+    }
 
-pub returns-clause-taken : goal.returns-clause-taken
-returns-clause-taken c =
-    let bytes : List ℕ = c.as_slice-bytes.result.now in
-    let same : bytes ≡ c.index-files-place.result.bytes.items = c.as_slice-bytes.ensures.value
-    ∙ ap (λ file. file.bytes.items) (sym c.index-files-place.is) in
-    let rest : take (length bytes - c.args.at)
-    (drop c.args.at bytes) ≡ drop c.args.at bytes = take_rest bytes c.args.at in
-    taken_some (content_of (stored c.args.files.now)) c.args.name.now c.index-files-place.result.bytes.items
-    c.args.into.now c.copy_from_slice.new.self c.args.at c.args.room c.min-count.result
-    (content_is c.args.files.now c.args.name.now c.in-Some.place c.index-files-place.result c.in-Some.ensures.found
-    c.index-files-place.is)
-    (omega (arith, ap length same))
-    (omega (arith, c.min-count.ensures, ap length rest, length-drop c.args.at bytes, ap length same)) c.requires.some
-    c.requires.fits
-    (c.copy_from_slice.ensures.after ∙ ap (take c.min-count.result) (rest ∙ ap (drop c.args.at) same))
-
-pub returns-then-at-bytes-clause-most : goal.returns-then-at-bytes-clause-most
-returns-then-at-bytes-clause-most c =
-    let same : c.as_slice-bytes.result.now ≡ c.index-files-place.result.bytes.items = c.as_slice-bytes.ensures.value
-    ∙ ap (λ file. file.bytes.items) (sym c.index-files-place.is) in
-    some_and _ c.index-files-place.result.bytes.items
-    (λ bytes. 0 ≡ min (length bytes - c.args.at) c.args.room)
-    (content_is c.args.files.now c.args.name.now c.in-Some.place c.index-files-place.result c.in-Some.ensures.found
-    c.index-files-place.is)
-    (omega (arith, ap length same))
-
-pub returns-clause-most : goal.returns-clause-most
-returns-clause-most c =
-    let bytes : List ℕ = c.as_slice-bytes.result.now in
-    let same : bytes ≡ c.index-files-place.result.bytes.items = c.as_slice-bytes.ensures.value
-    ∙ ap (λ file. file.bytes.items) (sym c.index-files-place.is) in
-    let rest : take (length bytes - c.args.at)
-    (drop c.args.at bytes) ≡ drop c.args.at bytes = take_rest bytes c.args.at in
-    some_and _ c.index-files-place.result.bytes.items
-    (λ b. c.min-count.result ≡ min (length b - c.args.at) c.args.room)
-    (content_is c.args.files.now c.args.name.now c.in-Some.place c.index-files-place.result c.in-Some.ensures.found
-    c.index-files-place.is)
-    (omega (arith, c.min-count.ensures, ap length rest, length-drop c.args.at bytes, ap length same))
+pub returns : goal.returns
+returns c =
+    let file = c.index-files-place.result in
+    let bytes = c.as_slice-bytes.result.now in
+    let content = content_is c.args.files.now c.args.name.now c.in-Some.place file c.in-Some.ensures.found
+    c.index-files-place.is in
+    let same : bytes ≡ file.bytes.items = rw c.index-files-place.is c.as_slice-bytes.ensures.value in
+    let rest = take_rest bytes c.args.at in
+    let count = c.min-count.ensures in
+    let long = length-drop c.args.at bytes in
+    record {
+      taken = taken_some (content_of (stored c.args.files.now)) c.args.name.now file.bytes.items c.args.into.now
+          c.copy_from_slice.new.self c.args.at c.args.room c.min-count.result content (omega (arith, ap length same))
+          (omega (arith, count, ap length rest, long, ap length same)) c.requires.some c.requires.fits
+          (c.copy_from_slice.ensures.after ∙ ap (take c.min-count.result) (rest ∙ ap (drop c.args.at) same));
+      most = rw content (omega (arith, count, ap length rest, long, ap length same));
+    }

@@ -1,5 +1,4 @@
-use Rattle.std.proofs.Common.{drop}
-use Rattle.hall_outside.specs.LookingBack.{AreUnchanged}
+use Rattle.hall_outside.proofs.Imports.{AreUnchanged, drop}
 use Rattle.hall_outside.proofs.read_files.are_as_read.Given as goal
 
 -- where the rest is as it was read all are

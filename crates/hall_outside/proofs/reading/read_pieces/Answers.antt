@@ -1,155 +1,101 @@
-use Rattle.std.proofs.Common.{◌≡◌, ◌∙◌, ◌+◌, ◌<◌, ◌≤◌, ◌++◌, ℕ, List, length, take, ap, arith, subst, sym, inl, inr}
-use Rattle.std.proofs.Common.{refl}
-use Rattle.std.proofs.Common.{length-append}
-use Rattle.std.proofs.lemmas.List.{length-take-le}
-use Rattle.std.specs.Prelude.{Ok, Err}
-use Rattle.hall_outside.specs.declared.stores.Taken.{Taken}
-use Rattle.hall_outside.specs.declared.stores.Taken.TheVariants.{Absent, Bytes}
-use Rattle.hall_outside.specs.Counts.{raised}
+use Rattle.hall_outside.proofs.Imports.{ap, arith, Bytes, ends, Err, goes_on, inl, inr, length, length-append}
+use Rattle.hall_outside.proofs.Imports.{length-take-le, Ok, refl, take, take_at, ◌++◌, ◌+◌, ◌<◌, ◌∙◌, ◌≡◌}
+use Rattle.hall_outside.proofs.Fronts.{any_file, from_both, front_more, long_front, whole_front}
+use Rattle.hall_outside.proofs.Offers.{unrisen}
+use Rattle.hall_outside.specs.declared.stores.Taken.TheVariants.{Absent}
 use Rattle.hall_outside.specs.declared.reading.FileFault.TheVariants as fault
-use Rattle.hall_outside.specs.Reading.{Answered, counted}
-use Rattle.hall_outside.proofs.Offers.{raised_twice, unrisen}
-use Rattle.hall_outside.proofs.Pieces.{last_read, read_on}
-use Rattle.hall_outside.proofs.ReadFiles.{any_file}
-use Rattle.hall_outside.proofs.Fronts.{read_long, read_more, read_whole, taken_absent, taken_part, taken_fits}
-use Rattle.hall_outside.proofs.Fronts.{written_back}
 use Rattle.hall_outside.proofs.reading.read_pieces.Goals as goal
 
 pub returns-in-Ok-Bytes-eq0-clause-ok : goal.returns-in-Ok-Bytes-eq0-clause-ok
 returns-in-Ok-Bytes-eq0-clause-ok g c =
-    let store = g.S.Store in
     let arm = c.in-Ok-Bytes-eq0 in
-    let bytes : List ℕ = c.loop-piece.invariant.bytes in
-    let whole = read_whole (store.files c.args.store.now) c.args.name.now bytes c.loop-piece.invariant.front
-    (taken_part (store.files c.loop-piece.store) (store.files c.args.store.now) c.args.name.now bytes
-    c.as_mut_slice.result.now c.read_at.new.into c.loop-piece.done 0 arm.field-0 arm.ensures.taken
-    c.loop-piece.invariant.files c.loop-piece.invariant.long (arm.field-0-is ∙ ap Bytes arm.field-0-0-test)) in (
-      bytes,
-      omega (arith, c.loop-piece.invariant.long, c.loop-piece.invariant.fits),
+    let before = c.loop-piece.invariant in
+    let size : length c.as_mut_slice.result.now ≡ 65536 = omega (arith, ap length c.as_mut_slice.ensures.value) in
+    let taken = rw (arm.field-0-is, arm.field-0-0-test, before.files, before.long) at arm.ensures.taken in
+    let step = rw (before.long, size, arm.field-0-is, arm.field-0-0-test) at arm.ensures.step in (
+      before.bytes,
+      omega (arith, before.long, before.fits),
       record {
-        pieces = c.loop-piece.invariant.pieces (Ok bytes) c.read_at.new.self
-            (last_read (store.reads c.args.name.now) c.args.limit bytes c.read_at.new.into c.loop-piece.done
-            (length c.as_mut_slice.result.now) c.loop-piece.store c.read_at.new.self (Ok arm.field-0)
-            (Ok (Bytes arm.field-0-0)) (Ok bytes) c.loop-piece.invariant.long
-            (omega (arith, ap length c.as_mut_slice.ensures.value, c.loop-piece.piece.ok.0, c.loop-piece.invariant.piece))
-            arm.ensures.step (ap (λ (t : Taken). Ok t) arm.field-0-is) (inl (arm.field-0-0-test, refl)));
-        exposed = whole;
-        unchanged = arm.ensures.files ∙ c.loop-piece.invariant.files;
+        pieces = before.pieces (Ok before.bytes) _ (ends _ _ _ (Ok (Bytes 0)) _ _ step (inl (refl, refl)));
+        exposed = from_both (g.S.Store.files c.args.store.now) c.args.name.now (whole_front before.bytes) before.front
+            taken.2;
+        unchanged = arm.ensures.files ∙ before.files;
       },
-      c.loop-piece.invariant.takes,
+      before.takes,
     )
 
 pub loop-piece-preserved : goal.loop-piece-preserved
 loop-piece-preserved g c =
-    let store = g.S.Store in
     let arm = c.in-Ok-Bytes in
-    let bytes : List ℕ = c.loop-piece.invariant.bytes in
-    let buffer : List ℕ = c.as_mut_slice.result.now in
-    let filled : List ℕ = c.read_at.new.into in
-    let count : ℕ = arm.count in
-    let at : ℕ = c.loop-piece.done in
-    let long : at ≡ length bytes = c.loop-piece.invariant.long in
-    let whole : length filled ≡ c.loop-piece.piece.len = omega
-    (arith, ap length c.as_mut_slice.ensures.value, c.loop-piece.piece.ok.0) in
-    let part : take count c.deref.result.now ≡ take count filled =
-    ap (take count) (c.deref.ensures.value
-    ∙ written_back c.loop-piece.piece.items filled c.loop-piece.piece.len whole) in
-    let fits : count ≤ length filled = omega (
-      arith,
-      c.read_at.auto.into,
-      taken_fits (store.files c.loop-piece.store) c.args.name.now buffer filled at count arm.field-0 arm.ensures.taken
-          arm.field-0-is,
-    ) in
-    let answered : store.answered c.read_at.new.self ≡ counted (store.answered c.loop-piece.store) (Ok (Bytes count)) =
-    arm.ensures.answered ∙ ap (λ (t : Taken). counted (store.answered c.loop-piece.store) (Ok t)) arm.field-0-is in
-    let P : List ℕ → Type 0 = λ bs. g.T.TakePieces.takes c.args.into.now (bytes ++ bs) c.take_piece.new.self in
+    let before = c.loop-piece.invariant in
+    let filled = c.read_at.new.into in
+    let part = take arm.count filled in
+    let size : length c.as_mut_slice.result.now ≡ 65536 = omega (arith, ap length c.as_mut_slice.ensures.value) in
+    let whole : length filled ≡ c.loop-piece.piece.len = omega (arith, ap length c.as_mut_slice.ensures.value) in
+    let given : take arm.count c.deref.result.now ≡ part =
+    rw c.deref.ensures.value (ap (take arm.count) (take_at filled _ c.loop-piece.piece.len whole)) in
+    let taken = rw (arm.field-0-is, before.files, before.long) at arm.ensures.taken in
+    let step = rw (before.long, size, arm.field-0-is) at arm.ensures.step in
+    let answered = rw arm.field-0-is at arm.ensures.answered in
+    let long : length part ≡ arm.count =
+    length-take-le arm.count filled (omega (arith, c.read_at.auto.into, taken.0)) in
     record {
-      bytes = bytes ++ take count filled;
-      long = omega (arith, long, length-append bytes (take count filled), length-take-le count filled fits);
-      takes = subst P part (c.in_ok-take_piece-in-Ok-Bytes.ensures c.args.into.now bytes c.loop-piece.invariant.takes);
-      most = c.loop-piece.invariant.most;
-      front = read_more (store.files c.args.store.now) c.args.name.now bytes
-          (take count filled) c.loop-piece.invariant.front
-          (taken_part (store.files c.loop-piece.store)
-          (store.files c.args.store.now) c.args.name.now bytes buffer filled at count arm.field-0
-          arm.ensures.taken c.loop-piece.invariant.files long arm.field-0-is);
-      fits = omega (arith, c.if-count-limit.false, c.loop-piece.invariant.fits);
-      piece = c.loop-piece.invariant.piece;
-      files = arm.ensures.files ∙ c.loop-piece.invariant.files;
-      absences = ap (λ (a : Answered). a.absences) answered ∙ c.loop-piece.invariant.absences;
-      given = ap (λ (a : Answered). a.bytes) answered ∙ ap (λ b. raised b count) c.loop-piece.invariant.given
-          ∙ raised_twice (store.answered c.args.store.now).bytes at count;
-      read_faults = unrisen _ _ arm.ensures.cause ∙ c.loop-piece.invariant.read_faults;
-      write_faults = arm.ensures.write_faults ∙ c.loop-piece.invariant.write_faults;
-      pieces = λ found end more. c.loop-piece.invariant.pieces found end
-          (read_on (store.reads c.args.name.now) c.args.limit bytes filled at (length buffer) (take count filled) count
-          arm.field-0 c.loop-piece.store c.read_at.new.self end found long (omega (
-            arith,
-            ap length c.as_mut_slice.ensures.value,
-            c.loop-piece.piece.ok.0,
-            c.loop-piece.invariant.piece,
-          )) arm.ensures.step arm.field-0-is (sym (length-take-le count filled fits)) refl more);
+      bytes = before.bytes ++ part;
+      long = omega (arith, before.long, length-append before.bytes part, long);
+      takes = rw given at (c.in_ok-take_piece-in-Ok-Bytes.ensures c.args.into.now before.bytes before.takes);
+      most = before.most;
+      front = from_both (g.S.Store.files c.args.store.now) c.args.name.now (front_more before.bytes part) before.front
+          taken.2;
+      fits = omega (arith, c.if-count-limit.false, before.fits);
+      piece = before.piece;
+      files = arm.ensures.files ∙ before.files;
+      absences = rw answered before.absences;
+      given = rw (answered, before.given) (omega arith);
+      read_faults = unrisen _ _ arm.ensures.cause ∙ before.read_faults;
+      write_faults = arm.ensures.write_faults ∙ before.write_faults;
+      pieces = λ found end more. before.pieces found end (goes_on _ part _ _ _ _ (rw long step) more);
     }
 
 pub returns-in-Ok-Absent-clause-err : goal.returns-in-Ok-Absent-clause-err
 returns-in-Ok-Absent-clause-err g c not_memory =
-    let store = g.S.Store in
     let arm = c.in-Ok-Absent in
+    let before = c.loop-piece.invariant in
+    let size : length c.as_mut_slice.result.now ≡ 65536 = omega (arith, ap length c.as_mut_slice.ensures.value) in
+    let step = rw (before.long, size, arm.field-0-is) at arm.ensures.step in
+    let taken = rw (arm.field-0-is, before.files) at arm.ensures.taken in
     record {
-      pieces = c.loop-piece.invariant.pieces (Err fault.Absent) c.read_at.new.self
-          (last_read (store.reads c.args.name.now) c.args.limit c.loop-piece.invariant.bytes c.read_at.new.into
-          c.loop-piece.done (length c.as_mut_slice.result.now) c.loop-piece.store c.read_at.new.self
-          (Ok arm.field-0) (Ok Absent) (Err fault.Absent) c.loop-piece.invariant.long
-          (omega (arith, ap length c.as_mut_slice.ensures.value, c.loop-piece.piece.ok.0, c.loop-piece.invariant.piece))
-          arm.ensures.step (ap (λ (t : Taken). Ok t) arm.field-0-is) refl);
-      exposed = taken_absent (store.files c.loop-piece.store) (store.files c.args.store.now) c.args.name.now
-          c.as_mut_slice.result.now c.read_at.new.into c.loop-piece.done arm.field-0 arm.ensures.taken
-          c.loop-piece.invariant.files arm.field-0-is;
-      unchanged = arm.ensures.files ∙ c.loop-piece.invariant.files;
+      pieces = before.pieces (Err fault.Absent) _ (ends _ _ _ (Ok Absent) _ _ step refl);
+      exposed = taken.1;
+      unchanged = arm.ensures.files ∙ before.files;
     }
 
 pub returns-then-count-limit-clause-err : goal.returns-then-count-limit-clause-err
 returns-then-count-limit-clause-err g c not_memory =
-    let store = g.S.Store in
     let arm = c.in-Ok-Bytes in
-    let bytes : List ℕ = c.loop-piece.invariant.bytes in
-    let buffer : List ℕ = c.as_mut_slice.result.now in
-    let filled : List ℕ = c.read_at.new.into in
-    let size : length buffer ≡ 65536 =
-    omega (arith, ap length c.as_mut_slice.ensures.value, c.loop-piece.piece.ok.0, c.loop-piece.invariant.piece) in
-    let long : c.loop-piece.done ≡ length bytes = c.loop-piece.invariant.long in
-    let over : c.args.limit < length bytes + arm.count =
-    omega (arith, c.if-count-limit.true, c.loop-piece.invariant.fits, long) in
-    let fits : arm.count ≤ length filled = omega (
-      arith,
-      c.read_at.auto.into,
-      taken_fits (store.files c.loop-piece.store) c.args.name.now buffer filled c.loop-piece.done arm.count arm.field-0
-          arm.ensures.taken arm.field-0-is,
-    ) in
+    let before = c.loop-piece.invariant in
+    let filled = c.read_at.new.into in
+    let size : length c.as_mut_slice.result.now ≡ 65536 = omega (arith, ap length c.as_mut_slice.ensures.value) in
+    let over : c.args.limit < length before.bytes + arm.count =
+    omega (arith, c.if-count-limit.true, before.fits, before.long) in
+    let taken = rw (arm.field-0-is, before.files, before.long) at arm.ensures.taken in
+    let step = rw (before.long, size, arm.field-0-is) at arm.ensures.step in
+    let long : length (take arm.count filled) ≡ arm.count =
+    length-take-le arm.count filled (omega (arith, c.read_at.auto.into, taken.0)) in
     record {
-      pieces = c.loop-piece.invariant.pieces (Err fault.TooLong) c.read_at.new.self
-          (last_read (store.reads c.args.name.now) c.args.limit bytes filled c.loop-piece.done (length buffer)
-          c.loop-piece.store c.read_at.new.self (Ok arm.field-0) (Ok (Bytes arm.count)) (Err fault.TooLong) long size
-          arm.ensures.step (ap (λ (t : Taken). Ok t) arm.field-0-is) (inr (over, refl)));
-      exposed = read_long (store.files c.args.store.now) c.args.name.now bytes (take arm.count filled) c.args.limit
-          c.loop-piece.invariant.front
-          (taken_part (store.files c.loop-piece.store) (store.files c.args.store.now) c.args.name.now bytes buffer
-          filled c.loop-piece.done arm.count arm.field-0 arm.ensures.taken c.loop-piece.invariant.files long
-          arm.field-0-is)
-          (omega (arith, over, length-take-le arm.count filled fits));
-      unchanged = arm.ensures.files ∙ c.loop-piece.invariant.files;
+      pieces = before.pieces (Err fault.TooLong) _ (ends _ _ _ (Ok (Bytes arm.count)) _ _ step (inr (over, refl)));
+      exposed = from_both (g.S.Store.files c.args.store.now) c.args.name.now
+          (long_front before.bytes (take arm.count filled) c.args.limit (omega (arith, over, long))) before.front
+          taken.2;
+      unchanged = arm.ensures.files ∙ before.files;
     }
 
 pub returns-in-Err-clause-err : goal.returns-in-Err-clause-err
 returns-in-Err-clause-err g c not_memory =
-    let store = g.S.Store in
+    let before = c.loop-piece.invariant in
+    let size : length c.as_mut_slice.result.now ≡ 65536 = omega (arith, ap length c.as_mut_slice.ensures.value) in
+    let step = rw (before.long, size) at c.in-Err.ensures.step in
     record {
-      pieces = c.loop-piece.invariant.pieces (Err fault.ReadFault) c.read_at.new.self
-          (last_read (store.reads c.args.name.now) c.args.limit c.loop-piece.invariant.bytes c.read_at.new.into
-          c.loop-piece.done (length c.as_mut_slice.result.now) c.loop-piece.store c.read_at.new.self
-          (Err c.in-Err.field-0) (Err c.in-Err.field-0) (Err fault.ReadFault) c.loop-piece.invariant.long
-          (omega (arith, ap length c.as_mut_slice.ensures.value, c.loop-piece.piece.ok.0, c.loop-piece.invariant.piece))
-          c.in-Err.ensures.step refl refl);
-      exposed = any_file (store.files c.args.store.now) c.args.name.now;
-      unchanged = c.in-Err.ensures.files ∙ c.loop-piece.invariant.files;
+      pieces = before.pieces (Err fault.ReadFault) _ (ends _ _ _ (Err c.in-Err.field-0) _ _ step refl);
+      exposed = any_file (g.S.Store.files c.args.store.now) c.args.name.now (λ file. tt);
+      unchanged = c.in-Err.ensures.files ∙ before.files;
     }

@@ -1,8 +1,5 @@
-use Rattle.std.proofs.Common.{◌≡◌, ◌-◌, ◌≤◌, ℕ, List, length, vec_len}
-use Rattle.hall_outside.specs.Counts.{raised}
-use Rattle.hall_outside.specs.Files.{OnFile}
-use Rattle.hall_outside.proofs.Fronts.{IsFront}
-use Rattle.hall_outside.proofs.Pieces.{GoesOn}
+use Rattle.hall_outside.proofs.Imports.{length, List, OnFile, raised, vec_len, ℕ, ◌-◌, ◌≡◌, ◌≤◌}
+use Rattle.hall_outside.proofs.Fronts.{GoesOn, IsFront}
 use Rattle.hall_outside.proofs.reading.read_pieces.Given as goal
 
 -- the bytes so far were taken and are within the limit, and where files are exposed they are the

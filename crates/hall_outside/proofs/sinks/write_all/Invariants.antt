@@ -1,5 +1,4 @@
-use Rattle.std.proofs.Common.{◌≡◌, ◌-◌, ◌≤◌, length, take, drop}
-use Rattle.hall_outside.specs.Writing.{appended}
+use Rattle.hall_outside.proofs.Imports.{appended, drop, length, take, ◌-◌, ◌≡◌, ◌≤◌}
 use Rattle.hall_outside.proofs.Offers.{Continues}
 use Rattle.hall_outside.proofs.sinks.write_all.Given as goal
 

@@ -1,5 +1,4 @@
-use Rattle.std.proofs.Common.{◌≡◌, ◌-◌, ◌≤◌, length, take, drop}
-use Rattle.hall_outside.specs.Files.{with_file}
+use Rattle.hall_outside.proofs.Imports.{drop, length, take, with_file, ◌-◌, ◌≡◌, ◌≤◌}
 use Rattle.hall_outside.proofs.Offers.{Creates}
 use Rattle.hall_outside.proofs.stores.put_file.Given as goal
 
