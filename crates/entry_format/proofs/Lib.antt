@@ -5,6 +5,5 @@ pub mod OneEntry
 pub mod Forms
 pub mod Keys
 pub mod Limits
-pub mod Signatures
 pub mod Unsealings
 pub mod Fillers

@@ -2,4 +2,4 @@ use Rattle.entry_format.proofs.Unsealings.{one_unsealing}
 use Rattle.entry_format.proofs.laws.one_unsealing_is_right.Goals as goal
 
 pub returns : goal.returns
-returns c = λ machines election text answer other is also. one_unsealing machines election text answer other is also
+returns c = one_unsealing

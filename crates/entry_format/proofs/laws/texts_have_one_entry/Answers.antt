@@ -2,4 +2,4 @@ use Rattle.entry_format.proofs.OneEntry.{one_entry}
 use Rattle.entry_format.proofs.laws.texts_have_one_entry.Goals as goal
 
 pub returns : goal.returns
-returns c = λ text entry other signature another form also. one_entry text entry other signature another form also
+returns c = one_entry

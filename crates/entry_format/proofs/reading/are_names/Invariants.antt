@@ -1,5 +1,4 @@
-use Rattle.entry_format.proofs.Imports.{◌≡◌, List, ℕ, map, All, Atom, count_of, joined, forest_of, IsDigest}
-use Rattle.canonical_sexp.specs.declared.sexp.Sexp.TheVariants.{List as Branch}
+use Rattle.entry_format.proofs.Imports.{All, Atom, Branch, count_of, forest_of, IsDigest, joined, List, map, ℕ, ◌≡◌}
 use Rattle.entry_format.proofs.reading.are_names.Given as goal
 
 -- the members so far are digests

@@ -1,5 +1,4 @@
-use Rattle.entry_format.proofs.Imports.{◌≡◌, map, All, Atom, count_of, joined, forest_of, IsDigest}
-use Rattle.canonical_sexp.specs.declared.sexp.Sexp.TheVariants.{List as Branch}
+use Rattle.entry_format.proofs.Imports.{All, Atom, Branch, count_of, forest_of, IsDigest, joined, map, ◌≡◌}
 use Rattle.entry_format.proofs.reading.names_of.Given as goal
 
 -- the digests of the members so far, and the members that are left

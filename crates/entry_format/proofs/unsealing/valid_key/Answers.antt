@@ -1,6 +1,5 @@
-use Rattle.std.proofs.Common.{◌<◌, length}
-use Rattle.entry_format.proofs.Imports.{◌≡◌, refl, sym, true≢false, rules, arith, text_of, body_tree, key_at}
-use Rattle.entry_format.proofs.Keys.{key_is, signs_same}
+use Rattle.entry_format.proofs.Imports.{arith, length, refl, rules, ◌<◌, ◌≡◌}
+use Rattle.entry_format.proofs.Keys.{key_is}
 use Rattle.entry_format.proofs.unsealing.valid_key.Goals as goal
 
 -- the signature doesn't verify
@@ -14,8 +13,7 @@ returns-then-not-is_signed-clause-err c =
       election,
       maker,
       c.if-not-has_index.ensures.0 refl,
-      λ signs. true≢false (sym (c.if-not-is_signed.ensures.1 (signs_same (key_at machines entry.maker) _
-          (text_of (body_tree entry)) _ c.args.signature.now (sym key) (sym c.requires) signs))),
+      λ signs. let never = c.if-not-is_signed.ensures.1 (rw (key, c.requires) signs) in cc,
     )
 
 pub returns-clause-ok : goal.returns-clause-ok
@@ -29,5 +27,5 @@ returns-clause-ok c =
       maker = maker;
       of_maker = key_is machines entry.maker c.index-machines-maker.result maker;
       index = c.if-not-has_index.ensures.0 refl;
-      signs = signs_same _ _ _ _ c.args.signature.now refl c.requires (c.if-not-is_signed.ensures.0 refl);
+      signs = rw c.requires at (c.if-not-is_signed.ensures.0 refl);
     }

@@ -1,4 +1,5 @@
-use Rattle.entry_format.proofs.Imports.{◌≡◌, map, take, All, Atom, members_of, IsDigest}
+use Rattle.entry_format.proofs.Imports.{All, Atom, IsDigest, map, take, ◌≡◌}
+use Rattle.canonical_sexp.specs.Sexp.{members_of}
 use Rattle.entry_format.proofs.writing.tree_of_names.Given as goal
 
 -- the trees of the digests so far
