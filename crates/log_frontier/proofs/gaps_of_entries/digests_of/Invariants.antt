@@ -1,4 +1,4 @@
-use Rattle.std.proofs.Common.{◌≡◌, map, take}
+use Rattle.log_frontier.proofs.Imports.{map, take, ◌≡◌}
 use Rattle.log_frontier.proofs.gaps_of_entries.digests_of.Given as goal
 
 -- the digests of the entries so far

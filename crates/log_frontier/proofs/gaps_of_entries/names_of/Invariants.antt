@@ -1,5 +1,4 @@
-use Rattle.std.proofs.Common.{◌≡◌, take}
-use Rattle.std.specs.List.{flat_map}
+use Rattle.log_frontier.proofs.Imports.{flat_map, take, ◌≡◌}
 use Rattle.log_frontier.proofs.gaps_of_entries.names_of.Given as goal
 
 -- the names of the entries so far

@@ -1,5 +1,4 @@
-use Rattle.std.proofs.Common.{take}
-use Rattle.log_frontier.specs.inside.Without.{IsWithout}
+use Rattle.log_frontier.proofs.Imports.{IsWithout, take}
 use Rattle.log_frontier.proofs.gaps_of_entries.without.Given as goal
 
 -- what is found is the digests so far without those that an entry has
