@@ -1,30 +1,24 @@
 -- The script of a day, session by session, and its limits.
-use Rattle.election_script.proofs.Imports.{◌==◌, filter, ◌≡◌, ℕ, ◌+◌, ◌-◌, ◌<◌, ◌≤◌, Bool, true, false, List, [], ◌∷◌}
-use Rattle.election_script.proofs.Imports.{◌++◌, length, map, reverse, replicate, get_or, take, suc, refl, sym, ◌∙◌, ap}
-use Rattle.election_script.proofs.Imports.{arith, append-nil, map-append, concat-append, flat_map-append, filter-append}
-use Rattle.election_script.proofs.Imports.{flat_map, concat, range_with_len, supervisor, session_booth, deeds_of}
-use Rattle.election_script.proofs.Imports.{actions_of, count_actions, hears, session_steps, Step, Act, Cast0}
-use Rattle.election_script.proofs.Imports.{append_assoc, subst, eq-eqb, cond, inl, inr, zero, ◌*◌, ◌%◌, set, add-zero}
-use Rattle.election_script.proofs.Imports.{ne_eqb, cases_eq, cases_Bool, Deed, length-append, cond_both, ◌≢◌}
-use Rattle.election_script.proofs.Imports.{length-map, length-range_with_len, get_or-range_with_len, All-nil, All-cons}
-use Rattle.election_script.proofs.Imports.{All-append, All-map, All-filter, AllPairs-cons, All, codes, byte_at, IsBytes}
-use Rattle.election_script.proofs.Imports.{Opened, Closed, Activate, Commit, Cast, Cancel, IsDeedOf, IsDigest, IsDeedIn}
-use Rattle.election_script.proofs.Imports.{u32str, Role, Supervisor, Booth, IsName, AreCast, IsCast, IsBoothAt}
-use Rattle.election_script.proofs.Imports.{IsDeedAmong, IsSession, max_actions, sessions, authorise_of}
-use Rattle.election_script.proofs.Imports.{All-from_recursion, All-replicate, bytes_eq, bytes_eq-Decides, All-weaker}
-use Rattle.election_script.proofs.Imports.{AllPass-from_list_all, is_name_word, not, Hear, IsStep, max_steps}
-use Rattle.election_script.proofs.Imports.{count_by-le-length, StopAt, IsLawful, IsLose, IsStopAt, ltb-true, nat_lt}
-use Rattle.std.proofs.lemmas.Bool.Decides.{nat_tests, not_from_Decides}
-use Rattle.std.proofs.lemmas.List.{reverse-append, get_or-set_same, get_or-set_other, length-replicate, length-reverse}
-use Rattle.std.proofs.lemmas.List.{replicate_more, get_or-reverse}
+use Rattle.election_script.proofs.Imports
+use Imports.{[], Act, actions_of, Activate, All, All-append, All-cons, All-filter, All-from_recursion, All-map, All-nil}
+use Imports.{All-replicate, AllPass-from_list_all, ap, append-nil, append_assoc, AreCast, arith, authorise_of, Bool}
+use Imports.{Booth, Cancel, cases_eq, Cast, Cast0, Closed, codes, Commit, concat, concat-append, cond, cond_both}
+use Imports.{count_actions, count_by-le-length, Deed, deeds_of, eq-eqb, eqb-true, false, filter, filter-append}
+use Imports.{flat_map, flat_map-append, get_or, get_or-range_with_len, Hear, hears, inl, inr, is_name_word, IsBoothAt}
+use Imports.{IsBytes, IsCast, IsDeedAmong, IsDeedIn, IsDeedOf, IsDigest, IsLawful, IsLose, IsSession, IsStep, IsStopAt}
+use Imports.{length, length-append, length-map, length-range_with_len, List, ltb-true, map, map-append, max_actions}
+use Imports.{max_steps, nat_lt, ne_eqb, not, Opened, range_with_len, refl, replicate, reverse, Role, session_booth}
+use Imports.{session_steps, sessions, set, Step, StopAt, subst, suc, Supervisor, supervisor, sym, take, true, u32str}
+use Imports.{zero, ℕ, ◌%◌, ◌*◌, ◌++◌, ◌+◌, ◌-◌, ◌<◌, ◌==◌, ◌∙◌, ◌∷◌, ◌≡◌, ◌≤◌}
+use Rattle.election_script.proofs.{Named.name_test, Parts.all_pieces, Parts.no_pairs}
+use Rattle.election_script.specs.Generated.{booths, day_steps, first_number, generated, machines_of, numbers_of, others}
+use Rattle.election_script.specs.Generated.{session_ballot, supervisor_actions, supervisor_steps}
 use Rattle.lms_ots.proofs.Pieces.{range_with_len_next}
-use Rattle.election_script.specs.Generated.{first_number, supervisor_steps, others, session_ballot, supervisor_actions}
-use Rattle.election_script.specs.Generated.{machines_of, booths, numbers_of, day_steps, generated}
-use Rattle.std.proofs.lemmas.List.Folds.{length-flat_map-take}
-use Rattle.election_script.proofs.Parts.{no_pairs}
-use Rattle.election_script.proofs.Named.{name_test}
-use Rattle.std.proofs.lemmas.List.Sums.{sum_by-le, length-filter}
-use Rattle.std.proofs.lemmas.List.Concat.{length-flat_map}
+use Rattle.std.proofs.lemmas.List.{get_or-set_other, get_or-set_same, length-replicate, length-reverse}
+use Rattle.std.proofs.lemmas.Bool.{agree_below_at}
+use Rattle.std.proofs.lemmas.List.Sorted.{All-permutation, IsPermutation-reverse}
+use Rattle.std.proofs.lemmas.{List.replicate_more, List.reverse-append, List.Concat.length-flat_map}
+use Rattle.std.proofs.lemmas.{List.Folds.length-flat_map-take, List.Sums.length-filter, List.Sums.sum_by-le}
 
 -- ---- one session more of a day
 
@@ -34,14 +28,6 @@ range_more a i h =
     let more : i + 1 - a ≡ i - a + 1 = omega arith in
     let at : a + (i - a) ≡ i = omega arith in
     rw (more, range_with_len_next a (i - a), at) refl
-
--- numbers up to an end, with one more in front
-pub range_less : (number end : ℕ) → 1 ≤ number → number ≤ end
-    → range_with_len (number - 1) (end - (number - 1)) ≡ (number - 1) ∷ range_with_len number (end - number)
-range_less number end h g =
-    let more : end - (number - 1) ≡ suc (end - number) = omega arith in
-    let at : number - 1 + 1 ≡ number = omega arith in
-    rw (more, at) refl
 
 -- a list that goes on after a start, with one piece more
 pub joined_more : {A : Type 0} (start old now tail piece tail_now : List A) → old ≡ start ++ tail → now ≡ old ++ piece
@@ -59,59 +45,40 @@ pub each_back : {A : Type 0} (f : ℕ → A) (number end : ℕ) → 1 ≤ number
     ≡ map f (reverse (range_with_len number (end - number))) ++ f (number - 1) ∷ []
 each_back f number end h g =
     let rest : List ℕ = range_with_len number (end - number) in
-    rw (range_less number end h g, reverse-append ((number - 1) ∷ []) rest) (map-append f (reverse rest) ((number - 1) ∷ []))
+    let more : end - (number - 1) ≡ suc (end - number) = omega arith in
+    let at : number - 1 + 1 ≡ number = omega arith in
+    rw (more, at, reverse-append ((number - 1) ∷ []) rest) (map-append f (reverse rest) ((number - 1) ∷ []))
 
 -- a text with one copy more
-pub copies_more : (n : ℕ) (text : List ℕ)
-    → concat (replicate (n + 1) text) ≡ concat (replicate n text) ++ text
-copies_more n text =
-    rw (← replicate_more n text) (concat-append (replicate n text) (text ∷ [])
-    ∙ ap (λ l. concat (replicate n text) ++ l) (append-nil text))
+pub copies_more : (n : ℕ) (text : List ℕ) → concat (replicate (n + 1) text) ≡ concat (replicate n text) ++ text
+copies_more n text = rw (← replicate_more n text, concat-append (replicate n text) (text ∷ []), append-nil text)
 
 -- the machines up to one, and it, do no more than all
 pub count_within : (machines : List Cast0) (k : ℕ) (cast : Cast0) → k < length machines → cast ≡ get_or machines k cast
     → count_actions (take k machines) + length cast.actions ≤ count_actions machines
-count_within machines k cast h is =
-    subst (λ (c : Cast0). count_actions (take k machines) + length c.actions ≤ count_actions machines) (sym is)
-    (length-flat_map-take (λ (cast : Cast0). cast.actions) machines k cast h)
+count_within machines k cast h is = rw is (length-flat_map-take (λ (cast : Cast0). cast.actions) machines k cast h)
 
 -- what represents the numbers with one more
 pub pieces_more : {A : Type 0} (f : ℕ → List A) (a i : ℕ) → a ≤ i
     → flat_map f (range_with_len a (i + 1 - a)) ≡ flat_map f (range_with_len a (i - a)) ++ f i
-pieces_more f a i h =
-    rw range_more (flat_map-append f (range_with_len a (i - a)) (i ∷ [])
-    ∙ ap (λ l. flat_map f (range_with_len a (i - a)) ++ l) (append-nil (f i)))
+pieces_more f a i h = rw (range_more a i h, flat_map-append f (range_with_len a (i - a)) (i ∷ []), append-nil (f i))
 
--- what a filter keeps of one more
+-- what a filter keeps of one more, which it keeps or not
 pub kept_more : {A : Type 0} (f : ℕ → List A) (p : ℕ → Bool) (a i : ℕ) → a ≤ i
     → flat_map f (filter p (range_with_len a (i + 1 - a)))
-    ≡ flat_map f (filter p (range_with_len a (i - a))) ++ flat_map f (filter p (i ∷ []))
+    ≡ flat_map f (filter p (range_with_len a (i - a))) ++ cond (p i) (f i) []
 kept_more f p a i h =
+    let kept : List ℕ = filter p (range_with_len a (i - a)) in
     rw (range_more a i h, filter-append p (range_with_len a (i - a)) (i ∷ []))
-    (flat_map-append f (filter p (range_with_len a (i - a))) (filter p (i ∷ [])))
+    (rw (flat_map-append f kept (filter p (i ∷ [])))
+    (elim (p i) as (λ b. flat_map f kept ++ flat_map f (cond b (i ∷ []) []) ≡ flat_map f kept ++ cond b (f i) [])
+    [ true ↦ ap (λ l. flat_map f kept ++ l) (append-nil (f i)) | false ↦ refl ]))
 
--- one that is kept
-pub kept_one : {A : Type 0} (f : ℕ → List A) (p : ℕ → Bool) (a i : ℕ) → a ≤ i → p i ≡ true
-    → flat_map f (filter p (range_with_len a (i + 1 - a)))
-    ≡ flat_map f (filter p (range_with_len a (i - a))) ++ f i
-kept_one f p a i h e = rw (e, append-nil (f i)) at (kept_more f p a i h)
-
--- one that isn't
-pub kept_none : {A : Type 0} (f : ℕ → List A) (p : ℕ → Bool) (a i : ℕ) → a ≤ i → p i ≡ false
-    → flat_map f (filter p (range_with_len a (i + 1 - a))) ≡ flat_map f (filter p (range_with_len a (i - a)))
-kept_none f p a i h e = rw e at (kept_more f p a i h) ∙ append-nil (flat_map f (filter p (range_with_len a (i - a))))
-
--- a session of the booth
-pub actions_own : (booth i : ℕ) → 1 ≤ i → (session_booth i == booth) ≡ true
-    → actions_of booth (i + 1 - 1) ≡ actions_of booth (i - 1) ++ deeds_of i
+-- a session more, of the booth or of another
+pub actions_more : (booth i : ℕ) → 1 ≤ i
+    → actions_of booth (i + 1 - 1) ≡ actions_of booth (i - 1) ++ cond (session_booth i == booth) (deeds_of i) []
 unfolding actions_of
-actions_own booth i h own = kept_one deeds_of (λ i. session_booth i == booth) 1 i h own
-
--- a session of another booth
-pub actions_other : (booth i : ℕ) → 1 ≤ i → (session_booth i == booth) ≡ false
-    → actions_of booth (i + 1 - 1) ≡ actions_of booth (i - 1)
-unfolding actions_of
-actions_other booth i h other = kept_none deeds_of (λ i. session_booth i == booth) 1 i h other
+actions_more booth i h = kept_more deeds_of (λ i. session_booth i == booth) 1 i h
 
 -- the steps of a session, part by part
 pub session_joined : (i booth first count : ℕ) (start a b c d : List Step) →
@@ -133,19 +100,12 @@ unfolding deeds_of
 deeds_few i =
     cond_both (i % 10 == 0) _ _ (λ (deeds : List Deed). length deeds ≤ 3) (λ tenth. omega arith) (λ other. omega arith)
 
--- a booth's deeds with one session more
-pub count_more : (booth i : ℕ) → 1 ≤ i
-    → length (actions_of booth (i + 1 - 1))
-    ≡ length (actions_of booth (i - 1)) + cond (session_booth i == booth) (length (deeds_of i)) 0
-count_more booth i h = elim (cases_Bool (session_booth i == booth)) [
-  | inl own ↦ rw own (ap length (actions_own booth i h own) ∙ length-append (actions_of booth (i - 1)) (deeds_of i))
-  | inr other ↦ rw other (ap length (actions_other booth i h other) ∙ sym (add-zero (length (actions_of booth (i - 1)))))
-]
-
--- the deeds of three booths of which one has a session more
-three_more : (r d a b c a' b' c' : ℕ) → r < 3 → d ≤ 3 → a' ≡ a + cond (1 + r == 1) d 0 → b' ≡ b + cond (1 + r == 2) d 0
-    → c' ≡ c + cond (1 + r == 3) d 0 → a' + b' + c' ≤ a + b + c + 3
-three_more r d a b c a' b' c' h few e f g = grind (arith, nat_tests)
+-- what holds of three numbers holds of those below 3
+below_three : (P : ℕ → Type 0) → P 0 → P 1 → P 2 → (r : ℕ) → r < 3 → P r
+below_three P first second third zero h = first
+below_three P first second third (suc zero) h = second
+below_three P first second third (suc (suc zero)) h = third
+below_three P first second third (suc (suc (suc r))) h = absurd (omega arith)
 
 -- the booths have at most three deeds a session
 pub booths_few : (n : ℕ) → length (actions_of 1 n) + length (actions_of 2 n) + length (actions_of 3 n) ≤ 3 * n
@@ -155,21 +115,20 @@ booths_few (suc n) =
     let i : ℕ = suc n in
     let here : i + 1 - 1 ≡ suc n = omega arith in
     let before : i - 1 ≡ n = omega arith in
-    let more = λ (booth : ℕ). rw (here, before) at (count_more booth i (omega arith)) in
-    omega (arith, booths_few n, three_more (n % 3) _ _ _ _ _ _ _ (omega arith) (deeds_few i) (more 1) (more 2) (more 3))
-
--- a booth's share of three shares
-share_few : (r a b c most : ℕ) → r < 3 → a + b + c ≤ most → (f : ℕ → ℕ) → f 1 ≡ a → f 2 ≡ b → f 3 ≡ c → f (1 + r) ≤ most
-share_few zero a b c most h few f e g k = omega (arith, e)
-share_few (suc zero) a b c most h few f e g k = omega (arith, g)
-share_few (suc (suc zero)) a b c most h few f e g k = omega (arith, k)
-share_few (suc (suc (suc r))) a b c most h few f e g k = absurd (omega arith)
+    let deeds = deeds_of i in
+    let more = λ (booth : ℕ). rw (here, before) at
+    (ap length (actions_more booth i (omega arith)) ∙ length-append (actions_of booth (i - 1)) _) in
+    let one = below_three (λ r. length (cond (1 + r == 1) deeds []) + length (cond (1 + r == 2) deeds [])
+    + length (cond (1 + r == 3) deeds []) ≡ length deeds) (omega arith) (omega arith) (omega arith) (n % 3)
+    (omega arith) in
+    omega (arith, booths_few n, one, deeds_few i, more 1, more 2, more 3)
 
 -- a booth's next entry has a small number
 pub first_few : (i : ℕ) → 1 ≤ i → first_number i ≤ 3 * (i - 1)
 first_few i h =
-    share_few ((i - 1) % 3) _ _ _ (3 * (i - 1)) (omega arith) (booths_few (i - 1))
-    (λ booth. length (actions_of booth (i - 1))) refl refl refl
+    let all = booths_few (i - 1) in
+    below_three (λ r. length (actions_of (1 + r) (i - 1)) ≤ 3 * (i - 1)) (omega (arith, all)) (omega (arith, all))
+    (omega (arith, all)) ((i - 1) % 3) (omega arith)
 
 -- how many entries each booth has made, with one session more
 pub made_more : (made : List ℕ) (i end : ℕ) → 1 ≤ i → length made ≡ 3
@@ -178,22 +137,19 @@ pub made_more : (made : List ℕ) (i end : ℕ) → 1 ≤ i → length made ≡ 
     → (k : ℕ) → k < 3 → get_or (set made ((i - 1) % 3) end) k 0 ≡ length (actions_of (1 + k) (i + 1 - 1))
 made_more made i end h long before is k less = elim (cases_eq k ((i - 1) % 3)) [
   | inl e ↦
-      ap (λ p. get_or (set made p end) k 0) (sym e) ∙ get_or-set_same made k end 0 (omega arith) ∙ is
-      ∙ ap (λ p. length (actions_of (1 + p) (i - 1)) + length (deeds_of i)) (sym e)
-      ∙ sym (ap length (actions_own (1 + k) i h (eq-eqb (session_booth i) (1 + k) (ap (λ p. 1 + p) (sym e))))
-      ∙ length-append (actions_of (1 + k) (i - 1)) (deeds_of i))
+      let own = eq-eqb (session_booth i) (1 + k) (ap (λ p. 1 + p) (sym e)) in
+      rw (actions_more (1 + k) i h, own, length-append (actions_of (1 + k) (i - 1)) (deeds_of i), e)
+      (get_or-set_same made ((i - 1) % 3) end 0 (omega arith) ∙ is)
   | inr other ↦
-      get_or-set_other made ((i - 1) % 3) k end 0 other ∙ before k less
-      ∙ sym (ap length (actions_other (1 + k) i h (ne_eqb (session_booth i) (1 + k) (λ e. other (omega arith)))))
+      let apart = ne_eqb (session_booth i) (1 + k) (λ same. other (omega (arith, same))) in
+      rw (actions_more (1 + k) i h, apart, append-nil (actions_of (1 + k) (i - 1)))
+      (get_or-set_other made ((i - 1) % 3) k end 0 other ∙ before k less)
 ]
 
 -- nothing is made before the first session
 pub none_made : (k : ℕ) → k < 3 → get_or (0 ∷ 0 ∷ 0 ∷ []) k 0 ≡ length (actions_of (1 + k) 0)
 unfolding actions_of
-none_made zero h = refl
-none_made (suc zero) h = refl
-none_made (suc (suc zero)) h = refl
-none_made (suc (suc (suc k))) h = absurd (omega arith)
+none_made = below_three (λ k. get_or (0 ∷ 0 ∷ 0 ∷ []) k 0 ≡ length (actions_of (1 + k) 0)) refl refl refl
 
 -- ---- the script of a day is within its limits
 
@@ -203,24 +159,11 @@ all_range P a n each = λ k d h.
     let within : k < n = omega (arith, length-range_with_len a n) in
     subst P (sym (get_or-range_with_len a n k d within)) (each (a + k) (omega arith) (omega arith))
 
--- each item of each piece
-pub all_pieces : {X A : Type 0} (P : A → Type 0) (f : X → List A) (xs : List X) → All (λ x. All P (f x)) xs
-    → All P (flat_map f xs)
-all_pieces P f [] h = All-nil P
-all_pieces P f (x ∷ xs) h =
-    All-append P (f x) (flat_map f xs) (h 0 x (omega arith)) (all_pieces P f xs (λ k d g. h (suc k) d (omega arith)))
-
--- an octet of a number
-byte_small : (k n : ℕ) → byte_at k n < 256
-byte_small zero n = omega arith
-byte_small (suc k) n = omega arith
-
 -- a number's octets are octets
 octets_of : (n : ℕ) → All (λ byte. byte < 256) (u32str n)
 unfolding u32str
 octets_of n =
-    All-from_recursion (λ byte. byte < 256) (u32str n)
-    (byte_small 3 n, (byte_small 2 n, (byte_small 1 n, (byte_small 0 n, tt))))
+    All-from_recursion (λ byte. byte < 256) (u32str n) (omega arith, (omega arith, (omega arith, (omega arith, tt))))
 
 -- octets whichever way they are given
 pub bytes_from_all : (bytes : List ℕ) → All (λ byte. byte < 256) bytes → IsBytes bytes
@@ -247,11 +190,10 @@ unfolding deeds_of
 deeds_lawful machines i h =
     let P : Deed → Type 0 = IsAction machines Booth in
     let ballot : IsDeedAmong machines (Commit i (session_ballot i)) = (h, (ballot_good i).0, (ballot_good i).1) in
-    cond_both (i % 10 == 0) (Activate i ∷ Cancel i ∷ [])
-    (Activate i ∷ Commit i (session_ballot i) ∷ Cast i (session_ballot i) ∷ []) (All P)
-    (λ tenth. All-from_recursion P (Activate i ∷ Cancel i ∷ []) ((refl, tt, h), ((refl, tt, h), tt)))
-    (λ other. All-from_recursion P (Activate i ∷ Commit i (session_ballot i) ∷ Cast i (session_ballot i) ∷ [])
-    ((refl, tt, h), ((refl, tt, ballot), ((refl, tt, ballot), tt))))
+    let two = All-from_recursion P (Activate i ∷ Cancel i ∷ []) ((refl, tt, h), ((refl, tt, h), tt)) in
+    let three = All-from_recursion P (Activate i ∷ Commit i (session_ballot i) ∷ Cast i (session_ballot i) ∷ [])
+    ((refl, tt, h), ((refl, tt, ballot), ((refl, tt, ballot), tt))) in
+    cond_both (i % 10 == 0) _ _ (All P) (λ tenth. two) (λ other. three)
 
 -- a booth's deeds are a booth's
 actions_lawful : (machines : List Cast0) (booth n : ℕ) → n ≤ 800 → All (IsAction machines Booth) (actions_of booth n)
@@ -263,10 +205,7 @@ actions_lawful machines booth n h =
 
 -- the place of a session's booth is a booth's
 booth_at : (n r : ℕ) → r < 3 → IsBoothAt (machines_of n) (1 + r)
-booth_at n zero h = (_, refl, refl)
-booth_at n (suc zero) h = (_, refl, refl)
-booth_at n (suc (suc zero)) h = (_, refl, refl)
-booth_at n (suc (suc (suc r))) h = absurd (omega arith)
+booth_at n = below_three (λ r. IsBoothAt (machines_of n) (1 + r)) (_, refl, refl) (_, refl, refl) (_, refl, refl)
 
 -- the supervisor's deeds are a supervisor's
 supervisor_lawful : (n : ℕ) → n ≤ 800 → All (IsAction (machines_of n) Supervisor) (supervisor_actions n)
@@ -288,25 +227,16 @@ count_few n h = omega (arith, count_is n, booths_few n)
 -- the machines of a day are lawful
 pub machines_lawful : (n : ℕ) → n ≤ 800 → AreCast 1 (machines_of n)
 machines_lawful n h =
-    let sv : Cast0 = record { name = codes "sv"; role = Supervisor; actions = supervisor_actions n } in
-    let b1 : Cast0 = record { name = codes "b1"; role = Booth; actions = actions_of 1 n } in
-    let b2 : Cast0 = record { name = codes "b2"; role = Booth; actions = actions_of 2 n } in
-    let b3 : Cast0 = record { name = codes "b3"; role = Booth; actions = actions_of 3 n } in
     let all : List Cast0 = machines_of n in
-    let apart : Cast0 → Cast0 → Type 0 = λ cast other. cast.name ≢ other.name in
-    let other : (a b : Cast0) → bytes_eq a.name b.name ≡ false → apart a b = λ a b.
-    not_from_Decides (bytes_eq a.name b.name) (bytes_eq-Decides a.name b.name) in
+    let number : List ℕ → ℕ = λ name. cond (get_or name 0 0 == 98) (get_or name 1 0 - 48) 0 in
+    let at : (d : Cast0) (i : ℕ) → i < 4 → number (get_or all i d).name ≡ i = λ d i less.
+    eqb-true _ i (agree_below_at (λ k. number (get_or all k d).name == k) (λ _. true) 4 i refl less) in
     record {
       few = (omega arith, omega arith);
-      named = All-weaker (λ (cast : Cast0). is_name_word cast.name ≡ true) (λ cast. IsName cast.name)
-          (λ cast. (name_test cast.name).0) all
-          (AllPass-from_list_all (λ (cast : Cast0). is_name_word cast.name) all refl);
-      distinct = AllPairs-cons apart sv (b1 ∷ b2 ∷ b3 ∷ []) (All-from_recursion (apart sv) (b1 ∷ b2 ∷ b3 ∷ [])
-          (other sv b1 refl, (other sv b2 refl, (other sv b3 refl, tt))))
-          (AllPairs-cons apart b1 (b2 ∷ b3 ∷ []) (All-from_recursion (apart b1) (b2 ∷ b3 ∷ [])
-          (other b1 b2 refl, (other b1 b3 refl, tt)))
-          (AllPairs-cons apart b2 (b3 ∷ []) (All-from_recursion (apart b2) (b3 ∷ []) (other b2 b3 refl, tt))
-          (AllPairs-cons apart b3 [] (All-nil (apart b3)) (no_pairs (λ (cast : Cast0). cast.name)))));
+      named = λ k d within. (name_test _).0
+          (AllPass-from_list_all (λ (cast : Cast0). is_name_word cast.name) all refl k d within);
+      distinct = λ i j d below within same.
+          omega (arith, below, ap number same, at d i (omega (arith, below, within)), at d j within);
       supervisor = refl;
       actions = All-from_recursion (IsCast 1 all) all (
         supervisor_lawful n h,
@@ -323,19 +253,11 @@ hears_lawful : (n at from : ℕ) (numbers : List ℕ) → at < 4 → from < 4 �
 hears_lawful n at from numbers h g small =
     All-map (IsStep (machines_of n)) (λ number. Hear at from number) numbers (λ k d within. (h, g, small k d within))
 
--- each item, from the last on
-all_back : (P : ℕ → Type 0) (xs : List ℕ) → All P xs → All P (reverse xs)
-all_back P xs all = λ k d within.
-    let inside : k < length xs = omega (arith, within, length-reverse xs) in
-    subst P (sym (get_or-reverse xs k d inside)) (all (length xs - 1 - k) d (omega (arith, inside)))
-
 -- the supervisor's entry
 supervisor_steps_lawful : (n number : ℕ) → number ≤ 4095 → All (IsStep (machines_of n)) (supervisor_steps number)
 supervisor_steps_lawful n number h =
-    let P : Step → Type 0 = IsStep (machines_of n) in
-    let less : supervisor < 4 = omega arith in
-    All-from_recursion P (supervisor_steps number)
-    (less, ((omega arith, less, h), ((omega arith, less, h), ((omega arith, less, h), tt))))
+    All-from_recursion (IsStep (machines_of n)) (supervisor_steps number)
+    (omega arith, ((omega arith, omega arith, h), ((omega arith, omega arith, h), ((omega arith, omega arith, h), tt))))
 
 -- a session's steps
 session_lawful : (n i : ℕ) → 1 ≤ i → i ≤ 800 → All (IsStep (machines_of n)) (session_steps i)
@@ -356,7 +278,7 @@ session_lawful n i h g =
     All-append P (w ++ x ++ y) z (All-append P (w ++ x) y (All-append P w x (supervisor_steps_lawful n i (omega arith))
     (All-replicate P (length (deeds_of i)) (Act (session_booth i)) less))
     (hears_lawful n supervisor (session_booth i) (reverse (numbers_of i)) (omega arith) less
-    (all_back (λ number. number ≤ 4095) (numbers_of i) small)))
+    (All-permutation (λ number. number ≤ 4095) (numbers_of i) _ (IsPermutation-reverse (numbers_of i)) small)))
     (all_pieces P heard (others (session_booth i))
     (All-filter (λ other. not (other == session_booth i)) (λ other. All P (heard other)) booths
     (All-from_recursion (λ other. All P (heard other)) booths
@@ -393,23 +315,18 @@ session_few i =
 -- a day has few steps
 pub day_few : (n : ℕ) → n ≤ 800 → length (day_steps n) ≤ max_steps
 day_few n h =
-    let all : List Step = flat_map session_steps (sessions n) in
-    let long : length (supervisor_steps 0 ++ all ++ supervisor_steps (n + 1)) ≡ 4 + length all + 4 =
-    length-append (supervisor_steps 0 ++ all) (supervisor_steps (n + 1))
-    ∙ ap (λ k. k + 4) (length-append (supervisor_steps 0) all) in
-    let few : length all ≤ length (sessions n) * 19 =
+    let few : length (flat_map session_steps (sessions n)) ≤ length (sessions n) * 19 =
     rw (length-flat_map session_steps (sessions n))
     (sum_by-le (λ i. length (session_steps i)) 19 (sessions n) (λ k d g. session_few _)) in
-    omega (arith, long, few, length-range_with_len 1 n)
+    simp length-append (omega (arith, few, length-range_with_len 1 n))
 
 -- the script of a day is lawful
 pub generated_is_lawful : (n : ℕ) → 1 ≤ n → n ≤ 800 → IsLawful (generated n)
 generated_is_lawful n some few = record {
   version = inl refl;
   seed = (omega arith, omega arith);
-  octets = bytes_from_all (codes "auditorium")
-      (All-weaker (λ byte. nat_lt byte 256 ≡ true) (λ byte. byte < 256) (λ byte. ltb-true byte 256) (codes "auditorium")
-      (AllPass-from_list_all (λ byte. nat_lt byte 256) (codes "auditorium") refl));
+  octets = bytes_from_all (codes "auditorium") (λ k d within.
+      ltb-true _ 256 (AllPass-from_list_all (λ byte. nat_lt byte 256) (codes "auditorium") refl k d within));
   height = inr refl;
   log = (omega (arith, count_is n), count_few n few);
   link = (omega arith, omega arith);

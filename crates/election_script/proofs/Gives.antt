@@ -1,6 +1,6 @@
 -- What a reading that gives a value gives.
-use Rattle.election_script.proofs.Imports.{◌≡◌, ◌⊎◌, ap, refl, subst, inl, inr, Bool, true, false, Option, Some, None}
-use Rattle.election_script.proofs.Imports.{Result, Ok, Err, ok_or, cond, ◌>>=◌, cond_both}
+use Rattle.election_script.proofs.Imports.{ap, Bool, cond, cond_both, Err, false, None, Ok, ok_or, Option, refl, Result}
+use Rattle.election_script.proofs.Imports.{Some, subst, true, ◌>>=◌, ◌≡◌}
 
 -- each value that the reading gives is so
 abbrev pub Gives : {A E : Type 0} → Result A E → (A → Type 0) → Type 0
@@ -20,6 +20,12 @@ then_gives (Err why) next P Q first later b is = cc
 pub then_gave : {A B E : Type 0} (r : Result A E) (next : A → Result B E) (Q : B → Type 0) →
     ((a : A) → r ≡ Ok a → Gives (next a) Q) → Gives (r >>= next) Q
 then_gave r next Q later = then_gives r next (λ a. r ≡ Ok a) Q (λ a is. is) later
+
+-- two readings, and a third after them
+pub then_after : {A B C E : Type 0} (r : Result A E) (next : A → Result B E) (last : B → Result C E) (P : A → Type 0)
+    (Q : C → Type 0) → Gives r P → ((a : A) → P a → Gives (next a >>= last) Q) → Gives ((r >>= next) >>= last) Q
+then_after (Ok a) next last P Q first later b is = later a (first a refl) b is
+then_after (Err why) next last P Q first later b is = cc
 
 -- a reading by a test
 pub either_gives : {A E : Type 0} (test : Bool) (r other : Result A E) (P : A → Type 0) → (test ≡ true → Gives r P) →
@@ -41,9 +47,3 @@ pub some_gives : {A E : Type 0} (o : Option A) (why : E) (P : A → Type 0) → 
     Gives (ok_or o why) P
 some_gives (Some a) why P each b is = each b (let same : a ≡ b = cc in ap Some same)
 some_gives None why P each b is = cc
-
--- something by a test, or else something else
-pub either_some : {A : Type 0} (test : Bool) (a b : A) (other : Option A) → cond test (Some a) other ≡ Some b →
-    ((test ≡ true) × (a ≡ b)) ⊎ (other ≡ Some b)
-either_some true a b other is = inl (refl, cc)
-either_some false a b other is = inr is

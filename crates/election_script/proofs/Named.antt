@@ -1,37 +1,29 @@
 -- What a word names: a machine, or something in a table.
-use Rattle.election_script.proofs.Imports.{ℕ, ◌≤◌, List, refl, length, nat_le, leb-true, le-leb, IsName, IsNameByte}
-use Rattle.election_script.proofs.Imports.{is_between, is_name_byte, is_name_word, IsBetween, list_all, ◌≡◌, ◌≢◌, ◌∙◌}
-use Rattle.election_script.proofs.Imports.{sym, ap, subst, [], ◌∷◌, inl, inr, Option, Some, None, bytes_eq}
-use Rattle.election_script.proofs.Imports.{bytes_eq-Decides, how_word, How, IfSome, IfNone, ok_or, UnknownWord}
-use Rattle.election_script.proofs.Imports.{in_table, OtsKind, W1, ots_word, IsHeight, height_word, Role, Supervisor}
-use Rattle.election_script.proofs.Imports.{Booth, role_word, named, role_names, how_names, key_kinds, key_heights, Kind}
-use Rattle.election_script.proofs.Imports.{line_kinds, line_word, arith, zero, suc, ◌+◌, ◌<◌, Bool, true, false, get_or}
-use Rattle.election_script.proofs.Imports.{slice_get, All, Any, AllPairs, slice_get_cases, get_or_from_slice_get}
-use Rattle.election_script.proofs.Imports.{false_from_ne_true, Cast0, StopAt, IsStopAt, name_at, name_of, is_same_role}
-use Rattle.election_script.proofs.Imports.{place_of, is_listed, roles_of, stopped_of, ◌⊎◌, cases_Bool, slice_get-get_or}
-use Rattle.election_script.proofs.Imports.{position_from, true≢false, Deed, IsDeedOf, IsDeedIn, IsDeedAmong, ◌↔◌}
-use Rattle.std.specs.Bool.{Decides}
+use Rattle.election_script.proofs.Imports
+use Imports.{[], All, AllPairs, Any, ap, arith, Bool, Booth, bytes_eq, bytes_eq-Decides, cases_Bool, Cast0, Deed, false}
+use Imports.{false_from_ne_true, get_or, get_or_from_slice_get, height_word, How, how_names, how_word, IfNone, IfSome}
+use Imports.{in_table, inl, inr, is_between, is_listed, is_name_byte, is_name_word, is_same_role, IsBetween}
+use Imports.{IsDeedAmong, IsDeedIn, IsDeedOf, IsHeight, IsName, IsNameByte, IsStopAt, key_heights, key_kinds, Kind}
+use Imports.{le-leb, leb-true, length, line_kinds, line_word, List, list_all, name_at, name_of, named, nat_le, None}
+use Imports.{ok_or, Option, ots_word, OtsKind, place_of, position_from, refl, Role, role_names, role_word, roles_of}
+use Imports.{slice_get, slice_get-get_or, slice_get_cases, Some, StopAt, stopped_of, subst, suc, Supervisor, sym, true}
+use Imports.{true≢false, UnknownWord, W1, zero, ℕ, ◌+◌, ◌<◌, ◌↔◌, ◌∙◌, ◌∷◌, ◌≡◌, ◌≢◌, ◌⊎◌}
 use Rattle.std.proofs.Common.{is_some}
+use Rattle.std.proofs.lemmas.Bool.Decides.{Decides-and, Decides-by_and, Decides-like, Decides-or}
 use Rattle.std.proofs.lemmas.Option.{slice_get-map}
-use Rattle.std.proofs.lemmas.Bool.Decides.{Decides-and, Decides-or, Decides-like, Decides-by_and}
-use Rattle.election_script.proofs.Gives.{either_some}
-use Rattle.std.specs.List.{list_any}
+use Rattle.std.proofs.lemmas.{Bool.cases_order, List.Folds.Any-from_list_any, List.Folds.list_any-from_Any}
 use Rattle.std.specs.Prelude.{◌||◌}
-use Rattle.std.proofs.lemmas.List.Folds.{Any-from_list_any, list_any-from_Any}
-use Rattle.std.proofs.lemmas.Bool.{cases_order}
+use Rattle.std.specs.{Bool.Decides, List.list_any}
 use Rattle.entry_format.specs.declared.deed.How.TheVariants as how
 
 -- ---- which words have the form of a name
-
--- a number is at most another
-at_most : (a b : ℕ) → Decides (nat_le a b) (a ≤ b)
-at_most a b = (leb-true a b, le-leb a b)
 
 -- a number is between two others
 pub between_test : (least greatest number : ℕ) → Decides (is_between least greatest number)
     (IsBetween least greatest number)
 between_test least greatest number =
-    Decides-and (nat_le least number) (nat_le number greatest) (at_most least number) (at_most number greatest)
+    Decides-and (nat_le least number) (nat_le number greatest) (leb-true least number, le-leb least number)
+    (leb-true number greatest, le-leb number greatest)
 
 -- a byte is a character of a name
 byte_test : (byte : ℕ) → Decides (is_name_byte byte) (IsNameByte byte)
@@ -41,8 +33,7 @@ byte_test byte =
 -- a word is a name
 pub name_test : (word : List ℕ) → Decides (is_name_word word) (IsName word)
 name_test word =
-    Decides-like (is_name_word word)
-    (λ (size, bytes). record { some = size.0; at_most = size.1; bytes = bytes })
+    Decides-like (is_name_word word) (λ (size, bytes). record { some = size.0; at_most = size.1; bytes = bytes })
     (λ is. ((is.some, is.at_most), is.bytes))
     (Decides-and (is_between 1 16 (length word)) (list_all is_name_byte word) (between_test 1 16 (length word))
     (Decides-by_and is_name_byte IsNameByte (list_all is_name_byte) byte_test refl (λ x xs. refl) word))
@@ -60,15 +51,15 @@ AreRows P [] = Unit {0}
 AreRows P (row ∷ rows) = P row.0 row.1 × AreRows P rows
 
 pub row_is : {A : Type 0} (P : List ℕ → A → Type 0) (rows : List (List ℕ × A)) (word : List ℕ) → AreRows P rows →
-    (a : A) →
-    named rows word ≡ Some a → P word a
+    (a : A) → named rows word ≡ Some a → P word a
 row_is P [] word are a is = cc
-row_is P ((own, thing) ∷ rows) word (first, more) a is =
-    elim (either_some (bytes_eq word own) thing a (named rows word) is) [
-      | inl (equal, same) ↦ subst (P word) same
-          (subst (λ w. P w thing) (sym ((bytes_eq-Decides word own).0 equal)) first)
-      | inr later ↦ row_is P rows word more a later
-    ]
+row_is P ((own, thing) ∷ rows) word (first, more) a is = elim (cases_Bool (bytes_eq word own)) [
+  | inl equal ↦
+      let here = rw equal at is in
+      let same : thing ≡ a = cc in
+      rw (← same, (bytes_eq-Decides word own).0 equal) first
+  | inr other ↦ row_is P rows word more a (rw other at is)
+]
 
 -- a word that names a kind of line is the kind's
 pub kind_word : (word : List ℕ) (k : Kind) → named line_kinds word ≡ Some k → word ≡ line_word k
@@ -93,54 +84,42 @@ height_named word =
     ((inl refl, refl), ((inr refl, refl), tt))
 
 -- what names nothing of some names nothing
-none_named : {A : Type 0} (found : Option A) → ((a : A) → found ≡ Some a → ⊥) → found ≡ None
+pub none_named : {A : Type 0} (found : Option A) → ((a : A) → found ≡ Some a → ⊥) → found ≡ None
 none_named None none = refl
 none_named (Some a) none = absurd (none a refl)
 
--- the word of a role names it, and no other word names one
+-- the word of a role names it
 pub some_role : (role : Role) → named role_names (role_word role) ≡ Some role
 some_role Supervisor = refl
 some_role Booth = refl
-
-pub no_role : (word : List ℕ) → ((role : Role) → word ≢ role_word role) → named role_names word ≡ None
-no_role word none = none_named (named role_names word) (λ role is. none role (role_named word role is))
 
 -- the word of how a session is overridden names it
 pub some_how : (how : How) → named how_names (how_word how) ≡ Some how
 some_how how.Cancel = refl
 some_how how.Cast = refl
 
-pub no_how : (word : List ℕ) → ((how : How) → word ≢ how_word how) → named how_names word ≡ None
-no_how word none = none_named (named how_names word) (λ how is. none how (how_named word how is))
-
--- with that of a kind of key
+-- that of a kind of key names it, and no other word names one
 pub some_kind : (kind : OtsKind) → named key_kinds (ots_word kind) ≡ Some kind
 some_kind W1 = refl
 some_kind kind = refl
 
-no_kind : (word : List ℕ) → ((kind : OtsKind) → word ≢ ots_word kind) → named key_kinds word ≡ None
-no_kind word none = none_named (named key_kinds word) (λ kind is. none kind (kind_named word kind is))
-
 pub kind_is : (word : List ℕ) (found : Option OtsKind) → IfSome found (λ kind. word ≡ ots_word kind)
     → IfNone found ((kind : OtsKind) → word ≢ ots_word kind) → found ≡ named key_kinds word
 kind_is word (Some kind) is unknown = sym (ap (named key_kinds) is ∙ some_kind kind)
-kind_is word None is unknown = sym (no_kind word unknown)
+kind_is word None is unknown =
+    sym (none_named (named key_kinds word) (λ kind found. unknown kind (kind_named word kind found)))
 
 -- the word of a height of keys names it
 pub some_height : (height : ℕ) → IsHeight height → named key_heights (height_word height) ≡ Some height
-some_height height (inl is) = subst (λ h. named key_heights (height_word h) ≡ Some h) (sym is) refl
-some_height height (inr is) = subst (λ h. named key_heights (height_word h) ≡ Some h) (sym is) refl
-
-no_height : (word : List ℕ) → ((height : ℕ) → IsHeight height → word ≢ height_word height)
-    → named key_heights word ≡ None
-no_height word none = none_named (named key_heights word) (λ height is.
-    let (good, same) = height_named word height is in none height good same)
+some_height height (inl is) = rw is refl
+some_height height (inr is) = rw is refl
 
 pub height_is : (word : List ℕ) (found : Option ℕ) → IfSome found IsHeight
     → IfSome found (λ height. word ≡ height_word height)
     → IfNone found ((height : ℕ) → IsHeight height → word ≢ height_word height) → found ≡ named key_heights word
 height_is word (Some height) good is unknown = sym (ap (named key_heights) is ∙ some_height height good)
-height_is word None good is unknown = sym (no_height word unknown)
+height_is word None good is unknown = sym (none_named (named key_heights word) (λ height found.
+    let (high, same) = height_named word height found in unknown height high same))
 
 -- ---- machines at their places, and by their names
 
@@ -159,8 +138,8 @@ IsDone version machines done =
     × IsDeedAmong machines done.1
 
 -- the machine at a place
-pub cast_at : (machines : List Cast0) (place : ℕ) → place < length machines → (cast : Cast0) × (slice_get machines
-    place ≡ Some cast)
+pub cast_at : (machines : List Cast0) (place : ℕ) → place < length machines →
+    (cast : Cast0) × (slice_get machines place ≡ Some cast)
 cast_at machines place within = elim (slice_get_cases machines place).1 [
   | inl found ↦ (found.0, found.2)
   | inr past ↦ absurd (omega arith)
@@ -179,18 +158,12 @@ pub name_is : (machines : List Cast0) (place : ℕ) (d : Cast0) → place < leng
     name_at machines place ≡ (get_or machines place d).name
 name_is machines place d within = ap name_of (slice_get-get_or machines place d within)
 
--- a machine of the name stands at a place, and the other way round
-pub any_named : (machines : List Cast0) (name : List ℕ) → Any (λ (cast : Cast0). cast.name ≡ name) machines →
-    (place : ℕ) × IsNamedAt machines name place
-any_named machines name (place, cast, within, is, named) =
-    (place, (within, name_is machines place cast within ∙ ap (λ (c : Cast0). c.name) is ∙ named))
-
+-- where the machine at a place has the name, one of them has it
 pub named_any : (machines : List Cast0) (name : List ℕ) (place : ℕ) → IsNamedAt machines name place →
     Any (λ (cast : Cast0). cast.name ≡ name) machines
 named_any machines name place (within, named) =
     let (cast, there) = cast_at machines place within in
-    let is = get_or_from_slice_get machines place cast cast there in
-    (place, cast, within, is, sym (name_is machines place cast within ∙ ap (λ (c : Cast0). c.name) is) ∙ named)
+    (place, cast, within, get_or_from_slice_get machines place cast cast there, rw there at named)
 
 -- the first machine of a name is found, or there is none
 found : (machines : List Cast0) (name : List ℕ) (at : ℕ) →
@@ -200,8 +173,7 @@ found [] name at = inr (refl, λ k (within, named). absurd (omega (arith, within
 found (first ∷ machines) name at = elim (cases_Bool (bytes_eq first.name name)) [
   | inl same ↦ inl (0, rw same (ap Some (omega arith)), (omega arith, (bytes_eq-Decides first.name name).0 same))
   | inr other ↦ elim (found machines name (at + 1)) [
-    | inl (k, is, (within, named)) ↦
-        inl (suc k, rw other (is ∙ ap Some (omega arith)), (omega (arith, within), named))
+    | inl (k, is, (within, named)) ↦ inl (suc k, rw other (is ∙ ap Some (omega arith)), (omega (arith, within), named))
     | inr (is, none) ↦
         let later : (k : ℕ) → IsNamedAt (first ∷ machines) name k → ⊥ = elim [
           | zero ↦ λ (within, named). true≢false (sym ((bytes_eq-Decides first.name name).1 named) ∙ other)
@@ -232,9 +204,9 @@ place_none machines name new = elim (found machines name 0) [
 -- nor has any machine a name that isn't found
 pub place_unknown : (machines : List Cast0) (name : List ℕ) → is_some (place_of (roles_of machines) name) ≡ false →
     Any (λ (cast : Cast0). cast.name ≡ name) machines → ⊥
-place_unknown machines name unknown any = elim (found machines name 0) [
-  | inl (k, is, there) ↦ absurd (true≢false (sym (ap is_some is) ∙ unknown))
-  | inr (is, none) ↦ let (k, there) = any_named machines name any in none k there
+place_unknown machines name unknown (k, cast, within, is, named) = elim (found machines name 0) [
+  | inl (place, at, there) ↦ absurd (true≢false (sym (ap is_some at) ∙ unknown))
+  | inr (at, none) ↦ none k (within, name_is machines k cast within ∙ ap (λ (c : Cast0). c.name) is ∙ named)
 ]
 
 -- two places of one name are one
@@ -246,10 +218,8 @@ same_place machines i j distinct within also same =
     sym (name_is machines i d within) ∙ same ∙ name_is machines j d also in
     elim (cases_order i j) [
       | inl is ↦ is
-      | inr differ ↦ elim differ [
-        | inl below ↦ absurd (distinct i j d below also names)
-        | inr above ↦ absurd (distinct j i d above within (sym names))
-      ]
+      | inr (inl below) ↦ absurd (distinct i j d below also names)
+      | inr (inr above) ↦ absurd (distinct j i d above within (sym names))
     ]
 
 -- the name at a place is that of the machine there alone
@@ -297,9 +267,8 @@ stop_among machines stops place (k, stop, within, is, same) =
 
 -- and another isn't
 pub stop_new : (machines : List Cast0) (stops : List StopAt) (place : ℕ) → AreDistinct machines →
-    All (IsStopAt machines) stops → place < length machines →
-    (Any (λ (stop : StopAt). stop.machine ≡ place) stops → ⊥) →
-    is_listed (stopped_of machines stops) (name_at machines place) ≡ false
+    All (IsStopAt machines) stops → place < length machines → (Any (λ (stop : StopAt). stop.machine ≡ place) stops → ⊥)
+    → is_listed (stopped_of machines stops) (name_at machines place) ≡ false
 stop_new machines stops place distinct good inside none =
     let name : List ℕ = name_at machines place in
     false_from_ne_true (is_listed (stopped_of machines stops) name) (λ among.

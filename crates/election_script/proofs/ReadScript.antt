@@ -1,35 +1,30 @@
 -- A text is read as a script exactly where it is a text of it.
-use Rattle.election_script.proofs.Imports.{ne_eqb, drop, ◌<◌, nat_le, ◌≡◌, ◌∙◌, ap, sym, refl, arith, ℕ, ◌≤◌, true}
-use Rattle.election_script.proofs.Imports.{false, List, [], ◌∷◌, ◌++◌, length, map, Some, Ok, append-nil, Kind, rank}
-use Rattle.election_script.proofs.Imports.{line_word, line_kinds, named, Lines, LineRead, false_from_ne_true, leb-true}
-use Rattle.election_script.proofs.Imports.{subst, Err, All, All-nil, All-push, length_push, kinds, slice_get}
-use Rattle.election_script.proofs.Imports.{append_assoc, length-append, ◌>>=◌, Next, kind_and_words, is_most, leb-false}
-use Rattle.election_script.proofs.Imports.{◌≢◌, suc, ◌+◌, Bool, AllPairs, Cast0, StopAt, Script, IsLawful, AreDeedsOf}
-use Rattle.election_script.proofs.Imports.{IsName, IsLose, IsStopAt, IsStep, Deed, role_word, decimal, encode_lower}
-use Rattle.election_script.proofs.Imports.{roles_of, stopped_of, with_deeds, actions_at, do_read, IsBetween, inl, inr}
-use Rattle.election_script.proofs.Imports.{codes, ots_word, height_word, lines_of, machine_line, max_link}
-use Rattle.election_script.proofs.Imports.{max_events, max_actions, get_or, All-same, All-weaker, slice_get_within}
-use Rattle.election_script.proofs.Imports.{slice_get-get_or, count_by, cases_eq, OtsKind, IsVersion, is_supervisor}
-use Rattle.election_script.proofs.Imports.{IsHeight, IsBytes, IsDeedOf, IsDeedIn, IsDeedAmong, IsCast, AreCast, do_line}
-use Rattle.election_script.proofs.Imports.{lose_line, stop_line, step_line, max_machines, max_loses, max_steps}
-use Rattle.election_script.proofs.Imports.{script_from, seed_line, key_line, log_line, link_line, not, filter, list_all}
-use Rattle.election_script.proofs.Imports.{list_all-from_AllPass, and_parts, cases_Bool, line_of, is_passed_over}
-use Rattle.election_script.proofs.Imports.{IsTextOf, text_lines, is_between, join_with_byte, join_with_byte-slice_split}
-use Rattle.election_script.proofs.Imports.{words_of, left_from, head_of, script_of, LinesRead, ◌↔◌}
-use Rattle.std.proofs.lemmas.Bool.Decides.{Decides-eqb}
-use Rattle.election_script.specs.Left.{Left, End, one, many, unless_full, most_lines, at_line, is_same_kind, some}
-use Rattle.election_script.specs.Lines.{lose_read, stop_read, step_read, seed_read, key_read, one_number}
-use Rattle.election_script.proofs.Parts.{middle, all_in_front, fresh, fresh_push, no_pairs}
-use Rattle.election_script.proofs.Gives.{Gives, value_gives, then_gives, then_gave, either_gives, if_gives}
-use Rattle.election_script.proofs.Gives.{unless_gives, some_gives}
-use Rattle.election_script.proofs.Named.{IsDone, between_test, kind_word}
-use Rattle.election_script.specs.Reading.{version_read, cast_read, one_supervisor, none_left, script_after}
-use Rattle.election_script.proofs.ReadWords.{number_back, seed_back, key_back, machine_back, deed_back, lose_back}
-use Rattle.election_script.proofs.ReadWords.{stop_back, step_back, seed_gives, key_gives, one_gives, machine_gives}
-use Rattle.election_script.proofs.ReadWords.{deed_gives, lose_gives, stop_gives, step_gives}
-use Rattle.election_script.proofs.MachineDeeds.{deed_count, deeds_done, same_roles, same_stops, supervisors_busy}
-use Rattle.election_script.proofs.MachineDeeds.{get_busy, size_busy, lines_busy, each_busy, own_deeds}
-use Rattle.election_script.proofs.ScriptLines.{IsPlain, is_line, is_own, own_line, plain_line, words_back, script_lines}
+use Rattle.election_script.proofs.Imports
+use Imports.{[], actions_at, All, All-nil, All-push, All-same, AllPairs, and_parts, ap, append-nil, append_assoc}
+use Imports.{AreCast, AreDeedsOf, arith, Bool, cases_Bool, cases_eq, Cast0, codes, count_by, count_by-le-length}
+use Imports.{decimal, Deed, do_line, do_read, drop, encode_lower, eq-eqb, eqb-true, Err, false, false_from_ne_true}
+use Imports.{filter, get_or, head_of, height_word, inl, inr, is_between, is_most, is_passed_over, is_supervisor}
+use Imports.{IsBetween, IsBytes, IsCast, IsDeedAmong, IsDeedIn, IsDeedOf, IsHeight, IsLawful, IsLose, IsName, IsStep}
+use Imports.{IsStopAt, IsTextOf, IsVersion, join_with_byte, join_with_byte-slice_split, key_line, Kind, kind_and_words}
+use Imports.{kinds, leb-false, leb-true, left_from, length, length-append, length_push, line_kinds, line_of, line_word}
+use Imports.{LineRead, Lines, lines_of, link_line, List, list_all, list_all-from_AllPass, log_line}
+use Imports.{lose_line, machine_line, map, max_actions, max_events, max_link, max_loses, max_machines, max_steps, named}
+use Imports.{nat_le, ne_eqb, Next, not, Ok, ots_word, OtsKind, rank, refl, role_word, roles_of, Script, script_from}
+use Imports.{script_of, seed_line, slice_get, slice_get-get_or, slice_get_within, Some, step_line, stop_line, StopAt}
+use Imports.{stopped_of, subst, sym, text_lines, true, with_deeds, words_of, ℕ, ◌+◌, ◌++◌, ◌<◌, ◌>>=◌, ◌↔◌, ◌∙◌, ◌∷◌}
+use Imports.{◌≡◌, ◌≢◌, ◌≤◌}
+use Rattle.election_script.proofs.Gives.{either_gives, Gives, if_gives, some_gives, then_gave, then_gives, unless_gives}
+use Rattle.election_script.proofs.MachineDeeds.{are_busy, busy_back, deed_count, deeds_done, each_busy, get_busy}
+use Rattle.election_script.proofs.MachineDeeds.{own_deeds, same_but_deeds, same_stops, size_busy, supervisors_busy}
+use Rattle.election_script.proofs.Parts.{all_in_front, fresh, fresh_push, middle, no_pairs}
+use Rattle.election_script.proofs.ReadWords.{deed_back, deed_gives, key_back, key_gives, lose_back, lose_gives}
+use Rattle.election_script.proofs.ReadWords.{machine_back, machine_gives, number_back, one_gives, seed_back, seed_gives}
+use Rattle.election_script.proofs.ReadWords.{step_back, step_gives, stop_back, stop_gives}
+use Rattle.election_script.proofs.ScriptLines.{is_line, is_own, own_line, plain_line, script_lines, words_back}
+use Rattle.election_script.proofs.{Gives.value_gives, Named.between_test, Named.IsDone, Named.kind_word}
+use Rattle.election_script.specs.Left.{at_line, End, is_same_kind, Left, many, most_lines, one, some, unless_full}
+use Rattle.election_script.specs.Lines.{key_read, lose_read, one_number, seed_read, step_read, stop_read}
+use Rattle.election_script.specs.Reading.{cast_read, none_left, one_supervisor, script_after, version_read}
 use Rattle.election_script.specs.declared.kinds.Kind.TheVariants as kind
 
 -- ---- lines are read as what they say, kind by kind, and no others are
@@ -51,7 +46,7 @@ head_is k args = rw (word_names k) refl
 
 -- a kind is itself
 self : (k : Kind) → is_same_kind k k ≡ true
-self k = (Decides-eqb (rank k) (rank k)).1 refl
+self k = eq-eqb (rank k) (rank k) refl
 
 -- the first line is of a later kind, if there is one
 abbrev pub IsPast : Kind → Lines → Type 0
@@ -92,8 +87,7 @@ module _ {A : Type 0} (k : Kind) (line : A → List (List ℕ)) where
       (left : Left) (lines : Lines) → IsPast k lines → Tells left (in_front xs lines) →
       (rest : Left) × Tells rest lines × (many k read values left ≡ Ok (all, rest))
   many_back read all each values [] parts left lines past tells =
-      let same : all ≡ values = parts ∙ append-nil values in
-      (left, tells, many_none k read values left lines tells past ∙ ap (λ (l : List A). Ok (l, left)) (sym same))
+      (left, tells, rw (parts, append-nil values) (many_none k read values left lines tells past))
   many_back read all each values (x ∷ xs) parts (End n) lines past tells = absurd tells
   many_back read all each values (x ∷ xs) parts (Next n head left) lines past (same, more) =
       let next = parts ∙ sym (append_assoc values (x ∷ []) xs) in
@@ -136,10 +130,8 @@ at_rank k = refl
 said : (k found : Kind) (words args : List (List ℕ)) → is_same_kind k found ≡ true → words ≡ args →
     Ok (found, words) ≡ kind_and_words (line_word k ∷ args)
 said k found words args same are =
-    let ranks : rank k ≡ rank found = (Decides-eqb (rank k) (rank found)).0 same in
-    let kind : Some k ≡ Some found = sym (at_rank k) ∙ ap (slice_get kinds) ranks ∙ at_rank found in
-    let one : k ≡ found = cc in
-    ap (λ k. Ok (k, words)) (sym one) ∙ ap (λ args. Ok (k, args)) are ∙ sym (head_is k args)
+    let one : k ≡ found = cc (at_rank k, at_rank found, eqb-true (rank k) (rank found) same) in
+    rw (are, ← one) (sym (head_is k args))
 
 -- what is read of a numbered line is read of it
 pub at_line_is : {A : Type 0} (n : ℕ) (read : LineRead A) → Gives (at_line n read) (λ a. read ≡ Ok a)
@@ -166,8 +158,7 @@ module _ {A : Type 0} (k : Kind) (line : A → List (List ℕ)) where
   many_from : (read : List A → List (List ℕ) → LineRead A) (Q : List A → Type 0) →
       ((values : List A) (words : List (List ℕ)) → Q values → is_most (most_lines k) (length values) ≡ false →
       Gives (read values words) (λ a. Q (values ++ a ∷ []) × (words ≡ drop 1 (line a)))) → (values : List A) →
-      Q values →
-      (left : Left) → Gives (many k read values left)
+      Q values → (left : Left) → Gives (many k read values left)
       (λ (all, rest). Q all × ((xs : List A) × (all ≡ values ++ xs) × AreInFront left xs rest))
   many_from read Q each values holds (Next n (Ok (found, words)) left) =
       either_gives (is_same_kind k found) _ _ _ (λ same.
@@ -175,8 +166,7 @@ module _ {A : Type 0} (k : Kind) (line : A → List (List ℕ)) where
       (λ a is. then_gave (read values words) (unless_full k values) _ (λ a reads.
       unless_gives (is_most (most_lines k) (length values)) _ _ _ (λ room.
       value_gives _ a (each values words holds room a reads))) a
-      (at_line_is n (read values words >>= unless_full k values) a is))
-      (λ a (kept, are) (all, rest) is.
+      (at_line_is n (read values words >>= unless_full k values) a is)) (λ a (kept, are) (all, rest) is.
       let (whole, (xs, split, front)) = many_from read Q each (values ++ a ∷ []) kept left (all, rest) is in
       let parts = split ∙ append_assoc values (a ∷ []) xs in
       (whole, (a ∷ xs, parts, λ lines tells. (said k found words (drop 1 (line a)) same are, front lines tells)))))
@@ -234,23 +224,16 @@ none_back (Next n head left) tells = absurd tells
 abbrev idle : List Cast0 → List Cast0
 idle machines = with_deeds 0 [] machines
 
--- with what they are to do they are the machines
-busy_back : (from : ℕ) (deeds : List (ℕ × Deed)) (machines : List Cast0) →
-    ((k : ℕ) (cast : Cast0) → slice_get machines k ≡ Some cast → cast.actions ≡ actions_at (from + k) deeds) →
-    with_deeds from deeds (with_deeds from [] machines) ≡ machines
-busy_back from deeds [] each = refl
-busy_back from deeds (cast ∷ machines) each =
-    let own : cast.actions ≡ actions_at from deeds =
-    each 0 cast refl ∙ ap (λ p. actions_at p deeds) (omega arith) in
-    let here : record { name = cast.name; role = cast.role; actions = actions_at from deeds } ≡ cast =
-    grind (arith, own) in
-    let rest = busy_back (from + 1) deeds machines
-    (λ k c at. each (suc k) c at ∙ ap (λ p. actions_at p deeds) (omega arith)) in
-    cc
+-- their lines are those of the machines
+said_of_machines : (deeds : List (ℕ × Deed)) (machines : List Cast0) →
+    map machine_line (with_deeds 0 deeds machines) ≡ map machine_line machines
+said_of_machines deeds machines =
+    same_but_deeds (λ name role. codes "machine" ∷ name ∷ role_word role ∷ []) 0 deeds machines
 
 -- they have nothing to do
 all_idle : (machines : List Cast0) → All (λ (cast : Cast0). cast.actions ≡ []) (idle machines)
-all_idle machines i cast within = each_busy 0 [] machines i _ (slice_get-get_or (idle machines) i cast within)
+all_idle machines i cast within =
+    each_busy 0 [] machines i i _ (omega arith) (slice_get-get_or (idle machines) i cast within)
 
 -- machines are few, and each has a name of its own
 abbrev AreNew : List Cast0 → Type 0
@@ -275,8 +258,7 @@ cast_back : (before after machines : List Cast0) (cast : Cast0) → machines ≡
 cast_back before after machines cast is (few, named, distinct) free =
     let said = machine_back before cast.name cast.role
     (middle (λ (cast : Cast0). IsName cast.name) machines before after cast is named)
-    (fresh (λ (cast : Cast0). cast.name) before after cast
-    (subst (AllPairs (λ (cast other : Cast0). cast.name ≢ other.name)) is distinct)) in
+    (fresh (λ (cast : Cast0). cast.name) machines before after cast is distinct) in
     let none = middle (λ (cast : Cast0). cast.actions ≡ []) machines before after cast is free in
     let same : record { name = cast.name; role = cast.role; actions = [] } ≡ cast = grind (arith, none) in
     room kind.Machine machine_line max_machines machines before after cast _ refl few is (rw said (ap Ok same))
@@ -288,19 +270,17 @@ module _ (script : Script) (lawful : IsLawful script) (deeds : List (ℕ × Deed
 
   -- their names and roles are those of the machines that were read
   roles : roles_of (idle all) ≡ roles_of all
-  roles = same_roles 0 [] all
+  roles = same_but_deeds (λ name role. (name, role)) 0 [] all
 
   -- a stop's line is read as it, after those in front of it
   stop_is : (before after : List StopAt) (stop : StopAt) → script.stops ≡ before ++ stop ∷ after →
       (stop_read (roles_of all) (stopped_of (idle all) before) (drop 1 (stop_line all stop))
       >>= unless_full kind.Stop before) ≡ Ok stop
   stop_is before after stop is =
-      let good : All (IsStopAt all) (before ++ stop ∷ after) = subst (All (IsStopAt all)) is lawful.stops in
       let back = stop_back all lawful.machines.named lawful.machines.distinct before stop
-      (all_in_front (IsStopAt all) before (stop ∷ after) good)
+      (all_in_front (IsStopAt all) script.stops before (stop ∷ after) is lawful.stops)
       (middle (IsStopAt all) script.stops before after stop is lawful.stops)
-      (fresh (λ (stop : StopAt). stop.machine) before after stop
-      (subst (AllPairs (λ (stop other : StopAt). stop.machine ≢ other.machine)) is lawful.one_stop_each)) in
+      (fresh (λ (stop : StopAt). stop.machine) script.stops before after stop is lawful.one_stop_each) in
       rw (same_stops [] all before, back) refl
 
   -- the lines of the kinds from the steps on, which are none of an earlier kind
@@ -340,8 +320,7 @@ module _ (script : Script) (lawful : IsLawful script) (deeds : List (ℕ × Deed
       (number_back 1 max_events script.log lawful.log (omega arith)) in
       let (l4, t4, link) = one_back kind.Link (λ link. link_line script) (one_number 1 max_link) script.link l3 _ t3
       (number_back 1 max_link script.link lawful.link (omega arith)) in
-      let t4' : Tells l4 (map machine_line (idle all) ++ do_lines) =
-      subst (λ (lines : Lines). Tells l4 (lines ++ do_lines)) (sym (lines_busy 0 [] all)) t4 in
+      let t4' : Tells l4 (map machine_line (idle all) ++ do_lines) = rw (said_of_machines [] all) t4 in
       let first = some_back kind.Machine machine_line cast_read (idle all) l4 do_lines
       (omega (arith, size_busy 0 [] all, lawful.machines.few.0)) t4' in
       let (l5, t5, machines) = many_back kind.Machine machine_line cast_read (idle all)
@@ -350,12 +329,12 @@ module _ (script : Script) (lawful : IsLawful script) (deeds : List (ℕ × Deed
       [] (idle all) refl l4 do_lines
       (past kind.Do (do_line script.version all) kind.Machine deeds lose_lines (omega arith)
       (past_loses kind.Machine (omega arith))) t4' in
+      let busy = are_busy all deeds are.each in
       let (l6, t6, done) = each_back kind.Do (do_line script.version all) (do_read script.version (roles_of all))
       (IsDone script.version all) max_actions refl
       (deed_back all lawful.machines.named lawful.machines.distinct script.version lawful.version) deeds
-      (deeds_done script deeds lawful are)
-      (omega (arith, deed_count all deeds are.known are.each, lawful.machines.in_all)) l5 lose_lines
-      (past_loses kind.Do (omega arith)) t5 in
+      (deeds_done script deeds lawful are) (omega (arith, deed_count all deeds are.known busy, lawful.machines.in_all))
+      l5 lose_lines (past_loses kind.Do (omega arith)) t5 in
       let (l7, t7, loses) = each_back kind.Lose (lose_line all) (lose_read (roles_of all)) (IsLose all) max_loses refl
       (lose_back all lawful.machines.named lawful.machines.distinct) script.loses lawful.loses lawful.few_loses l6
       stop_lines (past_stops kind.Lose (omega arith)) t6 in
@@ -369,17 +348,14 @@ module _ (script : Script) (lawful : IsLawful script) (deeds : List (ℕ × Deed
       let one : one_supervisor (idle all) l5 ≡ Ok tt =
       rw (supervisors_busy 0 [] all ∙ lawful.machines.supervisor) refl in
       rw (stated, seed, key, log, link, first ∙ machines, one, roles, done, loses, stops, steps, none_back l9 t9)
-      (ap (λ (ms : List Cast0). Ok (record script { machines = ms })) (busy_back 0 deeds all
-      (λ k cast at. are.each k cast at ∙ ap (λ p. actions_at p deeds) (omega arith))))
+      (ap (λ (ms : List Cast0). Ok (record script { machines = ms })) (busy_back 0 deeds all busy))
 
   -- the lines of the script are read as it
   pub script_back : (told : Bool) → (told ≡ false → script.version ≡ 1) → (left : Left) →
       Tells left (lines_of told script deeds) → script_from left ≡ Ok script
   script_back true untold left tells =
-      let small : IsBetween 1 2 script.version = elim lawful.version [
-        | inl is ↦ (omega (arith, is), omega (arith, is))
-        | inr is ↦ (omega (arith, is), omega (arith, is))
-      ] in
+      let small : IsBetween 1 2 script.version = elim lawful.version
+      [ inl is ↦ (omega (arith, is), omega (arith, is)) | inr is ↦ (omega (arith, is), omega (arith, is)) ] in
       let (rest, more, is) = version_back script.version left (lines_of false script deeds) small tells in
       rw is (from_seed_back (script.version, rest) refl more)
   script_back false untold left tells =
@@ -407,13 +383,12 @@ module _ (version : ℕ) (machines : List Cast0) (deeds : List (ℕ × Deed)) wh
 
   -- each has its own deeds
   own : (place : ℕ) (cast : Cast0) → slice_get busy place ≡ Some cast → cast.actions ≡ actions_at place deeds
-  own place cast at = each_busy 0 deeds machines place cast at ∙ ap (λ p. actions_at p deeds) (omega arith)
+  own place cast at = each_busy 0 deeds machines place place cast (omega arith) at
 
   module _ (done : All (IsDone version busy) deeds) where
     -- the deeds are of these machines
     known : All (λ (done : ℕ × Deed). done.0 < length busy) deeds
-    known = All-weaker (IsDone version busy) (λ (done : ℕ × Deed). done.0 < length busy)
-        (λ done is. slice_get_within busy done.0 is.0 is.1) deeds done
+    known k d within = let is = done k d within in slice_get_within busy _ is.0 is.1
 
     -- each machine may do its own
     casts : All (IsCast version busy) busy
@@ -421,40 +396,33 @@ module _ (version : ℕ) (machines : List Cast0) (deeds : List (ℕ × Deed)) wh
         let cast : Cast0 = get_or busy i x in
         let at : slice_get busy i ≡ Some cast = slice_get-get_or busy i x within in
         let P : Deed → Type 0 = λ deed. IsDeedOf cast.role deed × IsDeedIn version deed × IsDeedAmong busy deed in
-        All-same P cast.actions (actions_at i deeds) (own i cast at)
-        (All-weaker (λ deed. IsDone version busy (i, deed)) P (λ deed (own, there, does, in_version, among).
-        let both : Some own ≡ Some cast = sym there ∙ at in
-        let same : own ≡ cast = cc in
-        (subst (λ (c : Cast0). IsDeedOf c.role deed) same does, in_version, among)) (actions_at i deeds)
-        (own_deeds (λ place deed. IsDone version busy (place, deed)) i deeds done))
+        All-same P cast.actions (actions_at i deeds) (own i cast at) (λ k d inside.
+        let (maker, there, does, in_version, among) =
+        own_deeds (λ place deed. IsDone version busy (place, deed)) i deeds done k d inside in
+        let same : maker ≡ cast = cc in
+        (subst (λ (c : Cast0). IsDeedOf c.role (get_or (actions_at i deeds) k d)) same does, in_version, among))
 
     -- the machines may be a script's
     are_cast : AreNew machines → count_by (λ (cast : Cast0). is_supervisor cast.role) machines ≡ 1 →
         length deeds ≤ max_actions → AreCast version busy
     are_cast new one most =
         let (few, named, distinct) = new_busy deeds machines new in
+        let counted = count_by-le-length (λ (cast : Cast0). is_supervisor cast.role) machines in
         record {
-          few = (some machines one (size_busy 0 deeds machines), few);
+          few = (omega (arith, one, size_busy 0 deeds machines, counted), few);
           named = named;
           distinct = distinct;
           supervisor = supervisors_busy 0 deeds machines ∙ one;
           actions = casts;
-          in_all = omega (arith, deed_count busy deeds known own, most);
+          in_all = omega (arith, deed_count busy deeds known (each_busy 0 deeds machines), most);
         }
-      where
-        -- where there is a supervisor there is a machine
-        some : (machines : List Cast0) → count_by (λ (cast : Cast0). is_supervisor cast.role) machines ≡ 1 →
-            length busy ≡ length machines → 1 ≤ length busy
-        some [] one size = absurd (omega (arith, one))
-        some (cast ∷ machines) one size = omega (arith, size)
 
 -- ---- the whole
 
 -- one supervisor
 supervisor_is : (machines : List Cast0) (left : Left) → Gives (one_supervisor machines left)
     (λ done. count_by (λ (cast : Cast0). is_supervisor cast.role) machines ≡ 1)
-supervisor_is machines left =
-    if_gives _ _ _ _ (λ one. value_gives _ tt ((Decides-eqb _ 1).0 one))
+supervisor_is machines left = if_gives _ _ _ _ (λ one. value_gives _ tt (eqb-true _ 1 one))
 
 -- no line
 none_is : (left : Left) → Gives (none_left left) (λ done. Tells left [])
@@ -475,10 +443,8 @@ version_is : (left : Left) → Gives (version_read 1 left) (λ (version, rest). 
 version_is (Next n (Ok (kind.Version, words)) left) =
     then_gives _ _ (λ number. IsBetween 1 2 number × (words ≡ decimal number ∷ [])) _
     (λ number is. one_gives 1 2 words number (at_line_is n (one_number 1 2 words) number is)) (λ number (between, are).
-    let good : IsVersion number = elim (cases_eq number 1) [
-      | inl is ↦ inl is
-      | inr other ↦ inr (omega (arith, between, other))
-    ] in
+    let good : IsVersion number = elim (cases_eq number 1)
+    [ inl is ↦ inl is | inr other ↦ inr (omega (arith, between, other)) ] in
     value_gives _ (number, left) (good, (true, (λ untold. cc), stated n words number left are)))
 version_is left = value_gives _ (1, left) (inl refl, (false, (λ untold. refl), λ script deeds same tells. tells))
 
@@ -500,21 +466,21 @@ after_said version good l0 =
     (IsBetween 1 max_link) (one_gives 1 max_link) l3) (λ (link, l4) (link_good, link_front).
     then_gives _ _ _ _ (some_said kind.Machine machine_line cast_read _ l4 (many_said kind.Machine machine_line
     cast_read AreNew cast_gives (omega arith, All-nil _, no_pairs (λ (cast : Cast0). cast.name)) l4))
-    (λ (machines, l5) (new, machines_front).
-    then_gives _ _ _ _ (supervisor_is machines l5) (λ one supervised.
+    (λ (machines, l5) (new, machines_front). then_gives _ _ _ _ (supervisor_is machines l5) (λ one supervised.
     then_gave _ _ _ (λ (deeds, l6) deeds_are.
     let all : List Cast0 = busy version machines deeds in
-    let roles : roles_of all ≡ roles_of machines = same_roles 0 deeds machines in
+    let roles : roles_of all ≡ roles_of machines = same_but_deeds (λ name role. (name, role)) 0 deeds machines in
     let ((done, few_deeds), deeds_front) = (rw roles at (each_said kind.Do (do_line version all)
-    (do_read version (roles_of all)) (IsDone version all) max_actions refl (deed_gives all version good) l5)) (deeds, l6)
-    deeds_are in
+    (do_read version (roles_of all)) (IsDone version all) max_actions refl (deed_gives all version good) l5))
+    (deeds, l6) deeds_are in
     then_gives _ _ _ _ (rw roles at (each_said kind.Lose (lose_line all) (lose_read (roles_of all)) (IsLose all)
     max_loses refl (lose_gives all) l6)) (λ (loses, l7) ((lose, few_loses), loses_front).
     then_gives _ _ _ _ (many_said kind.Stop (stop_line all)
     (λ stops. stop_read (roles_of machines) (stopped_of machines stops))
     (λ stops. All (IsStopAt all) stops × AllPairs (λ (stop other : StopAt). stop.machine ≢ other.machine) stops)
     (λ before words (good, own) room stop is.
-    let ((lawful, new), are) = (rw (roles, same_stops deeds machines before) at (stop_gives all before words)) stop is in
+    let gives = rw (roles, same_stops deeds machines before) at (stop_gives all before words) in
+    let ((lawful, new), are) = gives stop is in
     let places = fresh_push (λ (stop : StopAt). stop.machine) before stop own new in
     ((All-push (IsStopAt all) before stop good lawful, places), are))
     (All-nil _, no_pairs (λ (stop : StopAt). stop.machine)) l7) (λ (stops, l8) ((stop, distinct), stops_front).
@@ -523,7 +489,7 @@ after_said version good l0 =
     then_gives _ _ _ _ (none_is l9) (λ ended none.
     let later : Lines = map (do_line version all) deeds ++ (map (lose_line all) loses ++ (map (stop_line all) stops
     ++ (map (step_line all) steps ++ []))) in
-    let after = subst (λ (first : Lines). Tells l4 (first ++ later)) (sym (lines_busy 0 deeds machines))
+    let after : Tells l4 (map machine_line all ++ later) = rw (said_of_machines deeds machines)
     (machines_front later (deeds_front _ (loses_front _ (stops_front _ (steps_front [] none))))) in
     let before = seed_front _ (key_front _ (log_front _ (link_front _ after))) in
     value_gives _ _ (
@@ -565,8 +531,7 @@ head_back words own =
     let good : is_line words ≡ true = (own_line words own).0 in
     let plain : list_all (is_between 32 126) (line_of words) ≡ true =
     list_all-from_AllPass (is_between 32 126) (line_of words)
-    (All-weaker IsPlain (λ byte. is_between 32 126 byte ≡ true) (λ byte is. (between_test 32 126 byte).1 is)
-    (line_of words) (plain_line words good)) in
+    (λ k d within. (between_test 32 126 _).1 (plain_line words good k d within)) in
     rw (plain, words_back words good) refl
 
 -- lines that count
@@ -649,7 +614,4 @@ text_said text script is =
     }
 
 pub one_script : (text : List ℕ) (script other : Script) → IsTextOf text script → IsTextOf text other → script ≡ other
-one_script text script other is also =
-    let same : ◌≡◌ {A = LinesRead Script} (Ok script) (Ok other) =
-    sym (text_read text script is) ∙ text_read text other also in
-    cc
+one_script text script other is also = cc (text_read text script is, text_read text other also)

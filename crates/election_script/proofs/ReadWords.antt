@@ -1,38 +1,31 @@
 -- The words of a line are read as what they say, and no others are.
-use Rattle.election_script.proofs.Imports.{◌≡◌, ◌∙◌, ap, sym, subst, refl, arith, ℕ, ◌<◌, ◌≤◌, ◌^◌, true, false, List}
-use Rattle.election_script.proofs.Imports.{[], ◌∷◌, length, inl, inr, Some, Ok, All, Any, slice_get, decimal}
-use Rattle.election_script.proofs.Imports.{slice_get_within, encode_lower, IsBytes, IsDigest, IsVersion, IsDeedIn}
-use Rattle.election_script.proofs.Imports.{how_word, How, Deed, Opened, Authorise, Override, Closed, Activate, Commit}
-use Rattle.election_script.proofs.Imports.{Cast, Cancel, Challenge, Step, Act, Hear, Stop, OtsKind, IsHeight}
-use Rattle.election_script.proofs.Imports.{height_word, Role, Supervisor, Booth, IsName, role_word, Cast0, Lose, StopAt}
-use Rattle.election_script.proofs.Imports.{IsBetween, IsSession, IsLose, IsStopAt, IsStep, max_events, ots_word}
-use Rattle.election_script.proofs.Imports.{name_at, deed_words, step_words, bytes_eq, bytes_eq-Decides}
-use Rattle.election_script.proofs.Imports.{false_from_ne_true, is_name_word, roles_of, stopped_of, ballot_deed, do_read}
-use Rattle.election_script.proofs.Imports.{◌≢◌, Result, Err, and_parts, nat_lt, ◌&&◌, is_between, is_listed, in_table}
-use Rattle.election_script.proofs.Imports.{named, role_names, how_names, key_kinds, key_heights, codes, not, true≢false}
-use Rattle.election_script.specs.Deeds.{override_deed, machine_and_session, plain_deed, session_deed, named_deed}
-use Rattle.hex.proofs.HexLemmas.{decode_of-encode_lower, decode_of-ok, decode_sized-ok, decode_sized-twice}
-use Rattle.election_script.specs.Words.{number_within, ballot_read, octets_in}
-use Rattle.election_script.specs.Machines.{machine_named, machine_of_role, is_of_role}
-use Rattle.election_script.specs.Lines.{seed_read, key_read, machine_said, entry_read, receiver_read, lose_read}
-use Rattle.election_script.specs.Lines.{stopper_read, stop_read, step_read, one_number, own_step, named_step}
-use Rattle.election_script.proofs.Named.{has_role, HasRoleAt, IsDone, AreDistinct, cast_at, place_back, place_none}
-use Rattle.election_script.proofs.Named.{same_role, same_place, stop_new, from, place_unknown, stop_among, name_is}
-use Rattle.election_script.proofs.Named.{place_is, IsNamedAt, between_test, name_test, role_named, how_named}
-use Rattle.election_script.proofs.Named.{kind_named, height_named, some_role, some_how, some_kind, some_height, AreRows}
-use Rattle.election_script.proofs.Named.{row_is}
-use Rattle.hall_text.proofs.DigestText.{digest_decodes}
-use Rattle.hall_text.proofs.Numbers.{number-found}
-use Rattle.std.proofs.lemmas.Option.{cond_some}
-use Rattle.election_script.proofs.ScriptLines.{AreNamed}
-use Rattle.hall_text.specs.Words.{number_in, value_from, digest_in, in_lower_case}
-use Rattle.hex.specs.Hex.{decode_of, decode_sized}
-use Rattle.hex.specs.declared.error.FromHexError.{FromHexError}
-use Rattle.election_script.specs.declared.kinds.DeedName.{DeedName}
-use Rattle.election_script.specs.declared.kinds.StepName.{StepName}
+use Rattle.election_script.proofs.Imports
+use Imports.{[], Act, Activate, All, and_parts, Any, ap, arith, Authorise, ballot_deed, Booth, bytes_eq}
+use Imports.{bytes_eq-Decides, Cancel, Cast, Cast0, Challenge, Closed, codes, Commit, decimal, Deed, deed_words}
+use Imports.{do_read, encode_lower, Err, false, false_from_ne_true, Hear, height_word, How, how_names, how_word}
+use Imports.{in_table, inl, inr, is_between, is_listed, is_name_word, IsBetween, IsBytes, IsDeedIn, IsDigest, IsHeight}
+use Imports.{IsLose, IsName, IsSession, IsStep, IsStopAt, IsVersion, key_heights, key_kinds, length, List, Lose}
+use Imports.{max_events, name_at, named, nat_lt, not, not-false, Ok, Opened, ots_word, OtsKind, Override, refl, Result}
+use Imports.{Role, role_names, role_word, roles_of, slice_get, slice_get_within, Some, Step, step_words, Stop, StopAt}
+use Imports.{stopped_of, Supervisor, sym, true, true≢false, ℕ, ◌&&◌, ◌<◌, ◌^◌, ◌∙◌, ◌∷◌, ◌≡◌, ◌≢◌, ◌≤◌}
+use Rattle.election_script.proofs.Gives.{Gives, if_gives, some_gives, then_after, then_gives, unless_gives, value_gives}
+use Rattle.election_script.proofs.Named.{AreDistinct, AreRows, between_test, cast_at, from, has_role, HasRoleAt}
+use Rattle.election_script.proofs.Named.{height_named, how_named, IsDone, IsNamedAt, kind_named, name_is, name_test}
+use Rattle.election_script.proofs.Named.{place_back, place_is, place_none, place_unknown, role_named, row_is}
+use Rattle.election_script.proofs.Named.{same_place, same_role, some_height, some_how, some_kind, some_role, stop_among}
+use Rattle.election_script.proofs.{Named.stop_new, ScriptLines.AreNamed}
+use Rattle.election_script.specs.Deeds.{machine_and_session, named_deed, override_deed, plain_deed, session_deed}
 use Rattle.election_script.specs.Kinds.{deed_names, later_deeds, step_names}
-use Rattle.election_script.proofs.Gives.{Gives, value_gives, then_gives, if_gives, unless_gives, some_gives}
-use Rattle.std.proofs.lemmas.Bool.{not-false}
+use Rattle.election_script.specs.Lines.{entry_read, key_read, lose_read, machine_said, named_step, one_number, own_step}
+use Rattle.election_script.specs.Lines.{receiver_read, seed_read, step_read, stop_read, stopper_read}
+use Rattle.election_script.specs.Machines.{is_of_role, machine_named, machine_of_role}
+use Rattle.election_script.specs.Words.{ballot_read, number_within, octets_in}
+use Rattle.election_script.specs.{declared.kinds.DeedName.DeedName, declared.kinds.StepName.StepName}
+use Rattle.hall_text.proofs.{DigestText.digest_decodes, Numbers.number-found}
+use Rattle.hall_text.specs.Words.{digest_in, in_lower_case, number_in, value_from}
+use Rattle.hex.proofs.HexLemmas.{decode_of-encode_lower, decode_of-ok, decode_sized-ok, decode_sized-twice}
+use Rattle.hex.specs.{Hex.decode_of, Hex.decode_sized, declared.error.FromHexError.FromHexError}
+use Rattle.std.proofs.lemmas.Option.{cond_some}
 use Rattle.entry_format.specs.declared.deed.How.TheVariants as how
 use Rattle.election_script.specs.declared.kinds.DeedName.TheVariants as deed
 use Rattle.election_script.specs.declared.kinds.StepName.TheVariants as step
@@ -66,16 +59,14 @@ key_back kind height is = rw (some_kind kind, some_height height is) refl
 pub machine_back : (machines : List Cast0) (name : List ℕ) (role : Role) → IsName name →
     (Any (λ (cast : Cast0). cast.name ≡ name) machines → ⊥) →
     machine_said (roles_of machines) (name ∷ role_word role ∷ []) ≡ Ok (name, role)
-machine_back machines name role is new =
-    rw ((name_test name).1 is, place_none machines name new, some_role role) refl
+machine_back machines name role is new = rw ((name_test name).1 is, place_none machines name new, some_role role) refl
 
 module _ (machines : List Cast0) (names : AreNamed machines) (distinct : AreDistinct machines) where
   -- each machine's name is a name
   is_name : (place : ℕ) → place < length machines → is_name_word (name_at machines place) ≡ true
   is_name place within =
       let (cast, there) = cast_at machines place within in
-      (name_test (name_at machines place)).1
-      (subst IsName (sym (name_is machines place cast within)) (names place cast within))
+      (name_test (name_at machines place)).1 (rw (name_is machines place cast within) (names place cast within))
 
   -- and is read as the machine's place
   name_back : (place : ℕ) → place < length machines →
@@ -107,8 +98,7 @@ module _ (machines : List Cast0) (names : AreNamed machines) (distinct : AreDist
   override_back : (place session : ℕ) (how : How) → HasRoleAt machines Supervisor place → IsSession session →
       override_deed (roles_of machines) (name_at machines place) (decimal session ∷ how_word how ∷ [])
       ≡ Ok (place, session, how)
-  override_back place session how has is =
-      rw (role_session_back place Supervisor session has is, some_how how) refl
+  override_back place session how has is = rw (role_session_back place Supervisor session has is, some_how how) refl
 
   -- the maker and the number of an entry
   entry_back : (maker number : ℕ) → maker < length machines → number ≤ 4095 →
@@ -188,8 +178,7 @@ number_gives least greatest word =
 
 -- hexadecimal digits
 lower_is : (word : List ℕ) (read : Result (List ℕ) FromHexError) (octets : List ℕ) →
-    in_lower_case word read ≡ Some octets →
-    (read ≡ Ok octets) × (word ≡ encode_lower octets)
+    in_lower_case word read ≡ Some octets → (read ≡ Ok octets) × (word ≡ encode_lower octets)
 lower_is word (Ok own) octets is =
     let (equal, same) = cond_some (bytes_eq (encode_lower own) word) own octets is in
     (ap Ok same, sym ((bytes_eq-Decides (encode_lower own) word).0 equal) ∙ ap encode_lower same)
@@ -241,9 +230,13 @@ module _ (machines : List Cast0) where
   named_gives : (name : List ℕ) → Gives (machine_named (roles_of machines) name) (IsNamedAt machines name)
   named_gives name = if_gives (is_name_word name) _ _ _ (λ good. some_gives _ _ _ (place_is machines name))
 
+  -- the machine at the place has the role and the name
+  abbrev IsMachine : Role → List ℕ → ℕ → Type 0
+  IsMachine role name place = IsNamedAt machines name place × HasRoleAt machines role place
+
   -- a machine of a role
-  role_gives : (role : Role) (name : List ℕ) → Gives (machine_of_role (roles_of machines) role name)
-      (λ place. IsNamedAt machines name place × HasRoleAt machines role place)
+  role_gives : (role : Role) (name : List ℕ) →
+      Gives (machine_of_role (roles_of machines) role name) (IsMachine role name)
   role_gives role name = then_gives _ _ _ _ (named_gives name) (λ place at.
       let (cast, there) = cast_at machines place at.0 in
       let listed = has_role machines place cast there in
@@ -259,8 +252,7 @@ module _ (machines : List Cast0) where
       (unless_gives _ _ _ _ (λ good. unless_gives _ _ _ _ (λ unknown.
       value_gives _ name ((name_test name).0 (not-false _ good), place_unknown machines name unknown, refl))))
       (λ own (good, new, same). then_gives _ _ _ _
-      (some_gives (named role_names word) _ _ (role_named word)) (λ role is.
-      value_gives _ (own, role) (good, new, cc)))
+      (some_gives (named role_names word) _ _ (role_named word)) (λ role is. value_gives _ (own, role) (good, new, cc)))
   machine_gives words = λ a is. cc
 
   -- ---- entries
@@ -275,18 +267,18 @@ module _ (machines : List Cast0) where
       (λ place. (receiver ≢ maker) × IsNamedAt machines receiver place)
   receiver_gives maker receiver =
       unless_gives (not (is_name_word receiver)) _ _ _ (λ good. unless_gives (bytes_eq receiver maker) _ _ _ (λ other.
-      some_gives _ _ _ (λ place is.
-      (λ same. true≢false (sym ((bytes_eq-Decides receiver maker).1 same) ∙ other), place_is machines receiver place is))))
+      some_gives _ _ _ (λ place is. (
+        λ same. true≢false (sym ((bytes_eq-Decides receiver maker).1 same) ∙ other),
+        place_is machines receiver place is,
+      ))))
 
   -- one that is lost
-  pub lose_gives : (words : List (List ℕ)) → Gives (lose_read (roles_of machines) words)
-      (λ lose. IsLose machines lose
+  pub lose_gives : (words : List (List ℕ)) → Gives (lose_read (roles_of machines) words) (λ lose. IsLose machines lose
       × (words ≡ name_at machines lose.from ∷ decimal lose.number ∷ name_at machines lose.to ∷ []))
   lose_gives (maker ∷ number ∷ receiver ∷ []) = then_gives _ _ _ _ (entry_gives maker number) (λ entry (made, most, is).
       then_gives _ _ _ _ (receiver_gives maker receiver) (λ place (differ, heard).
       let other : (entry.0 ≡ place) → ⊥ = λ same. differ (sym heard.1 ∙ ap (name_at machines) (sym same) ∙ made.1) in
-      value_gives _ (record { from = entry.0; number = entry.1; to = place })
-      ((made.0, heard.0, other, most), cc)))
+      value_gives _ (record { from = entry.0; number = entry.1; to = place }) ((made.0, heard.0, other, most), cc)))
   lose_gives words = λ a is. cc
 
   -- ---- stops
@@ -296,8 +288,7 @@ module _ (machines : List Cast0) where
       (λ place. IsNamedAt machines name place × (Any (λ (stop : StopAt). stop.machine ≡ place) stops → ⊥))
   stopper_gives stops name =
       unless_gives (not (is_name_word name)) _ _ _ (λ good. unless_gives (is_listed (stopped_of machines stops) name)
-      _ _ _ (λ new.
-      some_gives _ _ _ (λ place is.
+      _ _ _ (λ new. some_gives _ _ _ (λ place is.
       let at = place_is machines name place is in
       let among = ap (is_listed (stopped_of machines stops)) at.1 ∙ new in
       (at, λ any. true≢false (sym (stop_among machines stops place any) ∙ among)))))
@@ -346,8 +337,7 @@ module _ (machines : List Cast0) where
 
   role_session_gives : (role : Role) (name word : List ℕ) →
       Gives (machine_and_session (roles_of machines) role name word)
-      (λ read. (IsNamedAt machines name read.0 × HasRoleAt machines role read.0)
-      × (IsSession read.1 × (word ≡ decimal read.1)))
+      (λ read. IsMachine role name read.0 × (IsSession read.1 × (word ≡ decimal read.1)))
   role_session_gives role name word = then_gives _ _ _ _ (role_gives role name) (λ place has.
       then_gives _ _ _ _ (number_gives 1 4294967295 word) (λ session is. value_gives _ (place, session) (has, is)))
 
@@ -364,21 +354,19 @@ module _ (machines : List Cast0) where
         (IsSaid name (word ∷ words))
 
     plain_gives : (role : Role) (name : List ℕ) (words : List (List ℕ)) →
-        Gives (plain_deed (roles_of machines) role name words)
-        (λ place. (IsNamedAt machines name place × HasRoleAt machines role place) × (words ≡ []))
+        Gives (plain_deed (roles_of machines) role name words) (λ place. IsMachine role name place × (words ≡ []))
     plain_gives role name [] = λ place is. (role_gives role name place is, refl)
     plain_gives role name words = λ a is. cc
 
     session_gives : (role : Role) (name : List ℕ) (words : List (List ℕ)) →
         Gives (session_deed (roles_of machines) role name words)
-        (λ read. (IsNamedAt machines name read.0 × HasRoleAt machines role read.0)
-        × (IsSession read.1 × (words ≡ decimal read.1 ∷ [])))
+        (λ read. IsMachine role name read.0 × (IsSession read.1 × (words ≡ decimal read.1 ∷ [])))
     session_gives role name (word ∷ []) = λ read is.
         let (has, (good, same)) = role_session_gives role name word read is in (has, (good, ap (λ w. w ∷ []) same))
     session_gives role name words = λ a is. cc
 
     ballot_deed_gives : (name : List ℕ) (words : List (List ℕ)) → Gives (ballot_deed (roles_of machines) name words)
-        (λ read. (IsNamedAt machines name read.0 × HasRoleAt machines Booth read.0)
+        (λ read. IsMachine Booth name read.0
         × ((IsSession read.1 × IsDigest read.2 × IsBytes read.2) × (words ≡ decimal read.1 ∷ encode_lower read.2 ∷ [])))
     ballot_deed_gives name (word ∷ digits ∷ []) =
         then_gives _ _ _ _ (role_session_gives Booth name word) (λ read (has, (good, is)).
@@ -387,14 +375,10 @@ module _ (machines : List Cast0) where
     ballot_deed_gives name words = λ a is. cc
 
     authorise_is : IsDeedSaid (codes "authorise") deed.Authorise
-    authorise_is name (booth ∷ word ∷ []) = then_gives _ _ (λ read. (IsNamedAt machines name read.0
-        × HasRoleAt machines Supervisor read.0) × ((IsNamedAt machines booth read.1 × HasRoleAt machines Booth read.1)
-        × (IsSession read.2 × (word ≡ decimal read.2)))) _
-        (then_gives _ _ _ _ (role_gives Supervisor name) (λ place has.
-        then_gives _ _ _ _ (role_session_gives Booth booth word) (λ read is.
-        value_gives _ (place, read.0, read.1) (has, is))))
-        (λ read ((at, (cast, there, own)), ((also, holds), (good, is))).
-        value_gives _ (read.0, Authorise read.1 read.2) ((cast, there, own, tt, (holds, good)), cc))
+    authorise_is name (booth ∷ word ∷ []) =
+        then_after _ _ _ _ _ (role_gives Supervisor name) (λ place (at, (cast, there, own)).
+        then_after _ _ _ _ _ (role_session_gives Booth booth word) (λ read ((also, holds), (good, is)).
+        value_gives _ (place, Authorise read.0 read.1) ((cast, there, own, tt, (holds, good)), cc)))
     authorise_is name words = λ a is. cc
 
     -- the deeds of all versions, before those of one
@@ -425,14 +409,10 @@ module _ (machines : List Cast0) where
   how_in_two session how.Cast = refl
 
   override_how_is : IsDeedSaid 2 (codes "override") deed.OverrideHow
-  override_how_is name (word ∷ said ∷ []) = then_gives _ _ (λ read. (IsNamedAt machines name read.0
-      × HasRoleAt machines Supervisor read.0) × (IsSession read.1 × ((word ≡ decimal read.1) ×
-      (said ≡ how_word read.2)))) _
-      (then_gives _ _ _ _ (role_session_gives Supervisor name word) (λ read (has, (good, is)).
-      then_gives _ _ _ _ (some_gives (named how_names said) _ _ (how_named said)) (λ how also.
-      value_gives _ (read.0, read.1, how) (has, (good, (is, also))))))
-      (λ read ((at, (cast, there, own)), (good, (is, also))).
-      value_gives _ (read.0, Override read.1 read.2) ((cast, there, own, how_in_two read.1 read.2, good), cc))
+  override_how_is name (word ∷ said ∷ []) =
+      then_after _ _ _ _ _ (role_session_gives Supervisor name word) (λ read ((at, (cast, there, own)), (good, is)).
+      then_after _ _ _ _ _ (some_gives (named how_names said) _ _ (how_named said)) (λ how also.
+      value_gives _ (read.0, Override read.1 how) ((cast, there, own, how_in_two read.1 how, good), cc)))
   override_how_is name words = λ a is. cc
 
   -- what a version has

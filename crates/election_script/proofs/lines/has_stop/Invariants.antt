@@ -1,4 +1,4 @@
-use Rattle.election_script.proofs.Imports.{◌≡◌, drop, is_listed, stopped_of}
+use Rattle.election_script.proofs.Imports.{drop, is_listed, stopped_of, ◌≡◌}
 use Rattle.election_script.proofs.lines.has_stop.Given as goal
 
 -- whether there is one depends on the stops that are left

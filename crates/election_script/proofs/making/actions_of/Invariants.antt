@@ -1,4 +1,4 @@
-use Rattle.election_script.proofs.Imports.{◌≡◌, ◌-◌, actions_of}
+use Rattle.election_script.proofs.Imports.{actions_of, ◌-◌, ◌≡◌}
 use Rattle.election_script.proofs.making.actions_of.Given as goal
 
 -- the deeds of the sessions so far

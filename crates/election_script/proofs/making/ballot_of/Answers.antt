@@ -1,5 +1,5 @@
-use Rattle.election_script.proofs.Imports.{◌≡◌, ◌+◌, ◌*◌, ◌++◌, length, take, replicate, arith, ap, sym, ◌∙◌, take_all}
-use Rattle.election_script.proofs.Imports.{concat, u32str, length-u32str}
+use Rattle.election_script.proofs.Imports.{ap, arith, concat, length, length-u32str, replicate, sym, take, take_all}
+use Rattle.election_script.proofs.Imports.{u32str, ◌*◌, ◌+◌, ◌++◌, ◌∙◌, ◌≡◌}
 use Rattle.election_script.proofs.Day.{copies_more}
 use Rattle.election_script.proofs.making.ballot_of.Goals as goal
 
@@ -15,8 +15,7 @@ loop-copy-preserved c =
       long = omega arith;
       copies = ap (λ k. take k c.write_at.new.bytes) at ∙ c.write_at.ensures.written
           ∙ ap (λ l. l ++ c.u32_bytes-octets.result) c.loop-copy.invariant.copies
-          ∙ ap (λ l. concat (replicate copy octets) ++ l) c.u32_bytes-octets.ensures
-          ∙ sym (copies_more copy octets);
+          ∙ ap (λ l. concat (replicate copy octets) ++ l) c.u32_bytes-octets.ensures ∙ sym (copies_more copy octets);
     }
 
 -- all eight

@@ -1,4 +1,4 @@
-use Rattle.election_script.proofs.Imports.{◌≡◌, ◌*◌, length, take, replicate, concat, u32str}
+use Rattle.election_script.proofs.Imports.{concat, length, replicate, take, u32str, ◌*◌, ◌≡◌}
 use Rattle.election_script.proofs.making.ballot_of.Given as goal
 
 -- the copies so far

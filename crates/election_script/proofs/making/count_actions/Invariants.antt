@@ -1,4 +1,4 @@
-use Rattle.election_script.proofs.Imports.{◌≡◌, take, count_actions}
+use Rattle.election_script.proofs.Imports.{count_actions, take, ◌≡◌}
 use Rattle.election_script.proofs.making.count_actions.Given as goal
 
 -- the actions of the machines so far

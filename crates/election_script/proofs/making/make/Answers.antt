@@ -1,4 +1,4 @@
-use Rattle.election_script.proofs.Imports.{◌≤◌, sym, subst, ◌∙◌, count_actions, max_actions}
+use Rattle.election_script.proofs.Imports.{count_actions, max_actions, subst, sym, ◌∙◌, ◌≤◌}
 use Rattle.election_script.proofs.Day.{count_few, generated_is_lawful}
 use Rattle.election_script.proofs.making.make.Goals as goal
 

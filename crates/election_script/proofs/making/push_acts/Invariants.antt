@@ -1,4 +1,4 @@
-use Rattle.election_script.proofs.Imports.{◌≡◌, ◌++◌, replicate, Act}
+use Rattle.election_script.proofs.Imports.{Act, replicate, ◌++◌, ◌≡◌}
 use Rattle.election_script.proofs.making.push_acts.Given as goal
 
 -- the acts so far

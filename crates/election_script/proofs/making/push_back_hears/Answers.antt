@@ -1,5 +1,5 @@
-use Rattle.election_script.proofs.Imports.{◌≡◌, arith, Hear, supervisor}
-use Rattle.election_script.proofs.Day.{joined_more, each_back}
+use Rattle.election_script.proofs.Imports.{arith, Hear, supervisor, ◌≡◌}
+use Rattle.election_script.proofs.Day.{each_back, joined_more}
 use Rattle.election_script.proofs.making.push_back_hears.Goals as goal
 
 -- one number more, from the last on

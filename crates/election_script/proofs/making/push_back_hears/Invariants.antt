@@ -1,4 +1,4 @@
-use Rattle.election_script.proofs.Imports.{◌≡◌, ◌≤◌, ◌-◌, ◌++◌, reverse, range_with_len, supervisor, hears}
+use Rattle.election_script.proofs.Imports.{hears, range_with_len, reverse, supervisor, ◌++◌, ◌-◌, ◌≡◌, ◌≤◌}
 use Rattle.election_script.proofs.making.push_back_hears.Given as goal
 
 -- the numbers so far, which are the last

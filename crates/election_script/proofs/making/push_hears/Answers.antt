@@ -1,6 +1,5 @@
-use Rattle.election_script.proofs.Imports.{arith, Hear}
-use Rattle.election_script.proofs.Day.{joined_more, each_more}
 use Rattle.election_script.proofs.making.push_hears.Goals as goal
+use Rattle.election_script.proofs.{Day.each_more, Day.joined_more, Imports.arith, Imports.Hear}
 
 -- one number more
 pub loop-number-preserved : goal.loop-number-preserved

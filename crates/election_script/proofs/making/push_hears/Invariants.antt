@@ -1,4 +1,4 @@
-use Rattle.election_script.proofs.Imports.{◌≡◌, ◌-◌, ◌++◌, range_with_len, hears}
+use Rattle.election_script.proofs.Imports.{hears, range_with_len, ◌++◌, ◌-◌, ◌≡◌}
 use Rattle.election_script.proofs.making.push_hears.Given as goal
 
 -- the numbers so far

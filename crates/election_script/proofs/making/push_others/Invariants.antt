@@ -1,4 +1,4 @@
-use Rattle.election_script.proofs.Imports.{◌==◌, not, filter, ◌≡◌, ◌-◌, ◌++◌, flat_map, range_with_len, hears}
+use Rattle.election_script.proofs.Imports.{filter, flat_map, hears, not, range_with_len, ◌++◌, ◌-◌, ◌==◌, ◌≡◌}
 use Rattle.election_script.proofs.making.push_others.Given as goal
 
 -- the booths so far

@@ -1,6 +1,5 @@
-use Rattle.election_script.proofs.Imports.{arith}
-use Rattle.election_script.proofs.Day.{session_joined, first_few, deeds_few}
 use Rattle.election_script.proofs.making.push_session.Goals as goal
+use Rattle.election_script.proofs.{Day.deeds_few, Day.first_few, Day.session_joined, Imports.arith}
 
 -- entries are few
 pub overflow_add-end : goal.overflow_add-end

@@ -1,5 +1,5 @@
-use Rattle.election_script.proofs.Imports.{◌-◌, ◌%◌, refl, sym, ◌∙◌, append-nil, length-set, session_steps}
-use Rattle.election_script.proofs.Day.{joined_more, pieces_more, made_more, none_made}
+use Rattle.election_script.proofs.Imports.{append-nil, length-set, refl, session_steps, sym, ◌%◌, ◌-◌, ◌∙◌}
+use Rattle.election_script.proofs.Day.{joined_more, made_more, none_made, pieces_more}
 use Rattle.election_script.proofs.making.push_sessions.Goals as goal
 
 -- nothing is made before the first
@@ -15,6 +15,5 @@ loop-session-preserved c =
           (pieces_more session_steps 1 session c.loop-session.auto.session);
       three = length-set c.loop-session.made ((session - 1) % 3) c.in_ok-made.field-0 ∙ c.loop-session.invariant.three;
       made = made_more c.loop-session.made session c.in_ok-made.field-0 c.loop-session.auto.session
-          c.loop-session.invariant.three
-          c.loop-session.invariant.made c.in_ok-made.ensures.end;
+          c.loop-session.invariant.three c.loop-session.invariant.made c.in_ok-made.ensures.end;
     }

@@ -1,5 +1,5 @@
-use Rattle.election_script.proofs.Imports.{◌≡◌, ℕ, ◌+◌, ◌-◌, ◌<◌, ◌++◌, get_or, length, flat_map, actions_of}
-use Rattle.election_script.proofs.Imports.{session_steps, sessions}
+use Rattle.election_script.proofs.Imports.{actions_of, flat_map, get_or, length, session_steps, sessions, ℕ, ◌+◌, ◌++◌}
+use Rattle.election_script.proofs.Imports.{◌-◌, ◌<◌, ◌≡◌}
 use Rattle.election_script.proofs.making.push_sessions.Given as goal
 
 -- the steps of the sessions so far, and how many entries each booth has made

@@ -1,5 +1,5 @@
-use Rattle.election_script.proofs.Imports.{◌≡◌, ℕ, ◌∷◌, List, arith, ap, Step, Act, Hear, supervisor}
-use Rattle.election_script.proofs.Day.{joined_more, each_more}
+use Rattle.election_script.proofs.Imports.{Act, ap, arith, Hear, List, Step, supervisor, ℕ, ◌∷◌, ◌≡◌}
+use Rattle.election_script.proofs.Day.{each_more, joined_more}
 use Rattle.election_script.proofs.making.push_supervisor.Goals as goal
 
 -- one booth more

@@ -1,4 +1,4 @@
-use Rattle.election_script.proofs.Imports.{◌≡◌, ◌-◌, ◌++◌, ◌∷◌, map, range_with_len, Act, Hear, supervisor}
+use Rattle.election_script.proofs.Imports.{Act, Hear, map, range_with_len, supervisor, ◌++◌, ◌-◌, ◌∷◌, ◌≡◌}
 use Rattle.election_script.proofs.making.push_supervisor.Given as goal
 
 -- the booths so far

@@ -1,6 +1,5 @@
-use Rattle.election_script.proofs.Imports.{authorise_of}
-use Rattle.election_script.proofs.Day.{each_more}
 use Rattle.election_script.proofs.making.supervisor_actions.Goals as goal
+use Rattle.election_script.proofs.{Day.each_more, Imports.authorise_of}
 
 -- one session more
 pub loop-session-preserved : goal.loop-session-preserved

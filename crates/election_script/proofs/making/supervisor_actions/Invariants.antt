@@ -1,4 +1,4 @@
-use Rattle.election_script.proofs.Imports.{◌≡◌, ◌-◌, ◌∷◌, map, Opened, authorise_of, sessions}
+use Rattle.election_script.proofs.Imports.{authorise_of, map, Opened, sessions, ◌-◌, ◌∷◌, ◌≡◌}
 use Rattle.election_script.proofs.making.supervisor_actions.Given as goal
 
 -- the opening, and the sessions so far

@@ -1,6 +1,5 @@
-use Rattle.election_script.proofs.Imports.{◌∙◌, key_heights}
-use Rattle.election_script.proofs.Named.{reads, height_is}
 use Rattle.election_script.proofs.words.height_in.Goals as goal
+use Rattle.election_script.proofs.{Imports.key_heights, Imports.◌∙◌, Named.height_is, Named.reads}
 
 pub returns : goal.returns
 returns c =

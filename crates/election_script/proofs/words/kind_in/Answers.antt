@@ -1,6 +1,5 @@
-use Rattle.election_script.proofs.Imports.{◌∙◌, key_kinds}
-use Rattle.election_script.proofs.Named.{reads, kind_is}
 use Rattle.election_script.proofs.words.kind_in.Goals as goal
+use Rattle.election_script.proofs.{Imports.key_kinds, Imports.◌∙◌, Named.kind_is, Named.reads}
 
 pub returns : goal.returns
 returns c =
