@@ -1,3 +1,4 @@
+pub mod Imports
 pub mod Views
 pub mod Named
 pub mod Rows

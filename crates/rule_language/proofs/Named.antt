@@ -1,8 +1,6 @@
 -- Words by which things are named.
-use Rattle.std.proofs.Common.{◌≡◌, ◌∙◌, ap, refl, ℕ, ◌+◌, ◌<◌, false, List, length, get_or, drop}
-use Rattle.std.specs.Str.{bytes_eq}
-use Rattle.std.proofs.lemmas.List.{drop_more}
-use Rattle.rule_language.specs.Kinds.{first_named}
+use Rattle.rule_language.proofs.Imports.{ap, bytes_eq, drop, drop_more, false, first_named, get_or, length, List, refl}
+use Rattle.rule_language.proofs.Imports.{ℕ, ◌+◌, ◌<◌, ◌∙◌, ◌≡◌}
 
 -- a thing is passed whose word it isn't
 pub named_next : {A : Type 0} (word_of : A → List ℕ) (things : List A) (i : ℕ) (a : A) (word : List ℕ)

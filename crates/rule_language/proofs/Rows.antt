@@ -1,17 +1,15 @@
 -- The row of a text, from one place to the next.
-use Rattle.std.proofs.Common.{◌≡◌, ◌∙◌, ◌⊎◌, inl, inr, sym, ap, subst, refl, arith, ℕ, zero, suc, ◌+◌, ◌-◌, ◌<◌, ◌≤◌}
-use Rattle.std.proofs.Common.{true, false, List, [], ◌∷◌, length, get_or, take, drop}
-use Rattle.std.proofs.lemmas.List.{get_or-drop, drop_more, drop-drop, length-drop}
-use Rattle.std.proofs.lemmas.Bool.{ne_eqb, lt-ltb, le-ltb}
-use Rattle.std.proofs.lemmas.Bool.{cases_lt}
-use Rattle.std.proofs.lemmas.Bool.Decides.{nat_tests}
-use Rattle.hall_text.specs.Spans.{IsWordByte, IsParenthesis, IsToken, piece}
-use Rattle.hall_text.specs.Places.{CutsNoWord, BeginsToken}
-use Rattle.hall_text.proofs.TokenLemmas.{some_bytes, between_after, between_none}
+use Rattle.hall_text.proofs.TokenLemmas.{between_after, between_none, some_bytes}
+use Rattle.hall_text.specs.{Places.BeginsToken, Spans.IsParenthesis, Spans.IsToken, Spans.IsWordByte, Spans.piece}
+use Rattle.hall_text.specs.Tokens.{is_parenthesis}
+use Rattle.rule_language.proofs.Imports.{[], ap, arith, bad_byte, CutsNoWord, drop, drop_more, false, get_or, goes_on}
+use Rattle.rule_language.proofs.Imports.{inl, inr, is_word_byte, IsNext, length, List, lt-ltb, nat_tests, ne_eqb, refl}
+use Rattle.rule_language.proofs.Imports.{row_from, subst, suc, sym, token_then, true, zero, ℕ, ◌+◌, ◌-◌, ◌<◌, ◌∙◌, ◌∷◌}
+use Rattle.rule_language.proofs.Imports.{◌==◌, ◌≡◌, ◌≤◌, ◌⊎◌}
+use Rattle.rule_language.specs.Tokens.{is_separator}
+use Rattle.std.proofs.{Common.take, lemmas.Bool.cases_lt, lemmas.Bool.le-ltb}
+use Rattle.std.proofs.lemmas.List.{drop-drop, get_or-drop, length-drop}
 unfoldable use Rattle.rule_language.specs.inside.Unread.{unread}
-use Rattle.rule_language.specs.inside.Unread.{IsNext}
-use Rattle.rule_language.specs.Tokens.{token_then, bad_byte, row_from, goes_on, is_separator}
-use Rattle.hall_text.specs.Tokens.{is_parenthesis, is_word_byte}
 
 -- a byte of a word passes the test, and no other test
 pub word_tested : (b : ℕ) → IsWordByte b → (is_separator b ≡ false) × (is_parenthesis b ≡ false)
@@ -107,15 +105,12 @@ next_token text at end within separates between token none = elim (cases_lt at e
     row = token_row text at end some (token some) ∙ rw (lt-ltb at end some) refl;
   }
   | inr small ↦
-      let (same, bad) = none small in record {
+      let (same, bad) = none small in
+      let other : (at == length text) ≡ false = ne_eqb at (length text) (λ e. omega arith) in
+      record {
         order = omega arith;
         inside = omega arith;
         between = subst (CutsNoWord text) (sym same) between;
-        row = bad_row text at within separates bad ∙ rw (
-          le-ltb at end small,
-          ne_eqb at (length text) (λ e. omega
-              arith),
-        )
-            refl;
+        row = bad_row text at within separates bad ∙ rw (le-ltb at end small, other) refl;
       }
 ]

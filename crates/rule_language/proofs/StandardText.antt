@@ -1,13 +1,8 @@
 -- What is written of the standard rules.
-use Rattle.std.proofs.Common.{◌≡◌, ◌∙◌, sym, subst, refl, arith, List, ℕ, Ok}
-use Rattle.std.proofs.lemmas.Fmt.{decimal_digit}
-use Rattle.rule_language.specs.declared.standard_text.TheConstants.{STANDARD}
-use Rattle.rule_language.specs.Standard.{standard_rules}
-use Rattle.rule_language.specs.Written.{rules_text}
-use Rattle.rule_language.specs.Reader.{rules_of}
-use Rattle.rule_language.specs.Spelling.{IsTextOf}
-use Rattle.rule_language.proofs.RulesRead.{text_back}
-use Rattle.rule_language.proofs.WrittenTexts.{written_is_text}
+use Rattle.rule_language.proofs.Imports.{arith, IsTextOf, List, refl, rules_of, rules_text, subst, sym, ℕ, ◌∙◌, ◌≡◌}
+use Rattle.rule_language.proofs.{RulesRead.text_back, WrittenTexts.written_is_text}
+use Rattle.rule_language.specs.{Standard.standard_rules, declared.standard_text.TheConstants.STANDARD}
+use Rattle.std.proofs.{Common.Ok, lemmas.Fmt.decimal_digit}
 
 -- the text of standard rules that is shipped is the one that is written of them
 pub standard_written : rules_text standard_rules ≡ STANDARD.now

@@ -1,17 +1,11 @@
 -- The trees of formulas, level by level.
-use Rattle.std.proofs.Common.{◌≡◌, ◌∙◌, ap, refl, rules, Vec, Global, Box}
-use Rattle.rule_language.specs.declared.formula.Formula.{Formula, True, And, Or, Not, Implies, ForSome, EveryBefore}
-use Rattle.rule_language.specs.declared.formula.Formula.{SomeBefore, Same, Before, Next, Is, OfKind, Equal, Less}
-use Rattle.rule_language.specs.declared.formula.Formula.{the_lemmas, fold_out-Formula, out-Formula, map-Formula}
-use Rattle.rule_language.specs.declared.formula.Formula.TheOpen.{Formula-F}
-use Rattle.rule_language.specs.declared.form.Form.{Form}
-use Rattle.rule_language.specs.Trees.{Trees, no_trees, tree_then}
-use Rattle.rule_language.specs.inside.Parts.{parts_of}
-use Rattle.rule_language.specs.Forms.{tree_of, trees_of, in_front, tree_step}
-use Rattle.rule_language.specs.declared.formula.Formula.{ForEvery}
-use Rattle.rule_language.specs.Trees.{joined_trees}
-use Rattle.std.proofs.Common.{sym, List, [], ◌∷◌, ◌++◌}
 use Rattle.rule_language.specs.declared.form.Form.TheVariants as form
+use Rattle.rule_language.proofs.Imports.{[], ap, Form, joined_trees, List, no_trees, parts_of, refl, rules, sym}
+use Rattle.rule_language.proofs.Imports.{tree_then, Trees, trees_of, ◌++◌, ◌∙◌, ◌∷◌, ◌≡◌}
+use Rattle.rule_language.specs.Forms.{in_front, tree_of, tree_step}
+use Rattle.rule_language.specs.declared.formula.Formula.{And, fold_out-Formula, Formula, Implies, map-Formula, Or}
+use Rattle.rule_language.specs.declared.formula.Formula.{out-Formula, the_lemmas, TheOpen.Formula-F}
+use Rattle.std.proofs.Common.{Box, Global, Vec}
 
 -- the formulas of an `and` are its list, in order
 pub view-And : (v : Vec Formula Global) → tree_of (And v) ≡ tree_then form.And (trees_of v.items) no_trees
@@ -63,10 +57,8 @@ joined (tree_then form parts rest) b c = ap (tree_then form parts) (joined rest 
 -- one formula more is after the others
 pub trees_push : (fs : List Formula) (f : Formula) → trees_of (fs ++ f ∷ []) ≡ joined_trees (trees_of fs) (tree_of f)
 trees_push [] f = refl
-trees_push (g ∷ fs) f =
-    front g (trees_of (fs ++ f ∷ [])) ∙ ap (joined_trees (tree_of g)) (trees_push fs f)
-    ∙ sym (joined (tree_of g) (trees_of fs) (tree_of f))
-    ∙ ap (λ row. joined_trees row (tree_of f)) (sym (front g (trees_of fs)))
+trees_push (g ∷ fs) f = rw (front g (trees_of (fs ++ f ∷ [])), front g (trees_of fs), trees_push fs f)
+    (sym (joined (tree_of g) (trees_of fs) (tree_of f)))
 
 -- and no row after it changes nothing
 pub no_more : (a : Trees) → joined_trees a no_trees ≡ a

@@ -1,12 +1,8 @@
 -- What is written of a formula.
-use Rattle.std.proofs.Common.{◌≡◌, ◌≢◌, ◌∙◌, ℕ, List, ◌∷◌, ◌++◌, refl, ap, append-nil}
-use Rattle.rule_language.specs.declared.form.Form.{Form}
-use Rattle.rule_language.specs.Trees.{Trees, no_trees, tree_then}
-use Rattle.rule_language.specs.Spelling.{form_words}
-use Rattle.rule_language.specs.Written.{with_spaces, form_text, row_text}
-use Rattle.rule_language.specs.inside.Parts.{parts_of}
-use Rattle.std.proofs.Common.{[]}
 use Rattle.rule_language.specs.declared.form.Form.TheVariants as form
+use Rattle.rule_language.proofs.Imports.{[], ap, append-nil, Form, form_text, form_words, List, no_trees, parts_of}
+use Rattle.rule_language.proofs.Imports.{refl, row_text, tree_then, Trees, with_spaces, ℕ, ◌++◌, ◌∙◌, ◌∷◌, ◌≡◌}
+use Rattle.std.proofs.Common.{◌≢◌}
 
 -- all forms but `true` are in parentheses
 pub enclosed_text : (f : Form) (inside : List ℕ) → f ≢ form.True

@@ -1,44 +1,25 @@
 -- What is written of rules is a text of them.
-use Rattle.std.proofs.Common.{◌≡◌, ◌⊎◌, inl, inr, ap, sym, refl, arith, ℕ, zero, suc, ◌+◌, ◌^◌, ◌<◌}
-use Rattle.std.proofs.Common.{Bool, true, false, List, [], ◌∷◌, ◌++◌, length, Some, None, append_assoc}
-use Rattle.std.specs.Prelude.{◌&&◌, nat_le, nat_lt, codes, is_some}
-use Rattle.std.specs.Fmt.{decimal}
-use Rattle.std.specs.Str.{IsAscii, IsUtf8}
-use Rattle.std.proofs.lemmas.Bool.{and_parts, ltb-true}
-use Rattle.std.proofs.lemmas.Fmt.{decimal_nonempty}
-use Rattle.std.proofs.lemmas.Str.{IsUtf8-from_ascii}
-use Rattle.canonical_sexp.proofs.Decimal.{AreDigits, decimal_digits}
-use Rattle.roster.specs.RosterText.{role_word}
-use Rattle.roster.specs.declared.post.Role.{Role}
 use Rattle.roster.specs.declared.post.Role.TheVariants as role
-use Rattle.rule_language.specs.declared.kind.Kind.{Kind}
 use Rattle.rule_language.specs.declared.kind.Kind.TheVariants as kind
-use Rattle.rule_language.specs.declared.kind.Field.{Field}
 use Rattle.rule_language.specs.declared.kind.Field.TheVariants as field
-use Rattle.rule_language.specs.declared.kind.Sort.TheVariants as sort
-use Rattle.rule_language.specs.declared.term.Term.{Term}
-use Rattle.rule_language.specs.declared.term.Term.TheVariants.{Of, Number}
-use Rattle.rule_language.specs.declared.form.Form.{Form}
 use Rattle.rule_language.specs.declared.form.Form.TheVariants as form
-use Rattle.rule_language.specs.Kinds.{kind_word, field_word}
-use Rattle.rule_language.specs.Scopes.{Scope, kind_in, is_letter}
-use Rattle.rule_language.specs.Trees.{Trees, no_trees, tree_then, RuleTree}
-use Rattle.rule_language.specs.Lawful.{is_bound, can_bind, sort_of, field_sort, are_of_one_sort, has_order, is_closed}
-use Rattle.rule_language.specs.Lawful.{are_formulas, scope_in, inner, is_alphanumeric, are_alphanumeric, is_name}
-use Rattle.rule_language.specs.Lawful.{is_rule, follow, are_rules}
-use Rattle.rule_language.specs.Spelling.{variable, term_word, form_words, spelt, form_end, tokens_then, rule_then}
-use Rattle.rule_language.specs.Spelling.{rules_tokens, IsTextOf}
-use Rattle.rule_language.specs.Tokens.{Token, Row, token_then, bad_byte, text_end, left, right, words, has_good_bytes}
-use Rattle.rule_language.specs.Tokens.{row_from}
-use Rattle.hall_text.specs.Tokens.{is_word_byte}
-use Rattle.rule_language.specs.Tokens.{goes_on, byte_then}
-unfoldable use Rattle.rule_language.specs.Tokens.{text_row}
-use Rattle.rule_language.specs.Written.{spaced, with_spaces, form_text, row_text, rule_text, rules_text}
-use Rattle.rule_language.proofs.Rows.{word_tested, word_byte}
-use Rattle.std.proofs.lemmas.Bool.Decides.{nat_tests}
-use Rattle.rule_language.proofs.Exact.{if_cases}
 use Rattle.rule_language.proofs.FormulasRead.{may_stand, no_parts, sorts_of}
-use Rattle.rule_language.proofs.RulesRead.{rule_fits}
+use Rattle.rule_language.proofs.Imports.{[], and_parts, ap, append_assoc, are_alphanumeric, are_formulas}
+use Rattle.rule_language.proofs.Imports.{are_of_one_sort, AreDigits, arith, bad_byte, Bool, can_bind, codes, count_of}
+use Rattle.rule_language.proofs.Imports.{decimal, decimal_digits, false, Field, field_word, Form, form_end, form_text}
+use Rattle.rule_language.proofs.Imports.{form_words, goes_on, has_arity, has_good_bytes, has_order, inner, is_bound}
+use Rattle.rule_language.proofs.Imports.{is_closed, is_name, is_rule, is_some, is_word_byte, IsTextOf, Kind, kind_word}
+use Rattle.rule_language.proofs.Imports.{left, length, List, nat_le, nat_lt, nat_tests, no_trees, Number, Of, refl}
+use Rattle.rule_language.proofs.Imports.{right, Role, role_word, Row, row_from, row_text, rule_then, rules_text}
+use Rattle.rule_language.proofs.Imports.{rules_tokens, RuleTree, Scope, scope_in, sort_of, spelt, suc, Term, term_word}
+use Rattle.rule_language.proofs.Imports.{text_end, Token, token_then, tokens_then, tree_then, Trees, true, variable}
+use Rattle.rule_language.proofs.Imports.{with_spaces, words, zero, ℕ, ◌&&◌, ◌++◌, ◌+◌, ◌<◌, ◌^◌, ◌∷◌, ◌≡◌}
+use Rattle.rule_language.proofs.{Rows.word_byte, Rows.word_tested, RulesRead.rule_fits}
+use Rattle.rule_language.specs.Lawful.{are_rules, follow, is_alphanumeric}
+use Rattle.rule_language.specs.{Tokens.byte_then, Written.rule_text, Written.spaced}
+use Rattle.std.proofs.lemmas.{Fmt.decimal_nonempty, Str.IsUtf8-from_ascii}
+use Rattle.std.specs.Str.{IsAscii, IsUtf8}
+unfoldable use Rattle.rule_language.specs.Tokens.{text_row}
 
 -- whether all bytes belong to words
 abbrev are_word_bytes : List ℕ → Bool
@@ -85,18 +66,15 @@ digits_bytes (d ∷ ds) (low, high, others) =
 
 -- the word of a term that has a sort is spelt
 term_spelt : (scope : Scope) (t : Term) → is_some (sort_of scope t) ≡ true → is_spelt (term_word t) ≡ true
-term_spelt scope (Number n) = if_cases (λ o. is_some o ≡ true → is_spelt (decimal n) ≡ true) (nat_lt n (2 ^ 32))
-    (Some sort.Count) None (λ small some. let less : n < 2 ^ 32 = ltb-true n (2 ^ 32) small in
-    by (decimal n) (decimal_nonempty n (omega arith)) (digits_bytes (decimal n) (decimal_digits n (omega arith))))
-    (λ large none. cc none)
+term_spelt scope (Number n) some =
+    let less : n < 2 ^ 32 = grind (arith, nat_tests) in
+    by (decimal n) (decimal_nonempty n (omega arith)) (digits_bytes (decimal n) (decimal_digits n (omega arith)))
   where
     by : (ds : List ℕ) → 0 < length ds → are_word_bytes ds ≡ true → is_spelt ds ≡ true
     by [] some is = absurd (omega arith)
     by (d ∷ ds) some is = is
-term_spelt scope (Of v f) = if_cases (λ o. is_some o ≡ true → is_spelt (v ∷ 46 ∷ field_word f) ≡ true) (is_letter v)
-    (field_sort (kind_in scope v) f) None
-    (λ letter some. let word : is_word_byte v ≡ true = grind (arith, nat_tests) in rw word (field_bytes f))
-    (λ other none. cc none)
+term_spelt scope (Of v f) some =
+    let word : is_word_byte v ≡ true = grind (arith, nat_tests) in rw word (field_bytes f)
 
 -- the words of two terms of one sort are spelt
 terms_spelt : (scope : Scope) (t u : Term) → are_of_one_sort (sort_of scope t) (sort_of scope u) ≡ true →
@@ -109,7 +87,7 @@ terms_spelt scope t u same =
 pair_spelt : (scope : Scope) (v u : ℕ) → (is_bound scope v && is_bound scope u) ≡ true →
     are_spelt (variable v ∷ variable u ∷ []) ≡ true
 pair_spelt scope v u good =
-    let (first, second) = and_parts (is_bound scope v) (is_bound scope u) good in
+    let (first, second) = and_parts _ _ good in
     rw (bound_byte scope v first, bound_byte scope u second) refl
 
 -- the words of a form that is allowed are spelt
@@ -117,10 +95,10 @@ form_spelt : (scope : Scope) (f : Form) → is_closed scope f ≡ true → are_s
 form_spelt scope (form.ForEvery v k) good = rw (can_byte scope v good, kind_spelt k) refl
 form_spelt scope (form.ForSome v k) good = rw (can_byte scope v good, kind_spelt k) refl
 form_spelt scope (form.EveryBefore v k u) good =
-    let (can, bound) = and_parts (can_bind scope v) (is_bound scope u) good in
+    let (can, bound) = and_parts _ _ good in
     rw (can_byte scope v can, kind_spelt k, bound_byte scope u bound) refl
 form_spelt scope (form.SomeBefore v k u) good =
-    let (can, bound) = and_parts (can_bind scope v) (is_bound scope u) good in
+    let (can, bound) = and_parts _ _ good in
     rw (can_byte scope v can, kind_spelt k, bound_byte scope u bound) refl
 form_spelt scope (form.Same v u) good = pair_spelt scope v u good
 form_spelt scope (form.Before v u) good = pair_spelt scope v u good
@@ -129,8 +107,7 @@ form_spelt scope (form.Is v r) good = rw (bound_byte scope v good, role_spelt r)
 form_spelt scope (form.OfKind v k) good = rw (bound_byte scope v good, kind_spelt k) refl
 form_spelt scope (form.Equal t u) good = terms_spelt scope t u good
 form_spelt scope (form.Less t u) good =
-    terms_spelt scope t u (and_parts (has_order (sort_of scope t)) (are_of_one_sort (sort_of scope t)
-    (sort_of scope u)) good).1
+    terms_spelt scope t u (and_parts (has_order (sort_of scope t)) _ good).1
 form_spelt scope f good = refl
 
 -- the bytes spell these tokens, wherever they stand
@@ -188,35 +165,25 @@ row_stops : (trees : Trees) (bytes : List ℕ) → goes_on bytes ≡ false → g
 row_stops no_trees bytes ends = ends
 row_stops (tree_then f parts rest) bytes ends = refl
 
--- a form is `true`, or it is in parentheses
-enclosed : (f : Form) → (f ≡ form.True) ⊎ ((inside : List ℕ) (following : List Token) →
-    (form_text f inside ≡ 40 ∷ (with_spaces (form_words f) ++ (inside ++ 41 ∷ [])))
-    × (spelt f following ≡ left ∷ (form_words f ++ following)) × (form_end f following ≡ right ∷ following))
-enclosed form.True = inl refl
-enclosed f = inr (λ inside following. (refl, refl, refl))
+-- words and what is inside in parentheses
+enclosed_spells : (ws : List Token) (inside bytes : List ℕ) (ts : List Token) → are_spelt ws ≡ true →
+    goes_on (inside ++ 41 ∷ bytes) ≡ false → Spells (inside ++ 41 ∷ bytes) ts →
+    Spells ((40 ∷ (with_spaces ws ++ (inside ++ 41 ∷ []))) ++ bytes) (left ∷ (ws ++ ts))
+enclosed_spells ws inside bytes ts good stops all =
+    rw (append_assoc (with_spaces ws) (inside ++ 41 ∷ []) bytes, append_assoc inside (41 ∷ []) bytes)
+    (spells_left (with_spaces ws ++ (inside ++ 41 ∷ bytes)) (ws ++ ts)
+    (words_spell ws (inside ++ 41 ∷ bytes) ts good stops all))
 
 -- a form and the formulas in it
-form_spells : (scope : Scope) (f : Form) (inside bytes : List ℕ) (parts : Trees) (ts : List Token) →
-    is_closed scope f ≡ true → goes_on bytes ≡ false → goes_on (inside ++ 41 ∷ bytes) ≡ false → Spells bytes ts →
-    (Spells (41 ∷ bytes) (right ∷ ts) → Spells (inside ++ 41 ∷ bytes) (tokens_then parts (right ∷ ts))) →
-    (f ≡ form.True → parts ≡ no_trees) →
+form_spells : (f : Form) (inside bytes : List ℕ) (parts : Trees) (ts : List Token) →
+    are_spelt (form_words f) ≡ true → has_arity f (count_of parts) ≡ true → goes_on bytes ≡ false →
+    goes_on (inside ++ 41 ∷ bytes) ≡ false → Spells bytes ts →
+    Spells (inside ++ 41 ∷ bytes) (tokens_then parts (right ∷ ts)) →
     Spells (form_text f inside ++ bytes) (spelt f (tokens_then parts (form_end f ts)))
-form_spells scope f inside bytes parts ts good ends stops all within none = elim (enclosed f) [
-  | inl is ↦ rw (is, none is) (spells_word (codes "true") bytes ts refl ends all)
-  | inr other ↦
-      let (text, _, _) = other inside [] in
-      let (_, spells, _) = other inside (tokens_then parts (form_end f ts)) in
-      let (_, _, closes) = other inside ts in
-      rw (
-        text,
-        spells,
-        closes,
-        append_assoc (with_spaces (form_words f)) (inside ++ 41 ∷ []) bytes,
-        append_assoc inside (41 ∷ []) bytes,
-      ) (spells_left (with_spaces (form_words f) ++ (inside ++ 41 ∷ bytes))
-      (form_words f ++ tokens_then parts (right ∷ ts)) (words_spell (form_words f) (inside ++ 41 ∷ bytes)
-      (tokens_then parts (right ∷ ts)) (form_spelt scope f good) stops (within (spells_right bytes ts all))))
-]
+form_spells form.True inside bytes parts ts good arity ends stops all within =
+    rw (← no_parts parts arity) (spells_word (codes "true") bytes ts refl ends all)
+form_spells f inside bytes parts ts good arity ends stops all within =
+    enclosed_spells (form_words f) inside bytes (tokens_then parts (right ∷ ts)) good stops within
 
 -- lawful formulas in a row
 row_spells : (trees : Trees) (levels : ℕ) (scope : Scope) (bytes : List ℕ) (ts : List Token) →
@@ -225,12 +192,13 @@ row_spells : (trees : Trees) (levels : ℕ) (scope : Scope) (bytes : List ℕ) (
 row_spells no_trees levels scope bytes ts good ends all = all
 row_spells (tree_then f parts rest) levels scope bytes ts good ends all =
     let (shallow, closes, arity, within, after) = may_stand levels scope f parts rest good in
+    let following : List ℕ = row_text rest ++ bytes in
     let others = row_spells rest levels scope bytes ts after ends all in
-    rw (append_assoc (form_text f (row_text parts)) (row_text rest) bytes) (λ at. form_spells scope f (row_text parts)
-    (row_text rest ++ bytes) parts (tokens_then rest ts) closes (row_stops rest bytes ends)
-    (row_stops parts (41 ∷ (row_text rest ++ bytes)) refl) others
-    (λ ended_too. row_spells parts (inner levels) (scope_in f scope) (41 ∷ (row_text rest ++ bytes)) (right ∷
-    tokens_then rest ts) within refl ended_too) (λ is. sym (no_parts parts (rw is at arity))) (at + 1))
+    let inside = row_spells parts (inner levels) (scope_in f scope) (41 ∷ following) (right ∷ tokens_then rest ts)
+    within refl (spells_right following (tokens_then rest ts) others) in
+    rw (append_assoc (form_text f (row_text parts)) (row_text rest) bytes) (λ at. form_spells f (row_text parts)
+    following parts (tokens_then rest ts) (form_spelt scope f closes) arity (row_stops rest bytes ends)
+    (row_stops parts (41 ∷ following) refl) others inside (at + 1))
 
 -- a word of letters and digits has only bytes of words
 alphanumeric_bytes : (bytes : List ℕ) → are_alphanumeric bytes ≡ true → are_word_bytes bytes ≡ true

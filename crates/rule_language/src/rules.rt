@@ -79,6 +79,7 @@ fn read_rule(
 ///
 /// `At` with the first byte of the first token that isn't allowed where it is, and the first cause
 /// against it; or with the text's length where the text ends too early. `Memory` otherwise.
+#[tactic(auto, using(crate::proofs::Steps::rule_steps))]
 pub fn read(alloc: Global, text: &[u8]) -> Result<Vec<Rule>, RuleFault>
     ensures { result ≢ Err RuleFault.Memory → Reads text.now (answered result) }
 {

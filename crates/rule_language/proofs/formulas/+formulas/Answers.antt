@@ -1,12 +1,7 @@
-use Rattle.std.proofs.Common.{◌≡◌, ◌-◌, arith, rules, true, false, vec_len}
-use Rattle.std.proofs.lemmas.Bool.Decides.{nat_tests}
-use Rattle.std.proofs.lemmas.Grind.{common_steps}
-use Rattle.rule_language.specs.Forms.{trees_of}
-use Rattle.rule_language.specs.Reader.{formula}
-use Rattle.rule_language.specs.inside.Unread.{unread, bindings}
-use Rattle.rule_language.proofs.Views.{trees_push}
-use Rattle.rule_language.proofs.Steps.{parts_at}
 use Rattle.rule_language.proofs.formulas.+formulas.Goals as goal
+use Rattle.rule_language.proofs.Imports.{arith, bindings, common_steps, false, formula, nat_tests, rules, trees_of}
+use Rattle.rule_language.proofs.Imports.{true, unread, vec_len, ◌-◌, ◌≡◌}
+use Rattle.rule_language.proofs.{Steps.parts_at, Views.trees_push}
 
 pub read_parts-returns-in_err-part-2-clause-value : goal.read_parts-returns-in_err-part-2-clause-value
 read_parts-returns-in_err-part-2-clause-value t c =

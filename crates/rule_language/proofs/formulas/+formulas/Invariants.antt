@@ -1,9 +1,7 @@
-use Rattle.std.proofs.Common.{◌≡◌, ◌≤◌, ◌+◌, ◌-◌, ◌*◌, vec_len}
-use Rattle.rule_language.specs.Forms.{trees_of}
-use Rattle.rule_language.specs.Reader.{formula, several}
-use Rattle.rule_language.specs.inside.Unread.{IsNext, unread, bindings}
-use Rattle.rule_language.proofs.Steps.{parts_after}
 use Rattle.rule_language.proofs.formulas.+formulas.Given as goal
+use Rattle.rule_language.proofs.Imports.{bindings, formula, IsNext, several, trees_of, unread, vec_len, ◌+◌, ◌-◌, ◌≡◌}
+use Rattle.rule_language.proofs.{Imports.◌≤◌, Steps.parts_after}
+use Rattle.std.proofs.Common.{◌*◌}
 
 -- each of these is called with fewer parentheses that may open, or after one with a greater rank
 abbrev pub decreases-read_formula : goal.decreases-read_formula

@@ -1,9 +1,6 @@
-use Rattle.std.proofs.Common.{◌≡◌, ◌≤◌, ◌-◌, map, vec_len}
-use Rattle.rule_language.specs.Forms.{rule_tree}
-use Rattle.rule_language.specs.Reader.{rules_of, without_rest}
-use Rattle.rule_language.specs.inside.Unread.{IsNext, unread, rule_names}
-use Rattle.rule_language.proofs.Steps.{rules_after}
 use Rattle.rule_language.proofs.rules.read.Given as goal
+use Rattle.rule_language.proofs.Imports.{IsNext, map, rule_names, rule_tree, rules_of, unread, vec_len, without_rest}
+use Rattle.rule_language.proofs.{Imports.◌-◌, Imports.◌≡◌, Imports.◌≤◌, Steps.rules_after}
 
 -- the rules so far, followed by those that are left, are all
 abbrev pub invariant-rules : goal.invariant-rules

@@ -1,7 +1,5 @@
-use Rattle.std.proofs.Common.{◌≡◌, ◌≤◌, ◌-◌, length, drop}
-use Rattle.hall_text.specs.Places.{CutsNoWord}
-use Rattle.rule_language.specs.Tokens.{row_from}
 use Rattle.rule_language.proofs.tokens.skip_separators.Given as goal
+use Rattle.rule_language.proofs.Imports.{CutsNoWord, drop, length, row_from, ◌-◌, ◌≡◌, ◌≤◌}
 
 -- only separators were passed over
 abbrev pub invariant-loop-start : goal.invariant-loop-start

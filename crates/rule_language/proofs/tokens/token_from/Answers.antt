@@ -1,6 +1,5 @@
-use Rattle.std.proofs.Common.{◌<◌, length, List, ℕ, arith}
-use Rattle.rule_language.proofs.Rows.{next_token}
 use Rattle.rule_language.proofs.tokens.token_from.Goals as goal
+use Rattle.rule_language.proofs.{Imports.arith, Imports.length, Imports.List, Imports.ℕ, Imports.◌<◌, Rows.next_token}
 
 pub returns-then-start-text-clause-next : goal.returns-then-start-text-clause-next
 returns-then-start-text-clause-next c =

@@ -1,7 +1,5 @@
-use Rattle.std.proofs.Common.{◌≡◌, drop}
-use Rattle.rule_language.specs.Lawful.{is_among}
-use Rattle.rule_language.specs.inside.Unread.{rule_names}
 use Rattle.rule_language.proofs.words.is_among.Given as goal
+use Rattle.rule_language.proofs.Imports.{drop, is_among, rule_names, ◌≡◌}
 
 -- whether the name is taken depends on the rules that are left
 abbrev pub invariant-loop-rule : goal.invariant-loop-rule

@@ -1,6 +1,5 @@
-use Rattle.std.proofs.Common.{◌≡◌, drop}
-use Rattle.rule_language.specs.Lawful.{are_alphanumeric}
 use Rattle.rule_language.proofs.words.is_name.Given as goal
+use Rattle.rule_language.proofs.Imports.{are_alphanumeric, drop, ◌≡◌}
 
 -- whether the word is a name depends on the bytes that are left
 abbrev pub invariant-loop-byte : goal.invariant-loop-byte

@@ -1,7 +1,5 @@
-use Rattle.std.proofs.Common.{◌≡◌, ◌++◌, drop}
-use Rattle.rule_language.specs.Forms.{trees_of}
-use Rattle.rule_language.specs.Written.{row_text}
 use Rattle.rule_language.proofs.writing.+writing.Given as goal
+use Rattle.rule_language.proofs.Imports.{drop, row_text, trees_of, ◌++◌, ◌≡◌}
 
 -- what is still to be written
 abbrev pub invariant-push_row-loop-formula : goal.invariant-push_row-loop-formula

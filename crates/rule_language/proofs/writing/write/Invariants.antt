@@ -1,7 +1,5 @@
-use Rattle.std.proofs.Common.{◌≡◌, ◌++◌, drop, map}
-use Rattle.rule_language.specs.Forms.{rule_tree}
-use Rattle.rule_language.specs.Written.{rules_text}
 use Rattle.rule_language.proofs.writing.write.Given as goal
+use Rattle.rule_language.proofs.Imports.{drop, map, rule_tree, rules_text, ◌++◌, ◌≡◌}
 
 -- what is still to be written
 abbrev pub invariant-loop-rule : goal.invariant-loop-rule

@@ -1,8 +1,6 @@
-use Rattle.std.proofs.Common.{◌∙◌, rules}
-use Rattle.rule_language.specs.Kinds.{head_word, heads}
-use Rattle.rule_language.proofs.Named.{named_next}
-use Rattle.rule_language.specs.declared.form.Head.TheVariants.{ForEvery}
 use Rattle.rule_language.proofs.form.Head.of_word.Goals as goal
+use Rattle.rule_language.proofs.{Imports.head_word, Imports.heads, Imports.rules, Imports.◌∙◌, Named.named_next}
+use Rattle.rule_language.specs.declared.form.Head.TheVariants.{ForEvery}
 
 pub loop-head-preserved : goal.loop-head-preserved
 loop-head-preserved c =

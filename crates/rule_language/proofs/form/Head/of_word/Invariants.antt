@@ -1,6 +1,5 @@
-use Rattle.std.proofs.Common.{◌≡◌, drop}
-use Rattle.rule_language.specs.Kinds.{first_named, head_word, heads, head_named}
 use Rattle.rule_language.proofs.form.Head.of_word.Given as goal
+use Rattle.rule_language.proofs.Imports.{drop, first_named, head_named, head_word, heads, ◌≡◌}
 
 -- what the word names depends on the heads that are left
 abbrev pub invariant-loop-head : goal.invariant-loop-head

@@ -1,8 +1,6 @@
-use Rattle.std.proofs.Common.{◌∙◌, rules}
-use Rattle.rule_language.specs.Kinds.{field_word, fields}
-use Rattle.rule_language.specs.declared.kind.Field.TheVariants.{Maker}
-use Rattle.rule_language.proofs.Named.{named_next}
 use Rattle.rule_language.proofs.kind.Field.of_word.Goals as goal
+use Rattle.rule_language.proofs.{Imports.field_word, Imports.fields, Imports.rules, Imports.◌∙◌, Named.named_next}
+use Rattle.rule_language.specs.declared.kind.Field.TheVariants.{Maker}
 
 pub loop-field-preserved : goal.loop-field-preserved
 loop-field-preserved c =

@@ -1,6 +1,5 @@
-use Rattle.std.proofs.Common.{◌≡◌, drop}
-use Rattle.rule_language.specs.Kinds.{first_named, field_word, fields, field_named}
 use Rattle.rule_language.proofs.kind.Field.of_word.Given as goal
+use Rattle.rule_language.proofs.Imports.{drop, field_named, field_word, fields, first_named, ◌≡◌}
 
 -- what the word names depends on the fields that are left
 abbrev pub invariant-loop-field : goal.invariant-loop-field

@@ -1,8 +1,6 @@
-use Rattle.std.proofs.Common.{◌∙◌, rules}
-use Rattle.rule_language.specs.Kinds.{kind_word, entry_kinds}
-use Rattle.rule_language.specs.declared.kind.Kind.TheVariants.{Any}
-use Rattle.rule_language.proofs.Named.{named_next}
 use Rattle.rule_language.proofs.kind.Kind.of_word.Goals as goal
+use Rattle.rule_language.proofs.{Imports.entry_kinds, Imports.kind_word, Imports.rules, Imports.◌∙◌, Named.named_next}
+use Rattle.rule_language.specs.declared.kind.Kind.TheVariants.{Any}
 
 pub loop-kind-preserved : goal.loop-kind-preserved
 loop-kind-preserved c =
