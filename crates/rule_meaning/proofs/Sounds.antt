@@ -1,25 +1,19 @@
 -- What is known of a rule is right wherever the knowledge is, and so in every completion.
-use Rattle.rule_meaning.proofs.Imports.{fun_ext, ◌≡◌, ℕ, ◌<◌, Bool, true, false, cond, List, [], ◌∷◌, ◌++◌, map}
-use Rattle.rule_meaning.proofs.Imports.{length, Option, Some, None, inl, inr, refl, sym, ap, ◌∙◌, subst, arith}
-use Rattle.rule_meaning.proofs.Imports.{append-nil, slice_get, option_map, IsTrue, ◌==◌, Contains, range_with_len}
-use Rattle.rule_meaning.proofs.Imports.{eqb-true, eq-eqb, false≢true, length-range_with_len, get_or-range_with_len}
-use Rattle.rule_meaning.proofs.Imports.{slice_get_within, slice_get-map, Contains-append_left, Contains-append_right}
-use Rattle.rule_meaning.proofs.Imports.{Contains-append_cases, Three, False, Unknown, True, Node, Precedes, reaches}
-use Rattle.rule_meaning.proofs.Imports.{is_whole, before, Contains-none, Contains-head, Contains-cons_cases}
-use Rattle.rule_meaning.proofs.Imports.{Contains-map, Contains-map_cases, Contains-filter, Contains-filter_cases}
-use Rattle.rule_meaning.proofs.Imports.{order_is_settled, whole_from_test, reaches_from_precedes}
-use Rattle.rule_meaning.proofs.Imports.{before_among_survivors, member_at, place_of, Row, Kind, Form, Trees, no_trees}
-use Rattle.rule_meaning.proofs.Imports.{tree_then, has_kind, passes, opposite, either, least, greatest, as_three}
-use Rattle.rule_meaning.proofs.Imports.{is_true, bind, unbound, first_sentence, second_sentence, EachHolds, SomeHolds}
-use Rattle.rule_meaning.proofs.Imports.{IsOfKind, ComesBefore, FormHolds, meanings, first_value}
-use Rattle.rule_meaning.proofs.Imports.{second_value, places, ancestors, rest_of, values_before, row_at, same_place}
-use Rattle.rule_meaning.proofs.Imports.{order_of, value, values, IsTrueOf, HasNoDouble, ValuesAreRight, GraphsAreTrue}
-use Rattle.rule_meaning.proofs.Imports.{RulesAreSettled}
-use Rattle.std.specs.Prelude.{IsSomeAnd}
+use Rattle.rule_meaning.proofs.Imports
+use Imports.{[], ancestors, ap, append-nil, arith, as_three, before, before_among_survivors, bind, Bool, ComesBefore}
+use Imports.{cond, Contains, Contains-filter, Contains-filter_cases, EachHolds, either, element_at, eq-eqb, eqb-true}
+use Imports.{False, false, first_sentence, first_value, Form, FormHolds, fun_ext, GraphsAreTrue, greatest, has_kind}
+use Imports.{HasNoDouble, inl, inr, is_true, is_whole, IsOfKind, IsSomeAnd, IsTrue, IsTrueOf, Kind, least, length}
+use Imports.{length-map, List, map, meanings, member_at, no_trees, Node, None, opposite, Option, option_map}
+use Imports.{order_is_settled, order_of, passes, place_of, places, Precedes, range_with_len, reaches}
+use Imports.{reaches_from_precedes, refl, Row, row_at, RulesAreSettled, second_sentence, second_value, slice_get}
+use Imports.{slice_get-map, slice_get_within, Some, SomeHolds, subst, sym, Three, tree_then, Trees, True, true, unbound}
+use Imports.{Unknown, value, values, values_before, ValuesAreRight, whole_from_test, ◌++◌, ◌==◌, ◌∙◌, ◌∷◌, ◌≡◌, ℕ}
 use Rattle.rule_language.specs.declared.form.Form.TheVariants as form
-use Rattle.rule_meaning.proofs.Kleenes.{both_true, both_false, either_true, either_false, opposite_true, opposite_false}
-use Rattle.rule_meaning.proofs.Kleenes.{least_true}
-use Rattle.rule_meaning.proofs.Kleenes.{least_false, greatest_true, greatest_false, as_three_true, as_three_false}
+use Rattle.rule_meaning.proofs.Kleenes.{both_false, both_true, either_false, either_true, greatest_false, greatest_true}
+use Rattle.rule_meaning.proofs.Kleenes.{lacking, least_false, least_true, opposite_back}
+use Rattle.rule_meaning.proofs.SameOrders.{row_of_kind}
+use Rattle.rule_meaning.proofs.Visits.{range_has}
 
 -- a known value is right of the sentence
 pub record Agrees (x : Three) (P : Type 0) : Type 0 where
@@ -38,16 +32,14 @@ AllAgree xs Ps = ⊥
 pub first_agrees : (xs : List Three) (Ps : List (Type 0)) → AllAgree xs Ps → Agrees (first_value xs) (first_sentence Ps)
 first_agrees [] [] a = record { yes = λ e. tt; no = λ e. cc }
 first_agrees (x ∷ xs) (P ∷ Ps) a = a.0
-first_agrees [] (P ∷ Ps) a = absurd a
-first_agrees (x ∷ xs) [] a = absurd a
+first_agrees xs Ps a = absurd a
 
 -- and the second of the second
 pub second_agrees : (xs : List Three) (Ps : List (Type 0)) → AllAgree xs Ps →
     Agrees (second_value xs) (second_sentence Ps)
-second_agrees [] [] a = record { yes = λ e. tt; no = λ e. cc }
+second_agrees [] [] a = first_agrees [] [] a
 second_agrees (x ∷ xs) (P ∷ Ps) a = first_agrees xs Ps a.1
-second_agrees [] (P ∷ Ps) a = absurd a
-second_agrees (x ∷ xs) [] a = absurd a
+second_agrees xs Ps a = absurd a
 
 -- the least of values is right of all the sentences, and the greatest of some
 pub least_agrees : (xs : List Three) (Ps : List (Type 0)) → AllAgree xs Ps → Agrees (least xs) (EachHolds Ps)
@@ -58,8 +50,7 @@ least_agrees (x ∷ xs) (P ∷ Ps) (first, others) =
       yes = λ e. let b = both_true x (least xs) e in (first.yes b.0, rest.yes b.1);
       no = λ e h. elim (both_false x (least xs) e) [ inl f ↦ first.no f h.0 | inr f ↦ rest.no f h.1 ];
     }
-least_agrees [] (P ∷ Ps) a = absurd a
-least_agrees (x ∷ xs) [] a = absurd a
+least_agrees xs Ps a = absurd a
 
 -- the greatest is right of this, that some sentence holds
 pub greatest_agrees : (xs : List Three) (Ps : List (Type 0)) → AllAgree xs Ps → Agrees (greatest xs) (SomeHolds Ps)
@@ -71,24 +62,22 @@ greatest_agrees (x ∷ xs) (P ∷ Ps) (first, others) =
       no = λ e h. let b = either_false x (greatest xs) e in
           elim h [ inl p ↦ first.no b.0 p | inr q ↦ rest.no b.1 q ];
     }
-greatest_agrees [] (P ∷ Ps) a = absurd a
-greatest_agrees (x ∷ xs) [] a = absurd a
+greatest_agrees xs Ps a = absurd a
 
 -- the opposite is right of the sentence's denial
 opposite_agrees : (x : Three) (P : Type 0) → Agrees x P → Agrees (opposite x) (¬ P)
 opposite_agrees x P a =
-    record { yes = λ e. a.no (opposite_true x e); no = λ e n. n (a.yes (opposite_false x e)) }
+    record { yes = λ e. a.no (opposite_back x True e); no = λ e n. n (a.yes (opposite_back x False e)) }
 
 -- the greatest of the first one's opposite and the second is right of this, that the one implies
 -- the other
-implies_agrees : (x y : Three) (P Q : Type 0) → Agrees x P → Agrees y Q →
-    Agrees (either (opposite x) y) (P → Q)
+implies_agrees : (x y : Three) (P Q : Type 0) → Agrees x P → Agrees y Q → Agrees (either (opposite x) y) (P → Q)
 implies_agrees x y P Q a b = record {
   yes = λ e p. elim (either_true (opposite x) y e) [
-    | inl t ↦ absurd (a.no (opposite_true x t) p)
+    | inl t ↦ absurd (a.no (opposite_back x True t) p)
     | inr t ↦ b.yes t
   ];
-  no = λ e f. let r = either_false (opposite x) y e in b.no r.1 (f (a.yes (opposite_false x r.0)));
+  no = λ e f. let r = either_false (opposite x) y e in b.no r.1 (f (a.yes (opposite_back x False r.0)));
 }
 
 -- a test's value is right of the test
@@ -102,27 +91,9 @@ StandFor S None None = Unit {0}
 StandFor S (Some i) (Some e) = slice_get S i ≡ Some e
 StandFor S i e = ⊥
 
--- a number below the end is in the range
-pub in_range : (n i : ℕ) → i < n → Contains (range_with_len 0 n) i
-in_range n i l =
-    (i, omega (arith, length-range_with_len 0 n), omega (arith, get_or-range_with_len 0 n i i l))
-
--- the value that stands for a gap is unknown
-pub unknown_of : (b : Bool) (x : Three) → Contains (cond b [] (Unknown ∷ [])) x → x ≡ Unknown
-unknown_of true x c = absurd (Contains-none x c)
-unknown_of false x c =
-    elim (Contains-cons_cases Unknown [] x c) [ inl s ↦ sym s | inr n ↦ absurd (Contains-none x n) ]
-
--- where no unknown value stands for a gap there is none
-no_unknown : (b : Bool) → ((x : Three) → Contains (cond b [] (Unknown ∷ [])) x → x ≡ Unknown → ⊥) → b ≡ true
-no_unknown true none = refl
-no_unknown false none = absurd (none Unknown (Contains-head Unknown []) refl)
-
 -- what is found true is true
 pub true_is : (x : Three) → is_true x ≡ true → x ≡ True
-true_is True e = refl
-true_is Unknown e = cc
-true_is False e = cc
+true_is x e = grind arith
 
 pub unknown≢true : Unknown ≡ True → ⊥
 unknown≢true e = cc
@@ -130,54 +101,37 @@ unknown≢true e = cc
 pub unknown≢false : Unknown ≡ False → ⊥
 unknown≢false e = cc
 
--- quantifiers: each place stands for an entry that is meant, and where b is true each such entry
--- has a place
-module _ {T : Type 0} (f : ℕ → Three) (xs : List ℕ) (b : Bool) (IsMeant P : T → Type 0)
-    (meant : (i : ℕ) → Contains xs i → (e : T) × IsMeant e × Agrees (f i) (P e))
-    (all : b ≡ true → (e : T) → IsMeant e → (i : ℕ) × Contains xs i × Agrees (f i) (P e)) where
-  -- the unknown value where entries are missing
-  abbrev us : List Three
-  us = cond b [] (Unknown ∷ [])
-
-  -- the values at the places, and that one
-  abbrev known : List Three
-  known = map f xs ++ us
-
-  -- the least of them is right of this, that each entry that is meant has the sentence
-  every_agrees : Agrees (least known) ((e : T) → IsMeant e → P e)
-  every_agrees = record {
-    yes = λ t e m.
-        let each = least_true known t in
-        let whole = no_unknown b (λ x c u. unknown≢true (sym u ∙ each x (Contains-append_right (map f xs) us x c))) in
-        let (i, placed, agrees) = all whole e m in
-        agrees.yes (each (f i) (Contains-append_left (map f xs) us (f i) (Contains-map f xs i placed)));
-    no = λ t h.
-        elim (Contains-append_cases (map f xs) us False (least_false known t)) [
-          | inl c ↦
-              let (i, placed, is) = Contains-map_cases f xs False c in
-              let (e, is_meant, agrees) = meant i placed in
-              agrees.no is (h e is_meant)
-          | inr c ↦ unknown≢false (sym (unknown_of b False c))
-        ];
-  }
-
-  -- the greatest of them is right of this, that some entry that is meant has it
-  some_agrees : Agrees (greatest known) ((e : T) × IsMeant e × P e)
-  some_agrees = record {
-    yes = λ t.
-        elim (Contains-append_cases (map f xs) us True (greatest_true known t)) [
-          | inl c ↦
-              let (i, placed, is) = Contains-map_cases f xs True c in
-              let (e, is_meant, agrees) = meant i placed in
-              (e, is_meant, agrees.yes is)
-          | inr c ↦ absurd (unknown≢true (sym (unknown_of b True c)))
-        ];
-    no = λ t (e, is_meant, says).
-        let each = greatest_false known t in
-        let whole = no_unknown b (λ x c u. unknown≢false (sym u ∙ each x (Contains-append_right (map f xs) us x c))) in
-        let (i, placed, agrees) = all whole e is_meant in
-        agrees.no (each (f i) (Contains-append_left (map f xs) us (f i) (Contains-map f xs i placed))) says;
-  }
+-- quantifiers over entries with two properties: each place stands for such an entry, and where it is whole each such
+-- entry has a place
+module _ {T : Type 0} (f : ℕ → Three) (is : List ℕ) (whole : Bool) (A B P : T → Type 0)
+    (meant : (i : ℕ) → Contains is i → (e : T) × A e × B e × Agrees (f i) (P e))
+    (placed : whole ≡ true → (e : T) → A e → B e → (i : ℕ) × Contains is i × Agrees (f i) (P e)) where
+  -- the least of the values is right of this, that each such entry has the sentence, and the greatest of this, that
+  -- some has it
+  both_agree : Agrees (least (map f is ++ lacking whole)) ((e : T) → A e → B e → P e)
+      × Agrees (greatest (map f is ++ lacking whole)) ((e : T) × A e × B e × P e)
+  both_agree = (
+    record {
+      yes = λ t e a b.
+          let (full, each) = least_true f is whole t in
+          let (i, c, agrees) = placed full e a b in
+          agrees.yes (each i c);
+      no = λ t h.
+          let (i, c, at) = least_false f is whole t in
+          let (e, a, b, agrees) = meant i c in
+          agrees.no at (h e a b);
+    },
+    record {
+      yes = λ t.
+          let (i, c, at) = greatest_true f is whole t in
+          let (e, a, b, agrees) = meant i c in
+          (e, a, b, agrees.yes at);
+      no = λ t (e, a, b, says).
+          let (full, each) = greatest_false f is whole t in
+          let (i, c, agrees) = placed full e a b in
+          agrees.no (each i c) says;
+    },
+  )
 
 module _ {T : Type 0} (node : T → Node) (row : T → Row) (S G : List T) (order : ℕ → ℕ → Three)
     (wholes : ℕ → Bool) (single : HasNoDouble S) (known : IsTrueOf node S G order wholes) where
@@ -208,8 +162,7 @@ module _ {T : Type 0} (node : T → Node) (row : T → Row) (S G : List T) (orde
   pub same_row : (i : Option ℕ) (e : Option T) → StandFor S i e → row_at rows i ≡ option_map row e
   same_row None None s = refl
   same_row (Some i) (Some e) s = row_of i e s
-  same_row None (Some e) s = absurd s
-  same_row (Some i) None s = absurd s
+  same_row i e s = absurd s
 
   -- a test of rows is right of the entries that they stand for
   pub passes_agrees : (form : Form) (σ : ℕ → Option ℕ) (ρ : ℕ → Option T) → StandForAll σ ρ →
@@ -225,24 +178,19 @@ module _ {T : Type 0} (node : T → Node) (row : T → Row) (S G : List T) (orde
   pub place_meant : (kind : Kind) (i : ℕ) → Contains (places rows order wholes kind) i →
       (e : T) × (slice_get S i ≡ Some e) × IsOfKind node row S G kind e
   place_meant kind i c =
-      by (slice_get S i) refl
-      (Contains-filter_cases (λ j. has_kind kind (slice_get rows j)) (range_with_len 0 (length rows)) i c).1
-    where
-      -- by cases: the entry at the place
-      by : (o : Option T) → slice_get S i ≡ o → has_kind kind (slice_get rows i) ≡ true →
-          (e : T) × (slice_get S i ≡ Some e) × IsOfKind node row S G kind e
-      by None is k =
-          let none : slice_get rows i ≡ None = slice_get-map row S i ∙ ap (option_map row) is in
-          absurd (false≢true (ap (has_kind kind) (sym none) ∙ k))
-      by (Some e) is k = (e, is, ap (has_kind kind) (sym (row_of i e is)) ∙ k)
+      let (_, is) = Contains-filter_cases (λ j. has_kind kind (slice_get rows j)) (range_with_len 0 (length rows))
+      i c in
+      let within = row_of_kind rows kind i is in
+      let (e, at) = element_at S i (omega (arith, length-map S row)) in
+      (e, at, ap (has_kind kind) (sym (row_of i e at)) ∙ is)
 
   -- the place of a survivor of the kind is one of the kind
   pub place_such : (kind : Kind) (i : ℕ) (e : T) → slice_get S i ≡ Some e → IsOfKind node row S G kind e →
       Contains (places rows order wholes kind) i
   place_such kind i e there k =
+      let within = slice_get_within rows i (row e) (row_of i e there) in
       Contains-filter (λ j. has_kind kind (slice_get rows j)) (range_with_len 0 (length rows)) i
-      (in_range (length rows) i (slice_get_within rows i (row e) (row_of i e there)))
-      (ap (has_kind kind) (row_of i e there) ∙ k)
+      (range_has 0 (length rows) i (omega arith) (omega arith)) (ap (has_kind kind) (row_of i e there) ∙ k)
 
   -- a survivor of the kind has a place of the kind
   pub place_of_kind : (kind : Kind) (e : T) → Contains S e → IsOfKind node row S G kind e →
@@ -253,171 +201,91 @@ module _ {T : Type 0} (node : T → Node) (row : T → Row) (S G : List T) (orde
   abbrev pub PartsAgree : ((ℕ → Option ℕ) → List Three) → ((ℕ → Option T) → List (Type 0)) → Type 0
   PartsAgree ts Ps = (σ : ℕ → Option ℕ) (ρ : ℕ → Option T) → StandForAll σ ρ → AllAgree (ts σ) (Ps ρ)
 
-  -- two places are one if and only if their entries are
-  pub same_agrees : (i : Option ℕ) (e : Option T) (j : Option ℕ) (f : Option T) → StandFor S i e → StandFor S j f →
-      Agrees (same_place i j) (IsSomeAnd e (λ x. IsSomeAnd f (λ y. x ≡ y)))
-  same_agrees (Some i) (Some e) (Some j) (Some f) se sf = record {
-    yes = λ t. let at : i ≡ j = eqb-true i j (as_three_true (i == j) t) in
-        let there : slice_get S j ≡ Some e = subst (λ (k : ℕ). slice_get S k ≡ Some e) at se in
-        cc;
-    no = λ t same. let at : i ≡ j = single i j e se (sf ∙ ap Some (sym same)) in
-        false≢true (sym (as_three_false (i == j) t) ∙ eq-eqb i j at);
-  }
-  same_agrees None None j f se sf = record { yes = λ t. cc; no = λ t h. h }
-  same_agrees (Some i) (Some e) None None se sf = record { yes = λ t. cc; no = λ t h. h }
-  same_agrees None (Some e) j f se sf = absurd se
-  same_agrees (Some i) None j f se sf = absurd se
-  same_agrees (Some i) (Some e) None (Some f) se sf = absurd sf
-  same_agrees (Some i) (Some e) (Some j) None se sf = absurd sf
+  -- a value at two places is right of their entries, where variables stand for both
+  pair_agrees : (f : ℕ → ℕ → Three) (P : T → T → Type 0) →
+      ((i j : ℕ) (x y : T) → slice_get S i ≡ Some x → slice_get S j ≡ Some y → Agrees (f i j) (P x y)) →
+      (i : Option ℕ) (e : Option T) (j : Option ℕ) (d : Option T) → StandFor S i e → StandFor S j d →
+      Agrees (order_of f i j) (IsSomeAnd e (λ x. IsSomeAnd d (λ y. P x y)))
+  pair_agrees f P each (Some i) (Some x) (Some j) (Some y) at also = each i j x y at also
+  pair_agrees f P each None None j d at also = record { yes = λ t. cc; no = λ t h. h }
+  pair_agrees f P each (Some i) (Some x) None None at also = record { yes = λ t. cc; no = λ t h. h }
+  pair_agrees f P each (Some i) (Some x) j d at also = absurd also
+  pair_agrees f P each i e j d at also = absurd at
 
-  -- what is known of the order of two places is right of their entries
-  order_agrees : (i : Option ℕ) (e : Option T) (j : Option ℕ) (f : Option T) → StandFor S i e → StandFor S j f →
-      Agrees (order_of order i j) (IsSomeAnd e (λ x. ComesBefore node row S G x f))
-  order_agrees (Some i) (Some e) (Some j) (Some f) se sf =
-      record { yes = λ t. known.yes i j e f se sf t; no = λ t. known.no i j e f se sf t }
-  order_agrees None None j f se sf = record { yes = λ t. cc; no = λ t h. h }
-  order_agrees (Some i) (Some e) None None se sf = record { yes = λ t. cc; no = λ t h. h }
-  order_agrees None (Some e) j f se sf = absurd se
-  order_agrees (Some i) None j f se sf = absurd se
-  order_agrees (Some i) (Some e) None (Some f) se sf = absurd sf
-  order_agrees (Some i) (Some e) (Some j) None se sf = absurd sf
+  -- two places are one if and only if their entries are
+  same_agrees : (i j : ℕ) (x y : T) → slice_get S i ≡ Some x → slice_get S j ≡ Some y →
+      Agrees (as_three (i == j)) (x ≡ y)
+  same_agrees i j x y at also =
+      let test = test_agrees (i == j) in
+      record {
+        yes = λ t. let is : i ≡ j = eqb-true i j (test.yes t) in cc;
+        no = λ t same. test.no t (eq-eqb i j (single i j x at (also ∙ ap Some (sym same))));
+      }
 
   module _ (v : ℕ) (kind : Kind) (σ : ℕ → Option ℕ) (ρ : ℕ → Option T) (stand : StandForAll σ ρ)
       (ts : (ℕ → Option ℕ) → List Three) (Ps : (ℕ → Option T) → List (Type 0)) (parts : PartsAgree ts Ps) where
     -- the value of the body at a place
-    abbrev pub value_at : ℕ → Three
+    abbrev value_at : ℕ → Three
     value_at i = first_value (ts (bind v i σ))
 
     -- what the body says of an entry
-    abbrev pub SaysAt : T → Type 0
+    abbrev SaysAt : T → Type 0
     SaysAt e = first_sentence (Ps (bind v e ρ))
 
+    -- the entry is of the kind
+    abbrev IsSuch : T → Type 0
+    IsSuch = IsOfKind node row S G kind
+
+    -- the places of the kind
+    abbrev those : List ℕ
+    those = places rows order wholes kind
+
     -- the body's value at a place is right of the entry there
-    pub body : (i : ℕ) (e : T) → slice_get S i ≡ Some e → Agrees (value_at i) (SaysAt e)
+    body : (i : ℕ) (e : T) → slice_get S i ≡ Some e → Agrees (value_at i) (SaysAt e)
     body i e is =
         first_agrees (ts (bind v i σ)) (Ps (bind v e ρ))
         (parts (bind v i σ) (bind v e ρ) (one_more v i e σ ρ is stand))
 
-    -- over survivors
-    abbrev Survives : T → Type 0
-    Survives e = Contains S e × IsOfKind node row S G kind e
+    -- the least over the places is right of what `every` says of survivors, and the greatest of what `some` says
+    over_all : Agrees (least (map value_at those)) ((x : T) → Contains S x → IsSuch x → SaysAt x)
+        × Agrees (greatest (map value_at those)) ((x : T) × Contains S x × IsSuch x × SaysAt x)
+    over_all =
+        simp append-nil at (both_agree value_at those true (Contains S) IsSuch SaysAt
+        (λ i c. let (e, at, such) = place_meant kind i c in (e, member_at S i e at, such, body i e at))
+        (λ _ e c such. let (i, at, there) = place_of_kind kind e c such in (i, there, body i e at)))
 
-    -- each place of the kind stands for a survivor of it
-    survivors_meant : (i : ℕ) → Contains (places rows order wholes kind) i →
-        (e : T) × Survives e × Agrees (value_at i) (SaysAt e)
-    survivors_meant i c =
-        let (e, there, such) = place_meant kind i c in (e, (member_at S i e there, such), body i e there)
-
-    -- and each survivor of the kind has a place
-    survivors_all : true ≡ true → (e : T) → Survives e →
-        (i : ℕ) × Contains (places rows order wholes kind) i × Agrees (value_at i) (SaysAt e)
-    survivors_all _ e m = let (i, there, placed) = place_of_kind kind e m.0 m.1 in (i, placed, body i e there)
-
-    -- the least over the places is right of what `every` says of survivors
-    for_every : Agrees (least (map value_at (places rows order wholes kind)))
-        ((x : T) → Contains S x → IsOfKind node row S G kind x → SaysAt x)
-    for_every =
-        let a = every_agrees value_at (places rows order wholes kind) true Survives SaysAt
-        survivors_meant
-        survivors_all in
-        let same = append-nil (map value_at (places rows order wholes kind)) in
-        record {
-          yes = λ t x c k. a.yes (ap least same ∙ t) x (c, k);
-          no = λ t h. a.no (ap least same ∙ t) (λ x m. h x m.0 m.1);
-        }
-
-    -- the greatest over the places is right of what `some` says of them
-    for_some : Agrees (greatest (map value_at (places rows order wholes kind)))
-        ((x : T) × Contains S x × IsOfKind node row S G kind x × SaysAt x)
-    for_some =
-        let a = some_agrees value_at (places rows order wholes kind) true Survives SaysAt survivors_meant
-        survivors_all in
-        let same = append-nil (map value_at (places rows order wholes kind)) in
-        record {
-          yes = λ t. let (x, (survives, such), says) = a.yes (ap greatest same ∙ t) in (x, survives, such, says);
-          no = λ t (x, survives, such, says). a.no (ap greatest same ∙ t) (x, (survives, such), says);
-        }
-
-    -- over what comes before one of them
-    module _ (u : ℕ) (last : T) (at : slice_get S u ≡ Some last) where
-      -- an entry of the kind that precedes the one at the place
-      abbrev IsEarlier : T → Type 0
-      IsEarlier e = IsOfKind node row S G kind e × Precedes node G e last
-
-      -- each place that is known to come before stands for an entry that precedes
-      earlier_meant : (i : ℕ) → Contains (ancestors rows order wholes kind u) i →
-          (e : T) × IsEarlier e × Agrees (value_at i) (SaysAt e)
-      earlier_meant i c =
-          let kept = Contains-filter_cases (λ j. is_true (order j u)) (places rows order wholes kind) i c in
-          let (e, there, such) = place_meant kind i kept.0 in
-          (e, (such, known.yes i u e last there at (true_is (order i u) kept.1)), body i e there)
-
-      -- where the place is whole, each entry that precedes it has such a place
-      earlier_all : wholes u ≡ true → (e : T) → IsEarlier e →
-          (i : ℕ) × Contains (ancestors rows order wholes kind u) i × Agrees (value_at i) (SaysAt e)
-      earlier_all whole e m =
-          let (i, there, near) = known.all u e last at whole m.1 in (
-            i,
-            Contains-filter (λ j. is_true (order j u)) (places rows order wholes kind) i
-                (place_such kind i e there m.0) (ap is_true near),
-            body i e there,
-          )
-
-      -- the least over these, and unknown where the place isn't whole, is right of every entry that
-      -- precedes
-      every_earlier : Agrees
-          (least (map value_at (ancestors rows order wholes kind u)
-          ++ rest_of rows order wholes u))
-          ((x : T) → IsOfKind node row S G kind x → Precedes node G x last → SaysAt x)
-      every_earlier =
-          let a = every_agrees value_at (ancestors rows order wholes kind u)
-          (wholes u)
-          IsEarlier SaysAt earlier_meant earlier_all in
-          record { yes = λ t x k p. a.yes t x (k, p); no = λ t h. a.no t (λ x m. h x m.0 m.1) }
-
-      -- the greatest over these is right of some entry that precedes
-      some_earlier : Agrees
-          (greatest (map value_at (ancestors rows order wholes kind u)
-          ++ rest_of rows order wholes u))
-          ((x : T) × IsOfKind node row S G kind x × Precedes node G x last × SaysAt x)
-      some_earlier =
-          let a = some_agrees value_at (ancestors rows order wholes kind u) (wholes u)
-          IsEarlier SaysAt earlier_meant earlier_all in
-          record {
-            yes = λ t. let (x, (such, earlier), says) = a.yes t in (x, such, earlier, says);
-            no = λ t (x, such, earlier, says). a.no t (x, (such, earlier), says);
-          }
-
-    -- the least over what comes before a variable's row agrees with `every`, if the variable is
-    -- bound
-    every_before : (i : Option ℕ) (e : Option T) → StandFor S i e →
-        Agrees (least (values_before rows order wholes kind i value_at))
-        ((x : T) → IsOfKind node row S G kind x → ComesBefore node row S G x e → SaysAt x)
-    every_before (Some u) (Some last) at = every_earlier u last at
-    every_before None None at = record { yes = λ t x k h. absurd h; no = λ t. cc }
-    every_before None (Some last) at = absurd at
-    every_before (Some u) None at = absurd at
-
-    -- and so for some entry that precedes it
-    some_before : (i : Option ℕ) (e : Option T) → StandFor S i e →
-        Agrees (greatest (values_before rows order wholes kind i value_at))
-        ((x : T) × IsOfKind node row S G kind x × ComesBefore node row S G x e × SaysAt x)
-    some_before (Some u) (Some last) at = some_earlier u last at
-    some_before None None at = record { yes = λ t. cc; no = λ t h. h.2 }
-    some_before None (Some last) at = absurd at
-    some_before (Some u) None at = absurd at
+    -- so are those over what comes before a variable's place, where an unknown value stands for what isn't known to
+    over_earlier : (u : Option ℕ) (d : Option T) → StandFor S u d →
+        Agrees (least (values_before rows order wholes kind u value_at))
+        ((x : T) → IsSuch x → ComesBefore node row S G x d → SaysAt x)
+        × Agrees (greatest (values_before rows order wholes kind u value_at))
+        ((x : T) × IsSuch x × ComesBefore node row S G x d × SaysAt x)
+    over_earlier None None at =
+        (record { yes = λ t x such h. absurd h; no = λ t. cc }, record { yes = λ t. cc; no = λ t h. h.2 })
+    over_earlier (Some u) (Some last) at =
+        let near = λ (j : ℕ). is_true (order j u) in
+        both_agree value_at (ancestors rows order wholes kind u) (wholes u) IsSuch
+        (λ x. Precedes node G x last) SaysAt
+        (λ i c.
+        let (there, before) = Contains-filter_cases near those i c in
+        let (e, here, such) = place_meant kind i there in
+        (e, such, known.yes i u e last here at (true_is (order i u) before), body i e here))
+        (λ whole e such before.
+        let (i, here, is) = known.all u e last at whole before in
+        (i, Contains-filter near those i (place_such kind i e here such) (ap is_true is), body i e here))
+    over_earlier u d at = absurd at
 
   -- one form, where its parts agree
   pub form_agrees : (form : Form) (ts : (ℕ → Option ℕ) → List Three) (Ps : (ℕ → Option T) → List (Type 0)) →
       PartsAgree ts Ps → (σ : ℕ → Option ℕ) (ρ : ℕ → Option T) → StandForAll σ ρ →
       Agrees (value rows order wholes form σ ts) (FormHolds node row S G form ρ Ps)
   form_agrees form.True ts Ps parts σ ρ stand = record { yes = λ t. tt; no = λ t. cc }
-  form_agrees (form.ForEvery v kind) ts Ps parts σ ρ stand = for_every v kind σ ρ stand ts Ps parts
-  form_agrees (form.ForSome v kind) ts Ps parts σ ρ stand = for_some v kind σ ρ stand ts Ps parts
+  form_agrees (form.ForEvery v kind) ts Ps parts σ ρ stand = (over_all v kind σ ρ stand ts Ps parts).0
+  form_agrees (form.ForSome v kind) ts Ps parts σ ρ stand = (over_all v kind σ ρ stand ts Ps parts).1
   form_agrees (form.EveryBefore v kind u) ts Ps parts σ ρ stand =
-      every_before v kind σ ρ stand ts Ps parts (σ u) (ρ u) (stand u)
+      (over_earlier v kind σ ρ stand ts Ps parts (σ u) (ρ u) (stand u)).0
   form_agrees (form.SomeBefore v kind u) ts Ps parts σ ρ stand =
-      some_before v kind σ ρ stand ts Ps parts (σ u) (ρ u) (stand u)
+      (over_earlier v kind σ ρ stand ts Ps parts (σ u) (ρ u) (stand u)).1
   form_agrees form.And ts Ps parts σ ρ stand = least_agrees (ts σ) (Ps ρ) (parts σ ρ stand)
   form_agrees form.Or ts Ps parts σ ρ stand = greatest_agrees (ts σ) (Ps ρ) (parts σ ρ stand)
   form_agrees form.Not ts Ps parts σ ρ stand =
@@ -425,20 +293,19 @@ module _ {T : Type 0} (node : T → Node) (row : T → Row) (S G : List T) (orde
   form_agrees form.Implies ts Ps parts σ ρ stand =
       implies_agrees (first_value (ts σ)) (second_value (ts σ)) (first_sentence (Ps ρ)) (second_sentence (Ps ρ))
       (first_agrees (ts σ) (Ps ρ) (parts σ ρ stand)) (second_agrees (ts σ) (Ps ρ) (parts σ ρ stand))
-  form_agrees (form.Same v u) ts Ps parts σ ρ stand = same_agrees (σ v) (ρ v) (σ u) (ρ u) (stand v) (stand u)
-  form_agrees (form.Before v u) ts Ps parts σ ρ stand = order_agrees (σ v) (ρ v) (σ u) (ρ u) (stand v) (stand u)
-  form_agrees (form.Next v u) ts Ps parts σ ρ stand = passes_agrees (form.Next v u) σ ρ stand
-  form_agrees (form.Is v role) ts Ps parts σ ρ stand = passes_agrees (form.Is v role) σ ρ stand
-  form_agrees (form.OfKind v kind) ts Ps parts σ ρ stand = passes_agrees (form.OfKind v kind) σ ρ stand
-  form_agrees (form.Equal t s) ts Ps parts σ ρ stand = passes_agrees (form.Equal t s) σ ρ stand
-  form_agrees (form.Less t s) ts Ps parts σ ρ stand = passes_agrees (form.Less t s) σ ρ stand
+  form_agrees (form.Same v u) ts Ps parts σ ρ stand =
+      pair_agrees (λ i j. as_three (i == j)) (λ x y. x ≡ y) same_agrees (σ v) (ρ v) (σ u) (ρ u) (stand v) (stand u)
+  form_agrees (form.Before v u) ts Ps parts σ ρ stand =
+      pair_agrees order (Precedes node G)
+      (λ i j x y at also. record { yes = known.yes i j x y at also; no = known.no i j x y at also })
+      (σ v) (ρ v) (σ u) (ρ u) (stand v) (stand u)
+  form_agrees form ts Ps parts σ ρ stand = passes_agrees form σ ρ stand
 
   -- so all formulas in a row agree
   pub all_agree : (trees : Trees) → PartsAgree (values rows order wholes trees) (meanings node row S G trees)
   all_agree no_trees σ ρ stand = tt
   all_agree (tree_then form parts rest) σ ρ stand = (
-    form_agrees form (values rows order wholes parts) (meanings node row S G parts)
-        (all_agree parts) σ ρ stand,
+    form_agrees form (values rows order wholes parts) (meanings node row S G parts) (all_agree parts) σ ρ stand,
     all_agree rest σ ρ stand,
   )
 

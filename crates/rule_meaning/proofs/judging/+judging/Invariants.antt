@@ -1,4 +1,4 @@
-use Rattle.rule_meaning.proofs.Imports.{◌≡◌, drop, both, over, over_rows, env_of}
+use Rattle.rule_meaning.proofs.Imports.{both, drop, env_of, over, over_rows, ◌≡◌}
 use Rattle.rule_meaning.proofs.Visits.{rest, IsLeastSoFar}
 use Rattle.rule_meaning.proofs.judging.+judging.Given as goal
 
