@@ -1,13 +1,13 @@
 -- An entry that meets what a body asks.
-use Rattle.rule_exactness.proofs.Imports.{Bool, Contains, Contains-cons_cases, Contains-head, Contains-later}
-use Rattle.rule_exactness.proofs.Imports.{Contains-none, EachHolds, Equation, Field, Form, IsTrue, Kind, List, Node}
-use Rattle.rule_exactness.proofs.Imports.{None, Of, Option, Row, Saying, Some, Trees, [], and_parts, ap, are_equal}
-use Rattle.rule_exactness.proofs.Imports.{bind, body_asks, bytes_eq-Decides, can_ask, can_meet, cond, eqb-true}
-use Rattle.rule_exactness.proofs.Imports.{equation, equations, false, field_of, field_word, first_sentence, inl, inr}
-use Rattle.rule_exactness.proofs.Imports.{is_field, list_any, meanings, no_trees, not-true, one_more, option_map, refl}
-use Rattle.rule_exactness.proofs.Imports.{replicate, subst, sym, tree_then, true, ℕ, ◌==◌, ◌∷◌, ◌≡◌}
+use Rattle.rule_exactness.specs.TwoSided.{can_meet, equation, equations, is_field, one_more}
 use Rattle.rule_language.specs.declared.kind.Field.TheVariants as field
 use Rattle.rule_language.specs.declared.form.Form.TheVariants as form
+use Rattle.rule_exactness.proofs.Imports
+use Imports.{[], and_parts, ap, are_equal, bind, body_asks, bytes_eq-Decides, can_ask, cases_Bool, cond, Contains}
+use Imports.{Contains-cons_cases, Contains-head, Contains-later, Contains-none, EachHolds, eqb-true, Equation, false}
+use Imports.{Field, field_of, field_word, fields, first_sentence, Form, get_or, inl, inr, IsTrue, Kind, List, list_any}
+use Imports.{map, meanings, no_trees, Node, None, not-true, Of, Option, option_map, refl, replicate, Row, same_Some}
+use Imports.{Saying, Some, subst, sym, tree_then, Trees, true, ℕ, ◌==◌, ◌∙◌, ◌∷◌, ◌≡◌}
 use Rattle.rule_exactness.proofs.Digests.{none_of}
 
 -- the first equation for a field
@@ -15,6 +15,7 @@ abbrev pub pick : Field → List Equation → Option Equation
 pick f [] = None
 pick f (e ∷ es) = cond (is_field e.asked f) (Some e) (pick f es)
 
+-- a field is itself
 same_field : (f : Field) → is_field f f ≡ true
 same_field f = (bytes_eq-Decides (field_word f) (field_word f)).1 refl
 
@@ -25,6 +26,7 @@ pub record IsChecked (bound : List ℕ) (v : ℕ) (k : Kind) (es : List Equation
   pub can : can_ask k e.asked e.given ≡ true
   pub first : pick e.asked es ≡ Some e
 
+-- where a kind can meet equations all of this is so of each
 pub checked : (bound : List ℕ) (v : ℕ) (k : Kind) (es : List Equation) → can_meet bound v k es ≡ true → (e : Equation) →
     Contains es e → IsChecked bound v k es e
 checked bound v k [] t e c = absurd (Contains-none e c)
@@ -33,20 +35,13 @@ checked bound v k (d ∷ es) t e c =
     let (among, known) = and_parts _ _ now in
     let (other, can) = and_parts _ _ known in
     let (apart, rest) = and_parts _ _ later in
+    let differs = none_of (λ x. is_field d.asked x.asked) es e (not-true _ apart) in
     elim (Contains-cons_cases d es e c) [
-      | inl is ↦
-          subst (λ (x : Equation). IsChecked bound v k (d ∷ es) x) is
-          (record {
-            among = among;
-            other = not-true (d.of == v) other;
-            can = can;
-            first = rw (same_field d.asked) refl;
-          })
+      | inl is ↦ subst (IsChecked bound v k (d ∷ es)) is
+          (record { among = among; other = not-true _ other; can = can; first = rw (same_field d.asked) refl })
       | inr behind ↦
-          let deeper = checked bound v k es rest e behind in
-          let differs = none_of (λ x. is_field d.asked x.asked) es e
-          (not-true (list_any (λ x. is_field d.asked x.asked) es) apart) behind in
-          record { among = deeper.among; other = deeper.other; can = deeper.can; first = rw differs deeper.first }
+          let more = checked bound v k es rest e behind in
+          record { among = more.among; other = more.other; can = more.can; first = rw (differs behind) more.first }
     ]
 
 -- ---- what equations say
@@ -55,14 +50,14 @@ checked bound v k (d ∷ es) t e c =
 abbrev form_of : ℕ → Equation → Form
 form_of v e = form.Equal (Of v e.asked) (Of e.of e.given)
 
+-- a form with such an equation is its form
 form_is : (v : ℕ) (f : Form) (e : Equation) → equation v f ≡ Some e → f ≡ form_of v e
-form_is v (form.Equal (Of a f) (Of b g)) e is = by (a == v) refl is
-  where
-    by : (t : Bool) → (a == v) ≡ t → cond t (Some (record { asked = f; of = b; given = g })) None ≡ Some e →
-        form.Equal (Of a f) (Of b g) ≡ form_of v e
-    by true at so =
-        let said : record { asked = f; of = b; given = g } ≡ e = cc in rw (eqb-true a v at) (ap (form_of v) said)
-    by false at so = absurd (cc)
+form_is v (form.Equal (Of a f) (Of b g)) e is = elim (cases_Bool (a == v)) [
+  | inl at ↦
+      let said : Some (record { asked = f; of = b; given = g }) ≡ Some e = rw at at is in
+      rw (eqb-true a v at) (ap (form_of v) (same_Some _ _ said))
+  | inr at ↦ let none : None ≡ Some e = rw at at is in absurd (cc)
+]
 form_is v f e is = absurd (cc)
 
 -- the formulas that equations for v are
@@ -70,19 +65,21 @@ abbrev pub trees_of : ℕ → List Equation → Trees
 trees_of v [] = no_trees
 trees_of v (e ∷ es) = tree_then (form_of v e) no_trees (trees_of v es)
 
+-- where one more is some, it and the others are
+one_more_is : (o : Option Equation) (os : Option (List Equation)) (es : List Equation) → one_more o os ≡ Some es →
+    (e : Equation) × (ds : List Equation) × (o ≡ Some e) × (os ≡ Some ds) × (e ∷ ds ≡ es)
+one_more_is (Some e) (Some ds) es is = (e, ds, refl, refl, same_Some _ _ is)
+one_more_is None os es is = absurd (cc)
+one_more_is (Some e) None es is = absurd (cc)
+
+-- formulas with these equations are these
 trees_are : (v : ℕ) (trees : Trees) (es : List Equation) → equations v trees ≡ Some es → trees ≡ trees_of v es
-trees_are v no_trees es is = let said : [] ≡ es = cc in ap (trees_of v) said
+trees_are v no_trees es is = ap (trees_of v) (same_Some _ _ is)
 trees_are v (tree_then f (tree_then g inner more) rest) es is = absurd (cc)
 trees_are v (tree_then f no_trees rest) es is =
-    by (equation v f) (equations v rest) (form_is v f) (trees_are v rest) is
-  where
-    by : (o : Option Equation) (os : Option (List Equation)) → ((e : Equation) → o ≡ Some e → f ≡ form_of v e) →
-        ((ds : List Equation) → os ≡ Some ds → rest ≡ trees_of v ds) → one_more o os ≡ Some es →
-        tree_then f no_trees rest ≡ trees_of v es
-    by (Some e) (Some ds) first others so =
-        let said : e ∷ ds ≡ es = cc in rw (first e refl, others ds refl) (ap (trees_of v) said)
-    by None os first others so = absurd (cc)
-    by (Some e) None first others so = absurd (cc)
+    let (e, ds, first, others, same) = one_more_is (equation v f) (equations v rest) es is in
+    ap (λ g. tree_then g no_trees rest) (form_is v f e first)
+    ∙ ap (tree_then (form_of v e) no_trees) (trees_are v rest ds others) ∙ ap (trees_of v) same
 
 -- what holds of `true`, of `and` of the equations and of the equations holds of the body that asks for them
 pub body_cases : (v : ℕ) (es : List Equation) (M : Trees → Type 0) → M (tree_then form.True no_trees no_trees) →
@@ -106,6 +103,7 @@ module _ {T : Type 0} (node : T → Node) (row : T → Row) (S G : List T) (v : 
   each_met [] met = tt
   each_met (e ∷ es) met = (met e (Contains-head e es), each_met es (λ d c. met d (Contains-later e es d c)))
 
+  -- and the first of them does
   first_met : (es : List Equation) → ((e : Equation) → Contains es e → IsMet e) →
       first_sentence (meanings node row S G (trees_of v es) (bind v y ρ))
   first_met [] met = tt
@@ -124,9 +122,9 @@ module _ {T : Type 0} (node : T → Node) (row : T → Row) (S G : List T) (v : 
 abbrev pub Source : Type 0 → Type 0
 Source T = Option (Field × T)
 
--- what is asked for: a kind; the number, the session, the ballot and the booth; and the maker
+-- what is asked for: a kind, and field by field where its value is from
 abbrev pub Sources : Type 0 → Type 0
-Sources T = Kind × (Source T × (Source T × (Source T × (Source T × Source T))))
+Sources T = Kind × List (Source T)
 
 module _ {T : Type 0} (row : T → Row) where
   -- a number that another entry has in a field
@@ -137,25 +135,29 @@ module _ {T : Type 0} (row : T → Row) where
   number_in field.Session r = r.session
   number_in field.Ballot r = 0
 
+  -- the number, or 0
   abbrev pub number_from : Source T → ℕ
   number_from None = 0
   number_from (Some (f, x)) = number_in f (row x)
 
+  -- the ballot, or zeros
   abbrev pub ballot_from : Source T → List ℕ
   ballot_from None = replicate 32 0
   ballot_from (Some (f, x)) = (row x).ballot
 
+  -- an entry says these, in the order of `fields`: its maker, booth, number, session and ballot
   abbrev pub saying_from : Sources T → Saying
-  saying_from (k, (n, (s, (b, (o, m))))) = record {
-    kind = k;
-    number = number_from n;
-    session = number_from s;
-    ballot = ballot_from b;
-    booth = number_from o;
+  saying_from q = record {
+    kind = q.0;
+    booth = number_from (get_or q.1 1 None);
+    number = number_from (get_or q.1 2 None);
+    session = number_from (get_or q.1 3 None);
+    ballot = ballot_from (get_or q.1 4 None);
   }
 
+  -- and this is its maker
   abbrev pub maker_from : Sources T → ℕ
-  maker_from (k, (n, (s, (b, (o, m))))) = number_from m
+  maker_from q = number_from (get_or q.1 0 None)
 
 -- where the value for an equation is from
 abbrev pub source_of : {T : Type 0} → (ℕ → Option T) → Option Equation → Source T
@@ -164,13 +166,4 @@ source_of ρ (Some e) = option_map (λ x. (e.given, x)) (ρ e.of)
 
 -- what an entry of the kind says that meets the equations
 abbrev pub sources_of : {T : Type 0} → (ℕ → Option T) → Kind → List Equation → Sources T
-sources_of ρ k es = (
-  k,
-  (
-    source_of ρ (pick field.Number es),
-    (
-      source_of ρ (pick field.Session es),
-      (source_of ρ (pick field.Ballot es), (source_of ρ (pick field.Booth es), source_of ρ (pick field.Maker es))),
-    ),
-  ),
-)
+sources_of ρ k es = (k, map (λ f. source_of ρ (pick f es)) fields)

@@ -1,10 +1,9 @@
 -- Survivors with an entry more for each wish, whose digest is its own.
-use Rattle.rule_exactness.proofs.Imports.{AreDigests, Contains, Contains-append_left, Contains-append_right}
-use Rattle.rule_exactness.proofs.Imports.{Contains-cons_cases, Contains-head, Contains-later, Contains-map}
-use Rattle.rule_exactness.proofs.Imports.{Contains-none, Contains-one, Distinct, IsBorneIn, IsPath, List, Node}
-use Rattle.rule_exactness.proofs.Imports.{Precedes, [], ap, arith, gaps, inl, inr, length, length-append, length-map}
-use Rattle.rule_exactness.proofs.Imports.{map, precedes_over, refl, subst, suc, sym, zero, ℕ, ◌++◌, ◌+◌, ◌<◌, ◌^◌, ◌∙◌}
-use Rattle.rule_exactness.proofs.Imports.{◌∷◌, ◌≡◌, ◌≤◌, ◌⊎◌}
+use Rattle.rule_exactness.proofs.Imports
+use Imports.{[], ap, AreDigests, arith, Contains, Contains-append_left, Contains-append_right, Contains-cons_cases}
+use Imports.{Contains-head, Contains-later, Contains-map, Contains-none, Contains-one, Distinct, gaps, inl, inr}
+use Imports.{IsBorneIn, IsPath, length, length-append, length-map, List, map, Node, Precedes, precedes_over, refl}
+use Imports.{subst, suc, sym, zero, ℕ, ◌++◌, ◌+◌, ◌<◌, ◌^◌, ◌∙◌, ◌∷◌, ◌≡◌, ◌≤◌, ◌⊎◌}
 use Rattle.rule_exactness.proofs.Digests.{fresh, fresh_length, fresh_new}
 
 -- an entry to be made, whatever it names and whatever its digest
@@ -34,168 +33,146 @@ pub head_few : {T : Type 0} (node : T → Node) (es : List T) → length (head_n
 head_few node [] = omega arith
 head_few node (e ∷ es) = omega arith
 
-module _ {T : Type 0} (node : T → Node) (machines : ℕ) (S : List T) where
+module _ {T : Type 0} (node : T → Node) (S : List T) where
+  -- an entry's digest
   abbrev digest_of : T → List ℕ
   digest_of e = (node e).digest
 
-  -- the digests of these, and the survivors' gaps
-  abbrev taken : List T → List (List ℕ)
-  taken E = map digest_of E ++ gaps node S
+  -- the digests of these and of the survivors, and the survivors' gaps
+  abbrev pub taken : List T → List (List ℕ)
+  taken es = map digest_of (es ++ S) ++ gaps node S
 
-  -- a digest that is none of the entries', of the survivors' and of the gaps
-  abbrev next : List T → List ℕ
-  next es = fresh (taken (es ++ S))
-
-  -- A chain with an entry for each wish: each names the one behind it in the list, the last one
-  -- nothing, and has a digest of its own.
-  abbrev pub granted : List (Wish node machines) → List T
-  granted [] = []
-  granted (w ∷ ws) = w.make (head_name node (granted ws)) (next (granted ws)) ∷ granted ws
-
-  -- the first of them
-  abbrev granted_first : Wish node machines → List (Wish node machines) → T
-  granted_first w ws = w.make (head_name node (granted ws)) (next (granted ws))
-
-  -- what holds of all that is made for the wishes holds of them
-  pub granted_are : (P : T → Type 0) (ws : List (Wish node machines)) →
-      ((w : Wish node machines) → Contains ws w → IsFairly P w.make) → (e : T) → Contains (granted ws) e → P e
-  granted_are P [] fair e c = absurd (Contains-none e c)
-  granted_are P (w ∷ ws) fair e (zero, l, is) =
-      subst P is (fair w (Contains-head w ws) (head_name node (granted ws)) (next (granted ws))
-      (head_few node (granted ws)) (λ d c. let (f, there, bears) = head_borne node (granted ws) d c in
-      subst (λ (b : List ℕ). length b ≡ 32) bears (granted_are (λ x. length (digest_of x) ≡ 32) ws
-      (λ v _ ns b _ _ long. rw (v.bears ns b) long) f there)) (fresh_length (taken (granted ws ++ S))))
-  granted_are P (w ∷ ws) fair e (suc k, l, at) =
-      granted_are P ws (λ v c. fair v (Contains-later w ws v c)) e (k, omega arith, at)
-
-  -- and each wish is granted
-  pub granted_each : (ws : List (Wish node machines)) (w : Wish node machines) → Contains ws w →
-      (ns : List (List ℕ)) × (d : List ℕ) × Contains (granted ws) (w.make ns d)
-  granted_each [] w there = absurd (Contains-none w there)
-  granted_each (v ∷ ws) w (zero, l, is) =
-      let ns = head_name node (granted ws) in
-      let d = next (granted ws) in
-      (ns, d, (0, omega arith, ap (λ (u : Wish node machines). u.make ns d) is))
-  granted_each (v ∷ ws) w (suc k, l, at) =
-      let (ns, d, got) = granted_each ws w (k, omega arith, at) in
-      (ns, d, Contains-later (granted_first v ws) (granted ws) (w.make ns d) got)
-
-  -- what the first names is the digest of the one behind it
-  first_named : (w : Wish node machines) (ws : List (Wish node machines)) (e : T) → granted_first w ws ≡ e →
-      (d : List ℕ) → Contains (node e).names d → IsBorneIn node (granted ws) d
-  first_named w ws e is d named =
-      head_borne node (granted ws) d
-      (subst (λ ns. Contains ns d) (w.names (head_name node (granted ws)) (next (granted ws)))
-      (subst (λ (x : T). Contains (node x).names d) (sym is) named))
-
-  borne_later : (w : Wish node machines) (ws : List (Wish node machines)) (d : List ℕ) →
-      IsBorneIn node (granted ws) d → IsBorneIn node (granted (w ∷ ws)) d
-  borne_later w ws d (f, c, bears) = (f, Contains-later (granted_first w ws) (granted ws) f c, bears)
+  -- A chain: each names the one behind it in the list, the last one nothing, and has a digest of its own.
+  pub data IsChain : List T → Type 0 where
+    none : IsChain []
+    more : {e : T} {es : List T} → (node e).names ≡ head_name node es → ¬ Contains (taken es) (node e).digest →
+        IsChain es → IsChain (e ∷ es)
 
   -- what one of them names is the digest of another
-  pub granted_named : (ws : List (Wish node machines)) (e : T) → Contains (granted ws) e → (d : List ℕ) →
-      Contains (node e).names d → IsBorneIn node (granted ws) d
-  granted_named [] e c d named = absurd (Contains-none e c)
-  granted_named (w ∷ ws) e (zero, l, is) d named = borne_later w ws d (first_named w ws e is d named)
-  granted_named (w ∷ ws) e (suc k, l, at) d named =
-      borne_later w ws d (granted_named ws e (k, omega arith, at) d named)
-
-  -- there is one entry for each wish
-  length-granted : (ws : List (Wish node machines)) → length (granted ws) ≡ length ws
-  length-granted [] = refl
-  length-granted (w ∷ ws) = ap suc (length-granted ws)
-
-  -- there are digests for these wishes
-  abbrev pub HasRoom : List (Wish node machines) → Type 0
-  HasRoom ws = length ws + (length S + length (gaps node S)) ≤ 256 ^ 32
-
-  -- the next digest isn't taken
-  next_new : (w : Wish node machines) (ws : List (Wish node machines)) → HasRoom (w ∷ ws) →
-      Contains (taken (granted ws ++ S)) (next (granted ws)) → ⊥
-  next_new w ws room =
-      let all = length-append (map digest_of (granted ws ++ S)) (gaps node S) in
-      let same = length-map (granted ws ++ S) digest_of in
-      let both = length-append (granted ws) S in
-      let one_each = length-granted ws in fresh_new (taken (granted ws ++ S)) (omega arith)
-
-  -- so no other entry has it
-  first_apart : (w : Wish node machines) (ws : List (Wish node machines)) → HasRoom (w ∷ ws) → (e f : T) →
-      granted_first w ws ≡ e → Contains (granted ws ++ S) f → (node e).digest ≡ (node f).digest → ⊥
-  first_apart w ws room e f is c same =
-      let bears = w.bears (head_name node (granted ws)) (next (granted ws)) in
-      next_new w ws room (subst (Contains (taken (granted ws ++ S))) (sym same ∙ ap digest_of (sym is) ∙ bears)
-      (Contains-append_left _ _ _ (Contains-map digest_of (granted ws ++ S) f c)))
+  pub chain_named : {es : List T} → IsChain es → (e : T) → Contains es e → (d : List ℕ) → Contains (node e).names d →
+      IsBorneIn node es d
+  chain_named none e c d named = absurd (Contains-none e c)
+  chain_named (more {es = es} names new chain) e (zero, l, is) d named =
+      let (f, c, bears) = head_borne node es d (rw (← is, names) at named) in (f, Contains-later _ es f c, bears)
+  chain_named (more {es = es} names new chain) e (suc k, l, at) d named =
+      let (f, c, bears) = chain_named chain e (k, omega arith, at) d named in (f, Contains-later _ es f c, bears)
 
   -- none of them has a survivor's digest, or a gap
-  pub granted_new : (ws : List (Wish node machines)) → HasRoom ws → (e : T) → Contains (granted ws) e →
+  pub chain_new : {es : List T} → IsChain es → (e : T) → Contains es e →
       IsBorneIn node S (node e).digest ⊎ Contains (gaps node S) (node e).digest → ⊥
-  granted_new [] room e c old = Contains-none e c
-  granted_new (w ∷ ws) room e (zero, l, is) (inl (f, there, same)) =
-      first_apart w ws room e f is (Contains-append_right (granted ws) S f there) (sym same)
-  granted_new (w ∷ ws) room e (zero, l, is) (inr gap) =
-      let bears = w.bears (head_name node (granted ws)) (next (granted ws)) in
-      next_new w ws room (Contains-append_right (map digest_of (granted ws ++ S)) (gaps node S) (next (granted ws))
-      (subst (Contains (gaps node S)) (ap digest_of (sym is) ∙ bears) gap))
-  granted_new (w ∷ ws) room e (suc k, l, at) old = granted_new ws (omega arith) e (k, omega arith, at) old
+  chain_new none e c old = Contains-none e c
+  chain_new (more {es = es} names new chain) e (zero, l, is) old = new (rw is (elim old [
+    | inl (f, there, same) ↦
+        let member = Contains-append_right es S f there in
+        rw (← same) (Contains-append_left _ _ _ (Contains-map digest_of (es ++ S) f member))
+    | inr gap ↦ Contains-append_right (map digest_of (es ++ S)) (gaps node S) _ gap
+  ]))
+  chain_new (more names new chain) e (suc k, l, at) old = chain_new chain e (k, omega arith, at) old
 
   -- no two of them and of the survivors have one digest
-  pub granted_distinct : Distinct node S → (ws : List (Wish node machines)) → HasRoom ws →
-      Distinct node (granted ws ++ S)
-  granted_distinct distinct [] room e f ce cf same = distinct e f ce cf same
-  granted_distinct distinct (w ∷ ws) room e f (zero, l, is) (zero, m, also) same = sym is ∙ also
-  granted_distinct distinct (w ∷ ws) room e f (zero, l, is) (suc j, m, at) same =
-      absurd (first_apart w ws room e f is (j, omega arith, at) same)
-  granted_distinct distinct (w ∷ ws) room e f (suc k, l, at) (zero, m, is) same =
-      absurd (first_apart w ws room f e is (k, omega arith, at) (sym same))
-  granted_distinct distinct (w ∷ ws) room e f (suc k, l, at) (suc j, m, too) same =
-      granted_distinct distinct ws (omega arith) e f (k, omega arith, at) (j, omega arith, too) same
+  pub chain_distinct : Distinct node S → {es : List T} → IsChain es → Distinct node (es ++ S)
+  chain_distinct distinct none = distinct
+  chain_distinct distinct (more {e = h} {es = es} names new chain) = λ e f ce cf same.
+      let apart = λ (g : T) (c : Contains (es ++ S) g) (borne : (node g).digest ≡ (node h).digest).
+      new (rw (← borne) (Contains-append_left _ _ _ (Contains-map digest_of (es ++ S) g c))) in
+      elim (Contains-cons_cases h (es ++ S) e ce) [
+        | inl is ↦ elim (Contains-cons_cases h (es ++ S) f cf) [
+          | inl also ↦ sym is ∙ also
+          | inr there ↦ absurd (apart f there (sym same ∙ ap digest_of (sym is)))
+        ]
+        | inr there ↦ elim (Contains-cons_cases h (es ++ S) f cf) [
+          | inl is ↦ absurd (apart e there (same ∙ ap digest_of (sym is)))
+          | inr also ↦ chain_distinct distinct chain e f there also same
+        ]
+      ]
 
   module _ (E : List T) (distinct : Distinct node E) where
     -- these are among the entries
-    abbrev AreAmong : List (Wish node machines) → Type 0
-    AreAmong ws = (f : T) → Contains (granted ws) f → Contains E f
+    abbrev AreAmong : List T → Type 0
+    AreAmong es = (f : T) → Contains es f → Contains E f
 
     -- what bears a digest of theirs is one of them
-    one_of : (ws : List (Wish node machines)) → AreAmong ws → (f : T) → Contains E f →
-        IsBorneIn node (granted ws) (node f).digest → Contains (granted ws) f
-    one_of ws among f cf (g, c, bears) = subst (Contains (granted ws)) (distinct g f (among g c) cf bears) c
+    one_of : (es : List T) → AreAmong es → (f : T) → Contains E f → IsBorneIn node es (node f).digest → Contains es f
+    one_of es among f cf (g, c, bears) = subst (Contains es) (distinct g f (among g c) cf bears) c
 
     -- what precedes an entry that names them alone is one of them
-    pub granted_back : (ws : List (Wish node machines)) → AreAmong ws → (e : T) →
-        ((d : List ℕ) → Contains (node e).names d → IsBorneIn node (granted ws) d) → (f : T) (between : List T) →
-        Contains E f → IsPath node E f between e → Contains (granted ws) f
-    granted_back ws among e named f [] cf names = one_of ws among f cf (named (node f).digest names)
-    granted_back ws among e named f (g ∷ gs) cf (cg, names, path) =
-        let later = granted_back ws among e named g gs cg path in
-        one_of ws among f cf (granted_named ws g later (node f).digest names)
+    pub chain_back : {es : List T} → IsChain es → AreAmong es → (e : T) → ((d : List ℕ) → Contains (node e).names d →
+        IsBorneIn node es d) → (f : T) (between : List T) → Contains E f → IsPath node E f between e → Contains es f
+    chain_back chain among e named f [] cf names = one_of _ among f cf (named (node f).digest names)
+    chain_back chain among e named f (g ∷ gs) cf (cg, names, path) =
+        one_of _ among f cf (chain_named chain g (chain_back chain among e named g gs cg path) (node f).digest names)
 
     -- none of them precedes itself
-    pub granted_acyclic : (ws : List (Wish node machines)) → AreAmong ws → (e : T) (between : List T) →
-        Contains (granted ws) e → IsPath node E e between e → ⊥
-    granted_acyclic [] among e between c path = Contains-none e c
-    granted_acyclic (w ∷ ws) among e between c path =
-        let later : AreAmong ws = λ f there. among f (Contains-later (granted_first w ws) (granted ws) f there) in
-        granted_acyclic ws later e between (elim (Contains-cons_cases (granted_first w ws) (granted ws) e c) [
-          | inl is ↦ granted_back ws later e (first_named w ws e is) e between (among e c) path
+    pub chain_acyclic : {es : List T} → IsChain es → AreAmong es → (e : T) (between : List T) → Contains es e →
+        IsPath node E e between e → ⊥
+    chain_acyclic none among e between c path = Contains-none e c
+    chain_acyclic (more {e = h} {es = es} names new chain) among e between c path =
+        let later : AreAmong es = λ f there. among f (Contains-later h es f there) in
+        chain_acyclic chain later e between (elim (Contains-cons_cases h es e c) [
+          | inl is ↦
+              let named_back = λ (d : List ℕ) (named : Contains (node e).names d).
+              head_borne node es d (rw (← is, names) at named) in
+              chain_back chain later e named_back e between (among e c) path
           | inr following ↦ following
         ]) path
 
     -- each of them precedes what names the first
-    pub granted_path : (ws : List (Wish node machines)) → AreAmong ws → (h : T) → Contains E h →
-        ((c : List ℕ) → Contains (head_name node (granted ws)) c → Contains (node h).names c) → (e : T) →
-        Contains (granted ws) e → Precedes node E e h
-    granted_path [] among h ch names e c = absurd (Contains-none e c)
-    granted_path (w ∷ ws) among h ch names e c =
-        let first = granted_first w ws in
-        let there = among first (Contains-head first (granted ws)) in
-        let step : Precedes node E first h =
-        (there, ch, [], names (node first).digest (Contains-head (node first).digest [])) in
-        elim (Contains-cons_cases first (granted ws) e c) [
+    pub chain_path : {es : List T} → IsChain es → AreAmong es → (h : T) → Contains E h → ((c : List ℕ) →
+        Contains (head_name node es) c → Contains (node h).names c) → (e : T) → Contains es e → Precedes node E e h
+    chain_path none among h ch named e c = absurd (Contains-none e c)
+    chain_path (more {e = f} {es = es} names new chain) among h ch named e c =
+        let there = among f (Contains-head f es) in
+        let step : Precedes node E f h = (there, ch, [], named (node f).digest (Contains-head (node f).digest [])) in
+        elim (Contains-cons_cases f es e c) [
           | inl is ↦ subst (λ (x : T). Precedes node E x h) is step
           | inr following ↦
-              precedes_over node E e first h (granted_path ws
-              (λ f there. among f (Contains-later first (granted ws) f there)) first there
-              (λ c named. subst (λ ns. Contains ns c)
-              (sym (w.names (head_name node (granted ws)) (next (granted ws)))) named)
-              e following) step
+              precedes_over node E e f h (chain_path chain (λ g c. among g (Contains-later f es g c)) f there
+              (λ d c. rw names c) e following) step
         ]
+
+  module _ (machines : ℕ) where
+    -- a chain with an entry for each wish
+    abbrev pub granted : List (Wish node machines) → List T
+    granted [] = []
+    granted (w ∷ ws) = w.make (head_name node (granted ws)) (fresh (taken (granted ws))) ∷ granted ws
+
+    -- what holds of all that is made for the wishes holds of them
+    pub granted_are : (P : T → Type 0) (ws : List (Wish node machines)) →
+        ((w : Wish node machines) → Contains ws w → IsFairly P w.make) → (e : T) → Contains (granted ws) e → P e
+    granted_are P [] fair e c = absurd (Contains-none e c)
+    granted_are P (w ∷ ws) fair e (zero, l, is) =
+        subst P is (fair w (Contains-head w ws) _ _ (head_few node (granted ws)) (λ d c.
+        let (f, there, bears) = head_borne node (granted ws) d c in
+        subst (λ (b : List ℕ). length b ≡ 32) bears (granted_are (λ x. length (digest_of x) ≡ 32) ws
+        (λ v _ ns b _ _ long. rw (v.bears ns b) long) f there)) (fresh_length (taken (granted ws))))
+    granted_are P (w ∷ ws) fair e (suc k, l, at) =
+        granted_are P ws (λ v c. fair v (Contains-later w ws v c)) e (k, omega arith, at)
+
+    -- and each wish is granted
+    pub granted_each : (ws : List (Wish node machines)) (w : Wish node machines) → Contains ws w →
+        (ns : List (List ℕ)) × (d : List ℕ) × Contains (granted ws) (w.make ns d)
+    granted_each [] w there = absurd (Contains-none w there)
+    granted_each (v ∷ ws) w (zero, l, is) =
+        let ns = head_name node (granted ws) in let d = fresh (taken (granted ws)) in
+        (ns, d, (0, omega arith, ap (λ (u : Wish node machines). u.make ns d) is))
+    granted_each (v ∷ ws) w (suc k, l, at) =
+        let (ns, d, got) = granted_each ws w (k, omega arith, at) in (ns, d, Contains-later _ (granted ws) _ got)
+
+    -- there is one entry for each wish
+    length-granted : (ws : List (Wish node machines)) → length (granted ws) ≡ length ws
+    length-granted [] = refl
+    length-granted (w ∷ ws) = ap suc (length-granted ws)
+
+    -- there are digests for these wishes
+    abbrev pub HasRoom : List (Wish node machines) → Type 0
+    HasRoom ws = length ws + (length S + length (gaps node S)) ≤ 256 ^ 32
+
+    -- where there are, it is a chain
+    pub granted_chain : (ws : List (Wish node machines)) → HasRoom ws → IsChain (granted ws)
+    granted_chain [] room = none
+    granted_chain (w ∷ ws) room =
+        let all = length-append (map digest_of (granted ws ++ S)) (gaps node S) in
+        let same = length-map (granted ws ++ S) digest_of in
+        let both = length-append (granted ws) S in
+        let one_each = length-granted ws in
+        more (w.names _ _) (rw w.bears (fresh_new (taken (granted ws)) (omega arith))) (granted_chain ws (omega arith))
