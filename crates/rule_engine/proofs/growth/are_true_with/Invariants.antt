@@ -1,5 +1,5 @@
-use Rattle.rule_engine.proofs.Imports.{◌≡◌, ◌<◌, ◌≤◌, ℕ, true, slice_get, True, over_rows, bind, unbound, has_kind}
-use Rattle.rule_engine.proofs.Imports.{known_before, known_whole}
+use Rattle.rule_engine.proofs.Imports.{bind, has_kind, known_before, known_whole, over_rows, slice_get, True, true}
+use Rattle.rule_engine.proofs.Imports.{unbound, ℕ, ◌<◌, ◌≡◌, ◌≤◌}
 use Rattle.rule_engine.proofs.growth.are_true_with.Given as goal
 
 -- the inner body is true with each later row so far

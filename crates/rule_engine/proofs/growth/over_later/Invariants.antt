@@ -1,4 +1,4 @@
-use Rattle.rule_engine.proofs.Imports.{◌≡◌, ◌-◌, length, both, over_from, env_of, known_before, known_whole}
+use Rattle.rule_engine.proofs.Imports.{both, env_of, known_before, known_whole, length, over_from, ◌-◌, ◌≡◌}
 use Rattle.rule_meaning.proofs.Visits.{rest}
 use Rattle.rule_engine.proofs.growth.over_later.Given as goal
 
@@ -9,6 +9,5 @@ invariant-loop-i l =
     let P = known_before l.survivors.known.order.now in
     let R = known_whole l.survivors.known.order.now in
     let q = l.quantifier in
-    let env = env_of l.scope in
-    over_from rows P R q.some l.body q.v q.kind q.within env l.count (length rows - l.count)
-    ≡ both l.least (rest rows P R q.some l.body q.v q.kind q.within env l.i)
+    over_from rows P R q.some l.body q.v q.kind q.within (env_of l.scope) l.count (length rows - l.count)
+    ≡ both l.least (rest rows P R q.some l.body q.v q.kind q.within (env_of l.scope) l.i)

@@ -1,5 +1,5 @@
-use Rattle.rule_engine.proofs.Imports.{◌≡◌, ◌∙◌, ◌++◌, ◌∷◌, [], ap, sym, get_or, map-set, get_or-map, set, ℕ, List, Vec}
-use Rattle.rule_engine.proofs.Imports.{Global, map}
+use Rattle.rule_engine.proofs.Imports.{[], ap, get_or, get_or-map, Global, List, map, map-set, set, sym, Vec, ℕ, ◌++◌}
+use Rattle.rule_engine.proofs.Imports.{◌∙◌, ◌∷◌, ◌≡◌}
 use Rattle.rule_engine.proofs.index.list_at.Goals as goal
 
 pub returns : goal.returns

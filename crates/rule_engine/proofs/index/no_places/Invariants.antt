@@ -1,4 +1,4 @@
-use Rattle.rule_engine.proofs.Imports.{map, IsEachEmpty}
+use Rattle.rule_engine.proofs.Imports.{IsEachEmpty, map}
 use Rattle.rule_engine.proofs.index.no_places.Given as goal
 
 -- the lists so far are empty

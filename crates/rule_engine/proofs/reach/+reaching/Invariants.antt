@@ -1,4 +1,4 @@
-use Rattle.rule_engine.proofs.Imports.{◌≡◌, drop, trees_of, reaches_row}
+use Rattle.rule_engine.proofs.Imports.{drop, reaches_row, trees_of, ◌≡◌}
 use Rattle.rule_engine.proofs.reach.+reaching.Given as goal
 
 abbrev pub invariant-some_reach-loop-part : goal.invariant-some_reach-loop-part

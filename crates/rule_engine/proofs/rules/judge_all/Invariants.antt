@@ -1,4 +1,4 @@
-use Rattle.rule_engine.proofs.Imports.{map, take, Graph, IsKnownOf, rule_tree, AreJudged}
+use Rattle.rule_engine.proofs.Imports.{AreJudged, Graph, IsKnownOf, map, rule_tree, take}
 use Rattle.rule_engine.proofs.rules.judge_all.Given as goal
 
 -- the verdicts on the rules so far

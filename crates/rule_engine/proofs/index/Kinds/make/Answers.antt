@@ -1,6 +1,5 @@
-use Rattle.rule_engine.proofs.Imports.{arith}
-use Rattle.rule_engine.proofs.Indexed.{by_kind_none, by_kind_more, by_kind_all}
 use Rattle.rule_engine.proofs.index.Kinds.make.Goals as goal
+use Rattle.rule_engine.proofs.{Imports.arith, Indexed.by_kind_all, Indexed.by_kind_more, Indexed.by_kind_none}
 
 pub loop-place-init : goal.loop-place-init
 loop-place-init c = by_kind_none c.args.rows.now _ c.in_ok-places.ensures

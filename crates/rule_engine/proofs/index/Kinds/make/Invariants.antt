@@ -1,6 +1,5 @@
-use Rattle.rule_engine.proofs.Imports.{map}
-use Rattle.rule_engine.proofs.Indexed.{AreListedByKind}
 use Rattle.rule_engine.proofs.index.Kinds.make.Given as goal
+use Rattle.rule_engine.proofs.{Imports.map, Indexed.AreListedByKind}
 
 -- the rows so far are listed
 abbrev pub invariant-loop-place : goal.invariant-loop-place
