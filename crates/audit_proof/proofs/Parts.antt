@@ -1,58 +1,59 @@
 -- Bytes in parts, each up to a separator.
-use Rattle.audit_proof.proofs.Imports.{All, All-from_get_or, All-head, All-tail, LineAt, List, TextLine, []}
-use Rattle.audit_proof.proofs.Imports.{after_first, ap, append-nil, append_assoc, arith, before_first, cases_lt, cond}
-use Rattle.audit_proof.proofs.Imports.{drop, drop-append-add, drop-drop, drop_all, drop_more, eq-eqb}
-use Rattle.audit_proof.proofs.Imports.{fails_before_first, false, first_from, flat_map, inl, inr, join_with_byte}
-use Rattle.audit_proof.proofs.Imports.{join_with_byte-slice_split, le-ltb, length, length-drop, length-slice_split}
-use Rattle.audit_proof.proofs.Imports.{line_from, lines_between, lines_in, lt-ltb, position_or_len, refl, slice_split}
-use Rattle.audit_proof.proofs.Imports.{slice_split_at, slice_split_first, slice_split_none, spaced, sym, take, take_all}
-use Rattle.audit_proof.proofs.Imports.{take_at, text_line, true, words_on, ℕ, ◌++◌, ◌+◌, ◌-◌, ◌<◌, ◌==◌, ◌∙◌, ◌∷◌, ◌≡◌}
-use Rattle.audit_proof.proofs.Imports.{◌≤◌}
+use Rattle.audit_proof.proofs.Imports
+use Imports.{All, All-from_get_or, Bool, LineAt, List, TextLine, [], after_first, ap, append-nil, append_assoc, arith}
+use Imports.{before, before_first, cases_lt, cond, drop, drop-append-add, drop-drop, drop_all, drop_more, eq-eqb}
+use Imports.{fails_before_first, false, false_from_ne_true, false≢true, first_from, flat_map, inl, inr, join_with_byte}
+use Imports.{join_with_byte-slice_split, le-ltb, length, length-drop, length-slice_split, line_from, lines_between}
+use Imports.{lines_in, list_any, list_any_at, lt-ltb, or_parts, position_or_len, refl, slice_split, slice_split_at}
+use Imports.{slice_split_first, slice_split_none, spaced, sym, take, take_all, take_at, text_line, true, words_on, ℕ}
+use Imports.{◌++◌, ◌+◌, ◌-◌, ◌<◌, ◌==◌, ◌∙◌, ◌∷◌, ◌≡◌, ◌≤◌}
 
 -- an ended line of these bytes
 abbrev pub full : List ℕ → TextLine
 full bytes = text_line bytes true
 
--- a byte isn't the separator
-abbrev pub IsNot : ℕ → ℕ → Type 0
-IsNot s x = (x == s) ≡ false
+-- whether a byte is the separator
+abbrev pub is_byte : ℕ → ℕ → Bool
+is_byte s byte = byte == s
 
 -- no byte of these is
 abbrev pub HasNo : ℕ → List ℕ → Type 0
-HasNo s xs = All (IsNot s) xs
+HasNo s xs = list_any (is_byte s) xs ≡ false
 
--- a list without a separator is one part
-parts_only : (s : ℕ) (xs : List ℕ) → length xs ≤ position_or_len (λ byte. byte == s) xs →
-    slice_split (λ byte. byte == s) xs ≡ xs ∷ []
-parts_only s xs over =
-    slice_split_none (λ byte. byte == s) xs (All-from_get_or (IsNot s) xs 0
-    (λ i low. fails_before_first (λ byte. byte == s) xs i 0 (omega (arith, over))))
+-- so each isn't
+each_not : (s : ℕ) (xs : List ℕ) → HasNo s xs → All (λ x. is_byte s x ≡ false) xs
+each_not s xs none =
+    All-from_get_or (λ x. is_byte s x ≡ false) xs 0 (λ i low. false_from_ne_true _
+    (λ is. false≢true (sym none ∙ list_any_at (is_byte s) xs i 0 low is)))
 
 -- ---- by places
 
+-- a list without a separator is one part
+parts_only : (s : ℕ) (xs : List ℕ) → length xs ≤ position_or_len (is_byte s) xs → slice_split (is_byte s) xs ≡ xs ∷ []
+parts_only s xs over =
+    slice_split_none (is_byte s) xs (All-from_get_or (λ x. is_byte s x ≡ false) xs 0
+    (λ i low. fails_before_first (is_byte s) xs i 0 (omega arith)))
+
 -- the words of a line are the first one and those after it
 pub words_taken : (xs : List ℕ) → words_on xs
-    ≡ take (position_or_len (λ byte. byte == 32) xs) xs ∷ spaced (drop (position_or_len (λ byte. byte == 32) xs) xs)
-words_taken xs =
-    let n = position_or_len (λ byte. byte == 32) xs in
-    elim (cases_lt n (length xs)) [
-      | inl inside ↦ slice_split_first (λ byte. byte == 32) xs 0 inside
-          ∙ ap (λ (ys : List ℕ). take n xs ∷ spaced ys) (sym (drop_more xs n 0 inside))
-      | inr over ↦ rw (take_all n xs over, drop_all n xs over) (parts_only 32 xs over)
-    ]
+    ≡ take (position_or_len (is_byte 32) xs) xs ∷ spaced (drop (position_or_len (is_byte 32) xs) xs)
+words_taken xs = elim (cases_lt (position_or_len (is_byte 32) xs) (length xs)) [
+  | inl inside ↦ rw (drop_more xs _ 0 inside) (slice_split_first (is_byte 32) xs 0 inside)
+  | inr over ↦ rw (take_all _ xs over, drop_all _ xs over) (parts_only 32 xs over)
+]
 
 -- so a word after a space is followed by the words after its end
 pub next_word : (xs : List ℕ) (at : ℕ) → at < length xs → spaced (drop at xs)
     ≡ take (first_from 32 (at + 1) xs - (at + 1)) (drop (at + 1) xs) ∷ spaced (drop (first_from 32 (at + 1) xs) xs)
 next_word xs at inside =
-    let n = position_or_len (λ byte. byte == 32) (drop (at + 1) xs) in
+    let n = position_or_len (is_byte 32) (drop (at + 1) xs) in
     let size : (at + 1) + n - (at + 1) ≡ n = omega arith in
     rw (drop_more xs at 0 inside, words_taken (drop (at + 1) xs), drop-drop n (at + 1) xs, size) refl
 
 -- a part before others is a line that is ended
 line_before : (xs : List ℕ) (parts : List (List ℕ)) → 1 ≤ length parts →
-    lines_between (xs ∷ parts) ≡ text_line xs true ∷ lines_between parts
-line_before xs [] some = absurd (omega (arith, some))
+    lines_between (xs ∷ parts) ≡ full xs ∷ lines_between parts
+line_before xs [] some = absurd (omega arith)
 line_before xs (part ∷ parts) some = refl
 
 -- the lines from a place on are the one there and those after it
@@ -61,58 +62,53 @@ pub next_line : (bytes : List ℕ) (start : ℕ) (found : LineAt) → found ≡ 
     ≡ text_line (take (found.end - start) (drop start bytes)) found.is_ended ∷ lines_in (drop found.next bytes)
 next_line bytes start found is inside =
     let xs = drop start bytes in
-    let n = position_or_len (λ byte. byte == 10) xs in
+    let n = position_or_len (is_byte 10) xs in
     let size : start + n - start ≡ n = omega arith in
+    let left = length-drop start bytes in
     rw is (elim (cases_lt n (length xs)) [
       | inl low ↦
-          let parts = length-slice_split (λ byte. byte == 10) (drop (n + 1) xs) in
+          let parts = length-slice_split (is_byte 10) (drop (n + 1) xs) in
           let next : start + (n + 1) ≡ start + n + 1 = omega arith in
-          rw (lt-ltb (start + n) (length bytes) (omega (arith, low, length-drop start bytes)), size) (
-          ap lines_between (slice_split_first (λ byte. byte == 10) xs 0 low)
-          ∙ line_before (take n xs) (slice_split (λ byte. byte == 10) (drop (n + 1) xs)) (omega (arith, parts))
-          ∙ ap (λ (ys : List ℕ). text_line (take n xs) true ∷ lines_in ys)
-          (drop-drop (n + 1) start bytes ∙ ap (λ (k : ℕ). drop k bytes) next))
+          let here = lt-ltb (start + n) (length bytes) (omega arith) in
+          let before = line_before (take n xs) (slice_split (is_byte 10) (drop (n + 1) xs)) (omega arith) in
+          rw (here, size, slice_split_first (is_byte 10) xs 0 low, before, drop-drop (n + 1) start bytes, next) refl
       | inr over ↦
-          let front = drop_more bytes start 0 inside in
-          rw (
-            le-ltb (start + n) (length bytes) (omega (arith, over, length-drop start bytes)),
-            size,
-            take_all n xs over,
-          ) (
-          ap lines_between (parts_only 10 xs over)
-          ∙ rw (drop_all (start + n) bytes (omega (arith, over, length-drop start bytes)), front) refl)
+          let past = le-ltb (start + n) (length bytes) (omega arith) in
+          let none = drop_all (start + n) bytes (omega arith) in
+          rw (past, size, take_all n xs over, parts_only 10 xs over, none, drop_more bytes start 0 inside) refl
     ])
 
 -- ---- by what stands in them
 
 -- a part, a separator, and what follows it
 pub parts_at : (s : ℕ) (xs ys : List ℕ) → HasNo s xs →
-    slice_split (λ byte. byte == s) (xs ++ s ∷ ys) ≡ xs ∷ slice_split (λ byte. byte == s) ys
-parts_at s xs ys none = slice_split_at (λ byte. byte == s) xs s ys none (eq-eqb s s refl)
+    slice_split (is_byte s) (xs ++ s ∷ ys) ≡ xs ∷ slice_split (is_byte s) ys
+parts_at s xs ys none = slice_split_at (is_byte s) xs s ys (each_not s xs none) (eq-eqb s s refl)
 
 -- the last part
-pub parts_last : (s : ℕ) (xs : List ℕ) → HasNo s xs → slice_split (λ byte. byte == s) xs ≡ xs ∷ []
-parts_last s xs none = slice_split_none (λ byte. byte == s) xs none
+pub parts_last : (s : ℕ) (xs : List ℕ) → HasNo s xs → slice_split (is_byte s) xs ≡ xs ∷ []
+parts_last s xs none = slice_split_none (is_byte s) xs (each_not s xs none)
 
 -- where it comes first
-first_at : (s : ℕ) (xs ys : List ℕ) → HasNo s xs → position_or_len (λ byte. byte == s) (xs ++ s ∷ ys) ≡ length xs
+first_at : (s : ℕ) (xs ys : List ℕ) → HasNo s xs → position_or_len (is_byte s) (xs ++ s ∷ ys) ≡ length xs
 first_at s [] ys none = rw (eq-eqb s s refl) refl
 first_at s (x ∷ xs) ys none =
     let size : 1 + length xs ≡ length (x ∷ xs) = omega arith in
-    rw (All-head (IsNot s) x xs none, first_at s xs ys (All-tail (IsNot s) x xs none)) size
+    let (here, later) = or_parts (x == s) (list_any (is_byte s) xs) none in
+    rw (here, first_at s xs ys later) size
 
-pub part_before : (s : ℕ) (xs ys : List ℕ) → HasNo s xs → before_first (λ byte. byte == s) (xs ++ s ∷ ys) ≡ xs
+-- what comes before it, and after it
+pub part_before : (s : ℕ) (xs ys : List ℕ) → HasNo s xs → before_first (is_byte s) (xs ++ s ∷ ys) ≡ xs
 part_before s xs ys none = rw (first_at s xs ys none) (take_at xs (s ∷ ys) (length xs) refl)
 
-pub part_after : (s : ℕ) (xs ys : List ℕ) → HasNo s xs → after_first (λ byte. byte == s) (xs ++ s ∷ ys) ≡ ys
+pub part_after : (s : ℕ) (xs ys : List ℕ) → HasNo s xs → after_first (is_byte s) (xs ++ s ∷ ys) ≡ ys
 part_after s xs ys none = rw (first_at s xs ys none) (drop-append-add xs (s ∷ ys) 1)
 
 -- a line that is ended, and what follows it
-pub lines_at : (xs ys : List ℕ) → HasNo 10 xs → lines_in (xs ++ 10 ∷ ys) ≡ text_line xs true ∷ lines_in ys
+pub lines_at : (xs ys : List ℕ) → HasNo 10 xs → lines_in (xs ++ 10 ∷ ys) ≡ full xs ∷ lines_in ys
 lines_at xs ys none =
-    let size = length-slice_split (λ byte. byte == 10) ys in
-    ap lines_between (parts_at 10 xs ys none)
-    ∙ line_before xs (slice_split (λ byte. byte == 10) ys) (omega (arith, size))
+    let size = length-slice_split (is_byte 10) ys in
+    rw (parts_at 10 xs ys none) (line_before xs (slice_split (is_byte 10) ys) (omega arith))
 
 -- a line is its words with a space between each two
 pub words_back : (bytes first : List ℕ) (more : List (List ℕ)) → words_on bytes ≡ first ∷ more →
@@ -131,13 +127,11 @@ line_bytes line = line.bytes ++ cond line.is_ended (10 ∷ []) []
 
 -- a text is its lines
 pub lines_back : (text : List ℕ) → flat_map line_bytes (lines_in text) ≡ text
-lines_back text = between (slice_split (λ byte. byte == 10) text) ∙ join_with_byte-slice_split 10 text
+lines_back text = between (slice_split (is_byte 10) text) ∙ join_with_byte-slice_split 10 text
   where
     -- parts with a newline between each two are their lines
     between : (parts : List (List ℕ)) → flat_map line_bytes (lines_between parts) ≡ join_with_byte 10 parts
     between [] = refl
     between ([] ∷ []) = refl
     between ((x ∷ xs) ∷ []) = simp append-nil
-    between (part ∷ next ∷ parts) =
-        append_assoc part (10 ∷ []) (flat_map line_bytes (lines_between (next ∷ parts)))
-        ∙ ap (λ (xs : List ℕ). part ++ 10 ∷ xs) (between (next ∷ parts))
+    between (part ∷ next ∷ parts) = rw (append_assoc part, between (next ∷ parts)) refl

@@ -23,6 +23,7 @@ use std::alloc::Global;
 /// # Errors
 ///
 /// `TooWide` exactly when judging answers it too, or `Memory`.
+#[tactic(auto, using(crate::proofs::Listings::by_listing))]
 pub fn check<A: Arrows>(
     alloc: Global,
     rule: &Rule,

@@ -23,6 +23,7 @@ pub fn proofs_say_no_more()
 {}
 
 /// Every graph has one canonical text, which `prove` writes where it isn't too long.
+#[tactic(auto, using(crate::proofs::Canonicals::one_text_is_canonical))]
 pub fn one_text_is_canonical()
     ensures { OneTextIsCanonical }
 {}
@@ -34,12 +35,14 @@ pub fn texts_of_proofs_are_read()
 {}
 
 /// Of a text there is one answer.
+#[tactic(auto, using(crate::proofs::ReadTexts::proofs_are_read_in_one_way))]
 pub fn proofs_are_read_in_one_way()
     ensures { TextsAreReadInOneWay }
 {}
 
 /// What `prove` writes is accepted by `read_proof`, and by it a rule has the value that it has by
 /// the survivors' graph.
+#[tactic(auto, using(crate::proofs::Canonicals::written_proofs_say_all))]
 pub fn written_proofs_say_all()
     ensures { WrittenProofsSayAll }
 {}

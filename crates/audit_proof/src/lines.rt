@@ -89,7 +89,7 @@ fn finish<A: Arrows>(
 }
 
 /// The line that begins with this entry.
-#[tactic(auto, unfolding(crate::specs::Reading::line_of_entry))]
+#[tactic(auto, using(crate::proofs::LinesRead::words_refused), unfolding(crate::specs::Reading::line_of_entry))]
 fn read_entry_line<A: Arrows>(
     alloc: Global,
     graph: &A,

@@ -75,6 +75,7 @@ impl PackedLine {
 }
 
 /// One more than the greatest of these ancestors, or 0 where there is none.
+#[tactic(auto, using(crate::proofs::Listings::first_greatest))]
 fn reach_of(steps: &[ProofStep]) -> usize
     requires { Falls steps.now }
     ensures { All (λ step. step.ancestor < result) steps.now }
@@ -133,6 +134,7 @@ pub(crate) fn lists(line: &PackedLine, y: usize) -> bool
 }
 
 /// Whether the table lists `y`.
+#[tactic(auto, using(crate::proofs::Listings::table_lists))]
 fn has_code(table: &[u16], y: usize) -> bool
     ensures { result ≡ list_any (λ z. z == y) (listed_in (unpacked table.now)) }
 {

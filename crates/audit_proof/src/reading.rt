@@ -55,7 +55,7 @@ fn after(word: &[u8], place: usize) -> &[u8]
 }
 
 /// The step that a word is.
-#[tactic(auto, using(crate::proofs::LinesRead::no_colon), unfolding(crate::specs::Reading::step_of_word))]
+#[tactic(auto, using(crate::proofs::ReadTexts::no_colon), unfolding(crate::specs::Reading::step_of_word))]
 pub(crate) fn read_step(word: &[u8]) -> Option<ProofStep>
     ensures { ok_or result ProofWhy.Form ≡ step_of_word word.now }
 {
@@ -204,6 +204,7 @@ pub(crate) struct LineSteps {
 }
 
 /// The steps that the words after a line's entry are.
+#[tactic(auto, using(crate::proofs::LinesRead::fits_below))]
 pub(crate) fn read_words<A: Arrows>(
     alloc: Global,
     graph: &A,

@@ -35,6 +35,7 @@ impl<'a> Knowledge for Tables<'a> {
         self.listing.whole(x)
     }
 
+    #[tactic(auto, using(rule_meaning::proofs::Visits::all_visited))]
     fn visited(
         &self,
         quantifier: Quantifier,

@@ -86,6 +86,7 @@ fn try_count(line: &[u8], is_ended: bool, count: usize) -> Result<(), ProofWhy>
 /// # Errors
 ///
 /// `At` with the first line that has a fault and its first fault, or `Memory`.
+#[tactic(auto, using(crate::proofs::LinesRead::answers))]
 pub fn read_proof<A: Arrows>(alloc: Global, graph: &A, bytes: &[u8]) -> Result<Proof, ProofFault>
     requires { (A.graph graph.now).count ≤ 16384 }
     ensures is { result ≢ Err ProofFault.Memory → result ≡ proof_of (A.graph graph.now) bytes.now }
@@ -119,6 +120,7 @@ fn fault_of(line: usize, unread: Unread) -> ProofFault
 }
 
 /// The proof whose lines begin at a place.
+#[tactic(auto, using(crate::proofs::LinesRead::line_refused))]
 fn read_lines<A: Arrows>(
     alloc: Global,
     graph: &A,

@@ -1,4 +1,4 @@
-use Rattle.audit_proof.proofs.PackedFacts.{IsTableOf}
+use Rattle.audit_proof.proofs.Listings.{IsTableOf}
 use Rattle.audit_proof.proofs.packed.table_of.Given as goal
 
 -- the steps so far are entered

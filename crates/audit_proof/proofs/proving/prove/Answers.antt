@@ -1,6 +1,6 @@
-use Rattle.audit_proof.proofs.Imports.{[], ap, append-nil, arith, flat_map_more, head_text, line_text}
-use Rattle.audit_proof.proofs.Imports.{made_line, made_lines, proof_text, refl, rules, sym, ◌∙◌, ◌≡◌}
-use Rattle.audit_proof.proofs.Canonicals.{head_short, lines_push, made_text, too_long}
+use Rattle.audit_proof.proofs.Canonicals.{head_short, made_text, too_long}
+use Rattle.audit_proof.proofs.Imports.{[], append-nil, arith, flat_map_more, head_text, line_text, made_line}
+use Rattle.audit_proof.proofs.Imports.{made_lines, map-range_with_len_more, refl, rules, sym, ◌∙◌, ◌≡◌}
 use Rattle.audit_proof.proofs.proving.prove.Goals as goal
 
 pub loop-entry-init : goal.loop-entry-init
@@ -20,11 +20,11 @@ returns-then-len-gt-LIMIT g c =
 
 pub loop-entry-preserved : goal.loop-entry-preserved
 loop-entry-preserved g c =
-    let graph = g.A.Arrows.graph c.args.graph.now in (
-      c.in_ok-push_line.ensures ∙ rw (c.loop-entry.invariant.0, c.in_ok-line.ensures)
-          (flat_map_more line_text (head_text graph.count) (made_lines graph c.loop-entry.entry)
-          (made_line graph c.loop-entry.entry))
-          ∙ ap (proof_text graph.count) (sym (lines_push graph c.loop-entry.entry)),
+    let graph = g.A.Arrows.graph c.args.graph.now in
+    let k = c.loop-entry.entry in
+    let more = map-range_with_len_more (made_line graph) 0 k k (omega arith) in (
+      c.in_ok-push_line.ensures ∙ rw (c.loop-entry.invariant.0, c.in_ok-line.ensures, more)
+          (flat_map_more line_text (head_text graph.count) (made_lines graph k) (made_line graph k)),
       omega (arith, c.if-len-gt-LIMIT.false),
     )
 

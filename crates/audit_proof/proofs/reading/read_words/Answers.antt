@@ -1,6 +1,6 @@
-use Rattle.audit_proof.proofs.reading.read_words.Goals as goal
 use Rattle.audit_proof.proofs.Imports.{arith, length-set, refl, sym, ◌∙◌}
-use Rattle.audit_proof.proofs.StepsRead.{fits_below, listed_table, reading_more, step_refused, word_refused, words_end}
+use Rattle.audit_proof.proofs.LinesRead.{listed_table, reading_more, step_refused, word_refused, words_end}
+use Rattle.audit_proof.proofs.reading.read_words.Goals as goal
 
 pub returns-in-None : goal.returns-in-None
 returns-in-None g c =
@@ -9,21 +9,14 @@ returns-in-None g c =
 
 pub returns-in-Err : goal.returns-in-Err
 returns-in-Err g c =
-    let tests = c.in-Err.ensures.is in
     step_refused c.words.invariant c.words-test.true c.word_end-end.ensures.is c.piece-word.ensures c.in-Some.step
-    (sym c.in-Some.ensures) c.in-Err.why (sym (rw c.deref.ensures.value at tests))
-
-pub index_mut-requires-in-words : goal.index_mut-requires-in-words
-index_mut-requires-in-words g c =
-    let tests = c.in-Ok.ensures.is in
-    omega (arith, fits_below c.words.invariant c.in-Some.step (sym (rw c.deref.ensures.value at tests)))
+    (sym c.in-Some.ensures) c.in-Err.why (sym (rw c.deref.ensures.value at c.in-Err.ensures.is))
 
 pub words-preserved : goal.words-preserved
 words-preserved g c =
-    let tests = c.in-Ok.ensures.is in
     rw c.in_ok-push.ensures.items
     (reading_more c.words.invariant c.words-test.true c.word_end-end.ensures.is c.piece-word.ensures c.in-Some.step
-    (sym c.in-Some.ensures) (sym (rw c.deref.ensures.value at tests)) (c.in-Ok.ensures.below refl)
+    (sym c.in-Some.ensures) (sym (rw c.deref.ensures.value at c.in-Ok.ensures.is)) (c.in-Ok.ensures.below refl)
     c.word_end-end.ensures.within.1)
 
 pub returns : goal.returns
