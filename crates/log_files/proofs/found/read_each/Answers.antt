@@ -1,4 +1,4 @@
-use Rattle.log_files.proofs.ReadAgain.{all_stay}
+use Rattle.log_files.proofs.FoundLogs.{all_stay}
 use Rattle.log_files.proofs.found.read_each.Goals as goal
 
 pub returns : goal.returns

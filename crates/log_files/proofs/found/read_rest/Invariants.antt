@@ -1,4 +1,4 @@
-use Rattle.log_files.proofs.Imports.{List, RecordText, AreReadBy}
+use Rattle.log_files.proofs.Imports.{AreReadBy, List, RecordText}
 use Rattle.log_files.proofs.found.read_rest.Given as goal
 
 -- what is read so far is read of the same records

@@ -1,5 +1,4 @@
-use Rattle.std.proofs.Common.{take}
-use Rattle.log_files.proofs.Imports.{◌≡◌, ◌++◌, string_bytes, gap_lines}
+use Rattle.log_files.proofs.Imports.{gap_lines, string_bytes, take, ◌++◌, ◌≡◌}
 use Rattle.log_files.proofs.report_lines.add_gaps.Given as goal
 
 -- the lines of the gaps so far

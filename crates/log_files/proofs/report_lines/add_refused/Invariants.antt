@@ -1,5 +1,4 @@
-use Rattle.std.proofs.Common.{take}
-use Rattle.log_files.proofs.Imports.{◌≡◌, ◌++◌, string_bytes, refused_lines}
+use Rattle.log_files.proofs.Imports.{refused_lines, string_bytes, take, ◌++◌, ◌≡◌}
 use Rattle.log_files.proofs.report_lines.add_refused.Given as goal
 
 -- the lines of the records so far

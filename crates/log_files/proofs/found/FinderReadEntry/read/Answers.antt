@@ -1,6 +1,5 @@
-use Rattle.log_files.proofs.Imports.{text_of}
-use Rattle.log_files.proofs.FoundLogs.{found_known_gives}
 use Rattle.log_files.proofs.found.FinderReadEntry.read.Goals as goal
+use Rattle.log_files.proofs.{FoundLogs.found_known_gives, Imports.text_of}
 
 -- a known entry is read at once
 pub returns-in-Some : goal.returns-in-Some
