@@ -1,11 +1,10 @@
 -- The places at which rules are broken are survivors'.
-use Rattle.auditor.proofs.Imports.{◌≡◌, ℕ, zero, suc, ◌+◌, ◌<◌, Bool, true, false, cond, List, [], ◌∷◌, length, sym}
-use Rattle.auditor.proofs.Imports.{subst, refl, arith, Option, Some, None, All, find, Ok, slice_get, ◌&&◌}
-use Rattle.auditor.proofs.Imports.{range_with_len, All-from_recursion, AllZip-long, Three, before, is_whole, Graph}
-use Rattle.auditor.proofs.Imports.{Row, Form, Trees, no_trees, tree_then, RuleTree, is_false, has_kind, bind, unbound}
-use Rattle.auditor.proofs.Imports.{values, first_value, first_false, and_then, broken_by, broken, IsVerdict, IsJudged}
-use Rattle.auditor.proofs.Imports.{Verdict, Broken, Unsettled, AreJudged, AreBelow, IsBelow}
-use Rattle.std.specs.List.{AllByRecursion as ByRecursion}
+use Rattle.auditor.proofs.Imports.{[], All, All-from_recursion, AllZip-long, and_then, AreJudged, arith, before, bind}
+use Rattle.auditor.proofs.Imports.{Bool, Broken, broken, broken_by, ByRecursion, cond, false, find, first_false}
+use Rattle.auditor.proofs.Imports.{first_value, Form, Graph, has_kind, is_false, is_whole, IsBelow, IsJudged, IsVerdict}
+use Rattle.auditor.proofs.Imports.{length, List, no_trees, None, Ok, Option, range_with_len, refl, Row, RuleTree}
+use Rattle.auditor.proofs.Imports.{slice_get, Some, suc, sym, Three, tree_then, Trees, true, unbound, Unsettled, values}
+use Rattle.auditor.proofs.Imports.{Verdict, zero, ℕ, ◌&&◌, ◌+◌, ◌<◌, ◌∷◌, ◌≡◌}
 use Rattle.rule_language.specs.declared.form.Form.TheVariants as form
 use Rattle.rule_engine.specs.declared.verdict.Verdict.TheVariants.{Kept}
 
@@ -57,9 +56,9 @@ module _ (rows : List Row) (order : ℕ → ℕ → Three) (wholes : ℕ → Boo
   pub verdict_below : (tree : Trees) (verdict : Verdict) → IsVerdict rows order wholes tree verdict →
       IsBelow (length rows) verdict
   verdict_below tree Kept is = tt
-  verdict_below tree (Broken places) is =
-      let P : List ℕ → Type 0 = λ ps. AreBelow (length rows) ps in
-      subst P (sym is.1) (All-from_recursion (λ place. place < length rows) (broken rows order wholes tree unbound)
+  verdict_below tree (Broken places) (fails, are) =
+      rw are
+      (All-from_recursion (λ place. place < length rows) (broken rows order wholes tree unbound)
       (broken_below tree unbound))
   verdict_below tree Unsettled is = tt
 
@@ -67,20 +66,18 @@ module _ (rows : List Row) (order : ℕ → ℕ → Three) (wholes : ℕ → Boo
 each_below : (rows : List Row) (graph : Graph) (rules : List RuleTree) (verdicts : List Verdict) →
     AreJudged rows graph rules verdicts → ByRecursion (IsBelow (length rows)) verdicts
 each_below rows graph [] [] judged = tt
-each_below rows graph [] (v ∷ verdicts) judged = absurd judged
-each_below rows graph (r ∷ rules) [] judged = absurd judged
 each_below rows graph (r ∷ rules) (v ∷ verdicts) judged = (
   verdict_below rows (before graph.parents graph.ragged) (λ x. is_whole graph.parents graph.ragged x x) r.body v
       judged.0.1,
   each_below rows graph rules verdicts judged.1,
 )
+each_below rows graph rules verdicts judged = absurd judged
 
--- with as many rows as survivors, the places are below the number of survivors
-pub verdicts_below : (count : ℕ) (rows : List Row) (graph : Graph) (rules : List RuleTree) (verdicts : List Verdict) →
-    length rows ≡ count → AreJudged rows graph rules verdicts → All (IsBelow count) verdicts
-verdicts_below count rows graph rules verdicts same judged =
-    let P : ℕ → Type 0 = λ n. All (IsBelow n) verdicts in
-    subst P same (All-from_recursion (IsBelow (length rows)) verdicts (each_below rows graph rules verdicts judged))
+-- all verdicts name places of rows
+pub verdicts_below : (rows : List Row) (graph : Graph) (rules : List RuleTree) (verdicts : List Verdict) →
+    AreJudged rows graph rules verdicts → All (IsBelow (length rows)) verdicts
+verdicts_below rows graph rules verdicts judged =
+    All-from_recursion (IsBelow (length rows)) verdicts (each_below rows graph rules verdicts judged)
 
 -- as many verdicts as rules
 pub as_many : (rows : List Row) (graph : Graph) (rules : List RuleTree) (verdicts : List Verdict) →

@@ -3,7 +3,6 @@ pub mod Pieces
 pub mod Makers
 pub mod Below
 pub mod Chained
-pub mod Audited
 pub mod OneStep
 pub mod OneVerdict
 pub mod OneReport

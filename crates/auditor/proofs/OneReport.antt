@@ -1,13 +1,12 @@
 -- Files give at most one report.
-use Rattle.auditor.proofs.Imports.{◌≡◌, ℕ, Bool, List, [], ◌∷◌, map, refl, Option, Result, Ok, AllZip, flat_map}
-use Rattle.auditor.proofs.Imports.{list_any, zip, Post, LogRead, SealedEntry, EntryGraph, RuleTree, Verdict, Broken}
-use Rattle.auditor.proofs.Imports.{Unsettled, Refusal, row_of, nodes_of, entries_of, is_broken, is_unsettled}
-use Rattle.auditor.proofs.Imports.{AuditReport, report_on, rule_line, SameReport, SameVerdict, RuleSource}
-use Rattle.auditor.proofs.Imports.{GivesVerdicts, WithGraph, WithLogs, GivesReport, WithRules, WithRoster}
+use Rattle.auditor.proofs.Imports.{[], AllZip, AuditReport, Bool, Broken, Contents, entries_of, EntryGraph, flat_map}
+use Rattle.auditor.proofs.Imports.{GivesReport, GivesVerdicts, is_broken, is_unsettled, List, list_any, LogRead, map}
+use Rattle.auditor.proofs.Imports.{nodes_of, Ok, Post, refl, Refusal, report_on, Result, row_of, rule_line, RuleSource}
+use Rattle.auditor.proofs.Imports.{RuleTree, SameReport, SameVerdict, SealedEntry, Unsettled, Verdict, WithGraph}
+use Rattle.auditor.proofs.Imports.{WithLogs, WithRoster, WithRules, zip, ℕ, ◌∷◌, ◌≡◌}
+use Rattle.auditor.proofs.OneStep.{ends_agree, graph_then_one, IsOne, logs_then_one, Ones, roster_then_one}
+use Rattle.auditor.proofs.{OneStep.rules_then_one, OneStep.steps_agree, OneVerdict.verdicts_agree}
 use Rattle.rule_engine.specs.declared.verdict.Verdict.TheVariants.{Kept}
-use Rattle.auditor.proofs.OneStep.{Ones, IsOne, steps_agree, ends_agree, rules_then_one, roster_then_one, logs_then_one}
-use Rattle.auditor.proofs.OneStep.{graph_then_one}
-use Rattle.auditor.proofs.OneVerdict.{verdicts_agree}
 
 module _ {A : Type 0} (Same : A → A → Type 0) where
   -- members that have the same lines, beside any names, have them together
@@ -26,53 +25,33 @@ module _ {A : Type 0} (Same : A → A → Type 0) where
   same_any p each (x ∷ xs) (y ∷ ys) same = rw (each x y same.0, same_any p each xs ys same.1) refl
   same_any p each xs ys same = absurd same
 
--- rules with verdicts that are the same have the same line
-same_rule_line : (machines : List Post) (survivors : List SealedEntry) (rule : RuleTree) (v w : Verdict) →
-    SameVerdict v w → rule_line machines survivors (rule, v) ≡ rule_line machines survivors (rule, w)
-same_rule_line machines survivors rule Kept Kept same = refl
-same_rule_line machines survivors rule (Broken p) (Broken q) same = rw same refl
-same_rule_line machines survivors rule Unsettled Unsettled same = refl
-same_rule_line machines survivors rule v w same = absurd same
-
--- of verdicts that are the same both are broken or neither is
-same_is_broken : (v w : Verdict) → SameVerdict v w → is_broken v ≡ is_broken w
-same_is_broken Kept Kept same = refl
-same_is_broken (Broken p) (Broken q) same = refl
-same_is_broken Unsettled Unsettled same = refl
-same_is_broken v w same = absurd same
-
--- and both are unsettled or neither is
-same_is_unsettled : (v w : Verdict) → SameVerdict v w → is_unsettled v ≡ is_unsettled w
-same_is_unsettled Kept Kept same = refl
-same_is_unsettled (Broken p) (Broken q) same = refl
-same_is_unsettled Unsettled Unsettled same = refl
-same_is_unsettled v w same = absurd same
+-- rules with verdicts that are the same have the same line, and both are broken or neither is, and
+-- likewise both unsettled
+same_verdict : (machines : List Post) (survivors : List SealedEntry) (v w : Verdict) → SameVerdict v w →
+    ((rule : RuleTree) → rule_line machines survivors (rule, v) ≡ rule_line machines survivors (rule, w))
+    × (is_broken v ≡ is_broken w) × (is_unsettled v ≡ is_unsettled w)
+same_verdict machines survivors Kept Kept same = (λ rule. refl, refl, refl)
+same_verdict machines survivors (Broken p) (Broken q) same = (λ rule. rw same, refl, refl)
+same_verdict machines survivors Unsettled Unsettled same = (λ rule. refl, refl, refl)
+same_verdict machines survivors v w same = absurd same
 
 -- so reports with verdicts that are the same, on one graph, are the same
 same_report : (machines : List Post) (names : List (List ℕ)) (logs : List LogRead) (graph : EntryGraph SealedEntry)
     (rules : List RuleTree) (vs ws : List Verdict) → AllZip SameVerdict vs ws →
     SameReport (report_on machines names logs graph rules vs) (report_on machines names logs graph rules ws)
-same_report machines names logs graph rules vs ws verdict = record {
-  text = rw (rules_told, broken, unsettled) refl;
-  outcome = rw (broken, unsettled) refl;
-  graph = refl;
-  verdicts = verdict;
-}
-  where
-    -- the lines of the rules are the same
-    rules_told : flat_map (rule_line machines graph.survivors) (zip rules vs)
-        ≡ flat_map (rule_line machines graph.survivors) (zip rules ws)
-    rules_told =
-        same_lines SameVerdict (rule_line machines graph.survivors) (same_rule_line machines graph.survivors) rules
-        vs ws verdict
-
-    -- some rule is broken or none is
-    broken : list_any is_broken vs ≡ list_any is_broken ws
-    broken = same_any SameVerdict is_broken same_is_broken vs ws verdict
-
-    -- some rule is unsettled or none is
-    unsettled : list_any is_unsettled vs ≡ list_any is_unsettled ws
-    unsettled = same_any SameVerdict is_unsettled same_is_unsettled vs ws verdict
+same_report machines names logs graph rules vs ws verdicts =
+    let same = same_verdict machines graph.survivors in
+    let lines =
+    same_lines SameVerdict (rule_line machines graph.survivors) (λ rule v w is. (same v w is).0 rule) rules vs ws
+    verdicts in
+    let broken = same_any SameVerdict is_broken (λ v w is. (same v w is).1) vs ws verdicts in
+    let unsettled = same_any SameVerdict is_unsettled (λ v w is. (same v w is).2) vs ws verdicts in
+    record {
+      text = rw (lines, broken, unsettled) refl;
+      outcome = rw (broken, unsettled) refl;
+      graph = refl;
+      verdicts = verdicts;
+    }
 
 module _ (ones : Ones) (source : RuleSource) (names : List (List ℕ)) where
   -- by one graph the rules give reports that are the same, or one refusal
@@ -88,7 +67,7 @@ module _ (ones : Ones) (source : RuleSource) (names : List (List ℕ)) where
       (report_on machines names logs graph rules ws) (same_report machines names logs graph rules vs ws verdict))
 
   -- the files give one report or one refusal
-  pub one_report : (roster : List ℕ) (files : List (Option (List ℕ))) →
+  pub one_report : (roster : List ℕ) (files : Contents) →
       IsOne SameReport (GivesReport roster source names files)
   one_report roster =
       roster_then_one ones SameReport roster (λ read. WithRoster read source names)

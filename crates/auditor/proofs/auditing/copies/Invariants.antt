@@ -1,4 +1,4 @@
-use Rattle.auditor.proofs.Imports.{◌≡◌, map, take, string_bytes}
+use Rattle.auditor.proofs.Imports.{map, string_bytes, take, ◌≡◌}
 use Rattle.auditor.proofs.auditing.copies.Given as goal
 
 -- the names so far

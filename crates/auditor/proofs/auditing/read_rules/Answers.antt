@@ -1,6 +1,13 @@
-use Rattle.auditor.proofs.Imports.{map, refl, rule_tree, max_rules, GivesRules, was_read, not_read, stands}
-use Rattle.auditor.proofs.Audited.{long_rules}
+use Rattle.auditor.proofs.Imports.{Err, GivesRules, inl, IsFileRefused, List, map, max_rules, None, not_read, Option}
+use Rattle.auditor.proofs.Imports.{refl, rule_tree, Some, stands, too_long, was_read, ℕ}
+use Rattle.hall_outside.specs.declared.reading.FileFault.TheVariants as file
 use Rattle.auditor.proofs.auditing.read_rules.Goals as goal
+
+-- a file of rules that is too long gives that refusal
+long_rules : (name : List ℕ) (this : Option (List ℕ)) → IsFileRefused max_rules file.TooLong this →
+    GivesRules name this (Err (too_long name))
+long_rules name None is = absurd is
+long_rules name (Some bytes) is = inl (is, refl)
 
 pub returns-in-Ok : goal.returns-in-Ok
 returns-in-Ok g c =

@@ -1,4 +1,4 @@
-use Rattle.auditor.proofs.Imports.{◌≡◌, ◌++◌, string_bytes, take, entry_words}
+use Rattle.auditor.proofs.Imports.{entry_words, string_bytes, take, ◌++◌, ◌≡◌}
 use Rattle.auditor.proofs.lines.add_entries.Given as goal
 
 -- the words of the places so far

@@ -1,4 +1,4 @@
-use Rattle.auditor.proofs.Imports.{◌≡◌, ◌++◌, string_bytes, take, fork_lines}
+use Rattle.auditor.proofs.Imports.{fork_lines, string_bytes, take, ◌++◌, ◌≡◌}
 use Rattle.auditor.proofs.lines.add_forks.Given as goal
 
 -- the lines of the forks so far

@@ -1,4 +1,4 @@
-use Rattle.auditor.proofs.Imports.{◌∙◌, ◌++◌, List, ℕ, ap, string_bytes, log_lines}
+use Rattle.auditor.proofs.Imports.{ap, List, log_lines, string_bytes, ℕ, ◌++◌, ◌∙◌}
 use Rattle.auditor.proofs.Pieces.{pair_more, pairs_all}
 use Rattle.auditor.proofs.lines.add_logs.Goals as goal
 

@@ -1,4 +1,4 @@
-use Rattle.auditor.proofs.Imports.{◌≡◌, ◌++◌, string_bytes, map, take, flat_map, zip, log_lines}
+use Rattle.auditor.proofs.Imports.{flat_map, log_lines, map, string_bytes, take, zip, ◌++◌, ◌≡◌}
 use Rattle.auditor.proofs.lines.add_logs.Given as goal
 
 -- the lines of the logs so far

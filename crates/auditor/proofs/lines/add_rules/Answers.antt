@@ -1,5 +1,4 @@
-use Rattle.auditor.proofs.Imports.{◌∙◌, ◌++◌, List, ℕ, ap, sym, string_bytes, Rule, rule_tree, verdict_line}
-use Rattle.auditor.proofs.Imports.{rule_line}
+use Rattle.auditor.proofs.Imports.{ap, List, Rule, rule_line, rule_tree, string_bytes, sym, verdict_line, ℕ, ◌++◌, ◌∙◌}
 use Rattle.auditor.proofs.Pieces.{pair_more, pairs_all}
 use Rattle.auditor.proofs.lines.add_rules.Goals as goal
 

@@ -1,4 +1,4 @@
-use Rattle.auditor.proofs.Imports.{◌≡◌, ◌++◌, string_bytes, map, take, flat_map, zip, rule_tree, rule_line}
+use Rattle.auditor.proofs.Imports.{flat_map, map, rule_line, rule_tree, string_bytes, take, zip, ◌++◌, ◌≡◌}
 use Rattle.auditor.proofs.lines.add_rules.Given as goal
 
 -- the lines of the rules so far

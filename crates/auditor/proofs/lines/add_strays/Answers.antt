@@ -1,7 +1,6 @@
-use Rattle.auditor.proofs.Imports.{◌∙◌, ◌++◌, ◌∷◌, [], List, ℕ, ap, refl, get_or, string_bytes, codes, encode_lower}
-use Rattle.auditor.proofs.Imports.{line}
-use Rattle.auditor.proofs.Pieces.{piece_more}
 use Rattle.auditor.proofs.lines.add_strays.Goals as goal
+use Rattle.auditor.proofs.Imports.{[], ap, codes, encode_lower, get_or, line, List, refl, string_bytes, ℕ, ◌++◌, ◌∙◌}
+use Rattle.auditor.proofs.{Imports.◌∷◌, Pieces.piece_more}
 
 pub loop-digest-preserved : goal.loop-digest-preserved
 loop-digest-preserved c =

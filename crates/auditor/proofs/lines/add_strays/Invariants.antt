@@ -1,4 +1,4 @@
-use Rattle.auditor.proofs.Imports.{◌≡◌, ◌++◌, string_bytes, take, stray_lines}
+use Rattle.auditor.proofs.Imports.{stray_lines, string_bytes, take, ◌++◌, ◌≡◌}
 use Rattle.auditor.proofs.lines.add_strays.Given as goal
 
 -- the lines of the strays so far

@@ -1,6 +1,5 @@
-use Rattle.auditor.proofs.Imports.{◌∙◌, List, ap, sym, subst, length, map, length-map, All, rule_tree, Verdict}
-use Rattle.auditor.proofs.Imports.{row_of, nodes_of, IsBelow}
-use Rattle.auditor.proofs.Below.{verdicts_below, as_many}
+use Rattle.auditor.proofs.Imports.{ap, length, length-map, map, nodes_of, row_of, rule_tree, sym, ◌∙◌}
+use Rattle.auditor.proofs.Below.{as_many, verdicts_below}
 use Rattle.auditor.proofs.report.Report.add_to.Goals as goal
 
 pub add_rules-requires-clause-one_each : goal.add_rules-requires-clause-one_each
@@ -14,8 +13,7 @@ add_rules-requires-clause-one_each c =
 pub add_rules-requires-clause-below : goal.add_rules-requires-clause-below
 add_rules-requires-clause-below c =
     let report = c.self.inside in
-    let P : List Verdict → Type 0 = λ verdicts. All (IsBelow (length report.graph.survivors)) verdicts in
-    subst P (sym c.deref-4.ensures.value)
-    (verdicts_below (length report.graph.survivors) (map (row_of report.roster.machines) report.graph.survivors)
-    (nodes_of report.graph) (map rule_tree report.rules.items) report.verdicts.items
-    (length-map report.graph.survivors (row_of report.roster.machines)) c.self.invariant.judged)
+    let rows = map (row_of report.roster.machines) report.graph.survivors in
+    rw (c.deref-4.ensures.value, ← (length-map report.graph.survivors (row_of report.roster.machines)))
+    (verdicts_below rows (nodes_of report.graph) (map rule_tree report.rules.items) report.verdicts.items
+    c.self.invariant.judged)
