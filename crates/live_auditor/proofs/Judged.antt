@@ -1,76 +1,94 @@
 -- Verdicts by the rows of survivors, as they are where others come after them.
-use Rattle.std.proofs.Common.{◌≡◌}
-use Rattle.live_auditor.proofs.Imports.{◌∙◌, ap, refl, sym, subst, ℕ, zero, suc, ◌<◌, ◌≤◌, Bool, List, [], ◌∷◌, map}
-use Rattle.live_auditor.proofs.Imports.{length, take, arith, get_or, Ok, Links, parents_in, ragged_in, parents_of}
-use Rattle.live_auditor.proofs.Imports.{ragged_of, Three, Descends, before, is_whole, Known, IsKnownOf, known_before}
-use Rattle.live_auditor.proofs.Imports.{known_whole, Rule, Row, rule_tree, RuleTree, is_true, ComesBeforeNone}
-use Rattle.live_auditor.proofs.Imports.{IsJudgeAnswer, Verdict, same_answer, AreJudged, AreJudgedOver, nodes_by}
-use Rattle.live_auditor.proofs.Agreements.{same_before, same_whole, not_before}
+use Rattle.live_auditor.proofs.Imports
+use Imports.{[], All, all_below, any_below, ap, AreJudged, AreJudgedOver, arith, before, Bool, ComesBeforeNone}
+use Imports.{cond_both, Contains-get_or, False, false, get_or, is_true, is_whole, IsGrowth, IsJudgeAnswer, IsKnownOf}
+use Imports.{Known, known_before, known_whole, length, length-take-le, Links, List, list_any_none, map, ne_eqb}
+use Imports.{nodes_by, not, Ok, or_from, parents_of, ragged_of, reaches, refl, Row, Rule, rule_tree, RuleTree}
+use Imports.{same_answer, suc, take, Three, Unknown, Verdict, zero, ℕ, ◌&&◌, ◌<◌, ◌==◌, ◌||◌, ◌∷◌, ◌≡◌, ◌≤◌}
 use Rattle.live_auditor.proofs.Ends.{slice_get_take}
 
-module _ (links : List Links) (count : ℕ) (first : count ≤ length links) (known : Known)
-    (falls : Descends (parents_of links)) (is : IsKnownOf (nodes_by links) known) where
-  -- the first of them
+-- whether z is y, or y is reached from z by n arrows
+abbrev step : List Links → ℕ → ℕ → ℕ → Bool
+step links n y z = (z == y) || reaches (parents_of links) n y z
+
+-- whether x is whole as far as n arrows lead
+abbrev whole : List Links → ℕ → ℕ → Bool
+whole links n x = is_whole (parents_of links) (ragged_of links) n x
+
+module _ {rows : List Row} {links : List Links} {count : ℕ} {trees : List RuleTree} {verdicts : List Verdict}
+    (growth : IsGrowth rows links count trees verdicts) where
+  -- the first of the survivors' links
   abbrev early : List Links
   early = take count links
 
-  -- they name the same among all, and a gap if they did
-  parents_stay : (x : ℕ) → x < count → parents_of links x ≡ parents_of early x
-  parents_stay x low = ap parents_in (sym (slice_get_take count links x low))
+  -- parents are below their children
+  lower : (x : ℕ) → All (λ z. z < x) (parents_of links x)
+  lower x k d within =
+      growth.falls x (get_or (parents_of links x) k d) (Contains-get_or (parents_of links x) k d within)
 
-  ragged_stays : (x : ℕ) → x < count → ragged_of links x ≡ ragged_of early x
-  ragged_stays x low = ap ragged_in (sym (slice_get_take count links x low))
+  -- each of the first is reached from the same ones as it was
+  same_reach : (n y x : ℕ) → x < count → reaches (parents_of links) n y x ≡ reaches (parents_of early) n y x
+  same_reach zero y x low = refl
+  same_reach (suc n) y x low =
+      rw (slice_get_take count links x low) (any_below (step links n y) (step early n y) x
+      (λ z less. ap (λ (b : Bool). (z == y) || b) (same_reach n y z (omega (arith, less, low)))) (parents_of links x)
+      (lower x))
 
-  -- what is known of what comes before one of them is what was known
-  orders_stay : (y x : ℕ) → x < count → before (parents_of early) (ragged_of early) y x ≡ known_before known y x
-  orders_stay y x low =
-      sym (same_before (parents_of links) (parents_of early) (ragged_of links) (ragged_of early) count falls
-      parents_stay ragged_stays y x low) ∙ sym (is.orders y x (omega (arith, low, first)))
+  -- and is whole if it was
+  same_whole : (n x : ℕ) → x < count → whole links n x ≡ whole early n x
+  same_whole zero x low = rw (slice_get_take count links x low)
+  same_whole (suc n) x low =
+      rw (slice_get_take count links x low) (ap (λ (b : Bool). not (ragged_of links x) && b)
+      (all_below (whole links n) (whole early n) x (λ z less. same_whole n z (omega (arith, less, low)))
+      (parents_of links x) (lower x)))
 
-  wholes_stay : (x : ℕ) → x < count → is_whole (parents_of early) (ragged_of early) x x ≡ known_whole known x
-  wholes_stay x low =
-      sym (same_whole (parents_of links) (parents_of early) (ragged_of links) (ragged_of early) count falls
-      parents_stay ragged_stays x x low) ∙ sym (is.wholes x (omega (arith, low, first)))
+  -- a place isn't reached from one that isn't above it
+  not_reached : (n y x : ℕ) → x ≤ y → reaches (parents_of links) n y x ≡ false
+  not_reached zero y x past = refl
+  not_reached (suc n) y x past =
+      list_any_none (step links n y) (parents_of links x) (λ k d within.
+      let z = get_or (parents_of links x) k d in
+      let below = lower x k d within in
+      or_from (z == y) (reaches (parents_of links) n y z) (ne_eqb z y (λ same. omega (arith, same, below, past)))
+      (not_reached n y z (omega (arith, below, past))))
 
-  -- a later one comes before none of them
-  pub last_comes_last : ComesBeforeNone count (known_before known)
-  last_comes_last y x low past =
-      ap is_true (is.orders y x (omega (arith, low, first)))
-      ∙ not_before (parents_of links) (ragged_of links) falls y x (omega (arith, low, past))
+  module _ {known : Known} (is : IsKnownOf (nodes_by links) known) where
+    -- a later survivor comes before none of the first
+    pub last_comes_last : ComesBeforeNone count (known_before known)
+    last_comes_last y x low past =
+        rw (is.orders y x (omega (arith, low, growth.first)), not_reached x y x (omega (arith, low, past)))
+        (cond_both (whole links x x) False Unknown (λ t. is_true t ≡ false) (λ _. refl) (λ _. refl))
 
-  -- verdicts by the nodes of links are verdicts by what is known of their order
-  pub judged_over : (rows : List Row) → length rows ≡ count → (trees : List RuleTree)
-      (verdicts : List Verdict) → AreJudged rows (nodes_by early) trees verdicts →
-      AreJudgedOver rows (known_before known) (known_whole known) trees verdicts
-  judged_over rows same [] [] judged = tt
-  judged_over rows same [] (v ∷ verdicts) judged = absurd judged
-  judged_over rows same (t ∷ trees) [] judged = absurd judged
-  judged_over rows same (t ∷ trees) (v ∷ verdicts) judged = (
-    same_answer rows (before (parents_of early) (ragged_of early)) (known_before known)
-        (λ x. is_whole (parents_of early) (ragged_of early) x x) (known_whole known)
-        (λ y x low. orders_stay y x (omega (arith, low, same))) (λ x low. wholes_stay x (omega (arith, low, same)))
-        t.body (Ok v) judged.0,
-    judged_over rows same trees verdicts judged.1,
-  )
+    -- verdicts by the first links are verdicts by what is known of the order
+    judged_each : (trees : List RuleTree) (verdicts : List Verdict) →
+        AreJudged (take count rows) (nodes_by early) trees verdicts →
+        AreJudgedOver (take count rows) (known_before known) (known_whole known) trees verdicts
+    judged_each [] [] judged = tt
+    judged_each (t ∷ trees) (v ∷ verdicts) judged =
+        let counted = length-take-le count rows (omega (arith, growth.first, growth.one_each)) in (
+          same_answer (take count rows) (before (parents_of early) (ragged_of early)) (known_before known)
+              (λ x. whole early x x) (known_whole known)
+              (λ y x low. let less : x < count = omega (arith, low, counted) in
+              rw (is.orders y x (omega (arith, less, growth.first)), same_reach x y x less, same_whole x x less))
+              (λ x low. let less : x < count = omega (arith, low, counted) in
+              rw (is.wholes x (omega (arith, less, growth.first)), same_whole x x less))
+              t.body (Ok v) judged.0,
+          judged_each trees verdicts judged.1,
+        )
+    judged_each trees verdicts judged = absurd judged
+
+    -- so are the verdicts on the first survivors
+    pub judged_over : AreJudgedOver (take count rows) (known_before known) (known_whole known) trees verdicts
+    judged_over = judged_each trees verdicts growth.judged
 
 module _ (rows : List Row) (order : ℕ → ℕ → Three) (wholes : ℕ → Bool) where
-  -- there is a verdict for each rule
-  pub one_each : (trees : List RuleTree) (verdicts : List Verdict) → AreJudgedOver rows order wholes trees verdicts →
-      length trees ≡ length verdicts
-  one_each [] [] judged = refl
-  one_each [] (v ∷ verdicts) judged = absurd judged
-  one_each (t ∷ trees) [] judged = absurd judged
-  one_each (t ∷ trees) (v ∷ verdicts) judged = ap suc (one_each trees verdicts judged.1)
-
-  -- which is the rule's
+  -- a verdict is on the rule at its place
   pub judged_at : (rules : List Rule) (verdicts : List Verdict) (i : ℕ) (rule : Rule) (verdict : Verdict) →
       AreJudgedOver rows order wholes (map rule_tree rules) verdicts → i < length rules →
-      get_or rules i rule ≡ rule → get_or verdicts i verdict ≡ verdict →
+      rule ≡ get_or rules i rule → verdict ≡ get_or verdicts i verdict →
       IsJudgeAnswer rows order wholes (rule_tree rule).body (Ok verdict)
   judged_at [] verdicts i rule verdict judged low is also = absurd (omega (arith, low))
   judged_at (r ∷ rules) [] i rule verdict judged low is also = absurd judged
-  judged_at (r ∷ rules) (v ∷ verdicts) zero rule verdict judged low is also =
-      subst (λ (w : Verdict). IsJudgeAnswer rows order wholes (rule_tree rule).body (Ok w)) also
-      (subst (λ (s : Rule). IsJudgeAnswer rows order wholes (rule_tree s).body (Ok v)) is judged.0)
+  judged_at (r ∷ rules) (v ∷ verdicts) zero rule verdict judged low is also = rw (is, also) judged.0
   judged_at (r ∷ rules) (v ∷ verdicts) (suc i) rule verdict judged low is also =
       judged_at rules verdicts i rule verdict judged.1 (omega arith) is also

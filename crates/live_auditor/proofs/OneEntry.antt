@@ -1,7 +1,6 @@
 -- Under one roster entries with one text are one.
-use Rattle.std.proofs.Common.{◌≡◌}
-use Rattle.live_auditor.proofs.Imports.{◌∙◌, List, ap, sym, sha256, Post, Entry, SealedEntry, IsSignedText, IsSealed}
-use Rattle.live_auditor.proofs.Imports.{key_at, one_entry, IsOfMachine}
+use Rattle.live_auditor.proofs.Imports.{ap, Entry, IsOfMachine, IsSealed, IsSignedText, key_at, List, one_entry, Post}
+use Rattle.live_auditor.proofs.Imports.{SealedEntry, sha256, sym, ◌∙◌, ◌≡◌}
 
 -- entries of machines with one text are equal
 pub same_text : (machines : List Post) (e f : SealedEntry) → IsSealed e → IsSealed f → IsOfMachine machines e →

@@ -1,5 +1,4 @@
-use Rattle.live_auditor.proofs.Imports.{◌∙◌, ap, sym, Some, None}
-use Rattle.std.proofs.Common.{append-nil}
+use Rattle.live_auditor.proofs.Imports.{append-nil, None, Some}
 use Rattle.live_auditor.proofs.Finds.{finds_more, place_nowhere, place_stands}
 use Rattle.live_auditor.proofs.appended.named_in.Goals.{in-Some+in_ok-push-in-Some, in-None+in_ok-push-in-None}
 use Rattle.live_auditor.proofs.appended.named_in.Goals as goal
@@ -7,20 +6,16 @@ use Rattle.live_auditor.proofs.appended.named_in.Goals as goal
 pub loop-name-preserved : goal.loop-name-preserved
 loop-name-preserved c once =
     let digests = c.args.digests.now in
-    let names = c.args.names.now in
-    let parents = c.loop-name.parents.items in
-    let missing = c.loop-name.missing.items in
+    let more = finds_more digests c.args.names.now c.loop-name.name-index in
+    let within = c.loop-name-test.true in
+    let finds = c.loop-name.invariant once in
     elim c.match-place_of.branch [
       | in-Some+in_ok-push-in-Some w ↦
-          finds_more digests names c.loop-name.name-index _ (Some w.in-Some.place) parents
-          c.match-place_of.parents.items missing c.match-place_of.missing.items c.loop-name-test.true
-          (place_stands digests w.in-Some.place _ once w.in-Some.ensures.some)
-          (ap (λ v. v.items) w.parents-is ∙ w.in_ok-push-in-Some.ensures.items)
-          (ap (λ v. v.items) w.missing-is ∙ sym (append-nil missing)) (c.loop-name.invariant once)
+          rw (w.parents-is, w.in_ok-push-in-Some.ensures.items, w.missing-is)
+          (rw append-nil at (more _ (Some w.in-Some.place) c.loop-name.parents.items c.loop-name.missing.items within
+          (place_stands digests w.in-Some.place _ once w.in-Some.ensures.some) finds))
       | in-None+in_ok-push-in-None w ↦
-          finds_more digests names c.loop-name.name-index _ None parents c.match-place_of.parents.items missing
-          c.match-place_of.missing.items c.loop-name-test.true
-          (place_nowhere digests _ w.in-None.ensures.none)
-          (ap (λ v. v.items) w.parents-is ∙ sym (append-nil parents))
-          (ap (λ v. v.items) w.missing-is ∙ w.in_ok-push-in-None.ensures.items) (c.loop-name.invariant once)
+          rw (w.parents-is, w.missing-is, w.in_ok-push-in-None.ensures.items)
+          (rw append-nil at (more _ None c.loop-name.parents.items c.loop-name.missing.items within
+          (place_nowhere digests _ w.in-None.ensures.none) finds))
     ]

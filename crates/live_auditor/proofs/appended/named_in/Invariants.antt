@@ -1,4 +1,4 @@
-use Rattle.live_auditor.proofs.Imports.{take, FindsNames, HasOnePlaceEach}
+use Rattle.live_auditor.proofs.Imports.{FindsNames, HasOnePlaceEach, take}
 use Rattle.live_auditor.proofs.appended.named_in.Given as goal
 
 -- what is found of the names so far

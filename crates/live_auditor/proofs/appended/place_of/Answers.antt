@@ -1,7 +1,6 @@
-use Rattle.live_auditor.proofs.Imports.{◌∙◌, ◌-◌, ◌<◌, List, ℕ, Some, ap, arith, length, sym, slice_get-get_or}
-use Rattle.live_auditor.proofs.Imports.{bytes_eq-Decides}
-use Rattle.live_auditor.proofs.Finds.{looked_at, stands_nowhere}
 use Rattle.live_auditor.proofs.appended.place_of.Goals as goal
+use Rattle.live_auditor.proofs.{Finds.looked_at, Imports.ap, Imports.arith, Imports.bytes_eq-Decides, Imports.length}
+use Rattle.live_auditor.proofs.Imports.{List, place_of, slice_get-get_or, slice_get_within, Some, sym, ℕ, ◌-◌, ◌<◌, ◌∙◌}
 
 pub returns-then-same_digest-clause-some : goal.returns-then-same_digest-clause-some
 returns-then-same_digest-clause-some c =
@@ -20,6 +19,7 @@ loop-place-preserved c =
     c.loop-place.invariant
 
 pub returns-clause-none : goal.returns-clause-none
-returns-clause-none c =
-    stands_nowhere c.args.digests.now c.args.digest.now
-    (λ k low at. c.loop-place.invariant k (omega (arith, c.loop-place-test.false)) low at)
+returns-clause-none c has =
+    let (k, there) = place_of c.args.digests.now c.args.digest.now has in
+    c.loop-place.invariant k (omega (arith, c.loop-place-test.false))
+    (slice_get_within c.args.digests.now k c.args.digest.now there) there

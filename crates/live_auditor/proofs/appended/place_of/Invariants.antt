@@ -1,5 +1,4 @@
-use Rattle.std.proofs.Common.{◌≡◌}
-use Rattle.live_auditor.proofs.Imports.{ℕ, ◌<◌, ◌≤◌, Some, length, slice_get}
+use Rattle.live_auditor.proofs.Imports.{length, slice_get, Some, ℕ, ◌<◌, ◌≡◌, ◌≤◌}
 use Rattle.live_auditor.proofs.appended.place_of.Given as goal
 
 -- the digest is at no place from this one on

@@ -1,6 +1,4 @@
-use Rattle.live_auditor.proofs.Imports.{take}
-use Rattle.std.proofs.Common.{◌≡◌}
-use Rattle.live_auditor.specs.inside.Stamps.{lower}
+use Rattle.live_auditor.proofs.Imports.{lower, take, ◌≡◌}
 use Rattle.live_auditor.proofs.base.lower_of.Given as goal
 
 -- those of the entries so far

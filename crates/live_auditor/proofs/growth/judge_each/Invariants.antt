@@ -1,4 +1,4 @@
-use Rattle.live_auditor.proofs.Imports.{map, take, Graph, IsKnownOf, rule_tree, AreJudged}
+use Rattle.live_auditor.proofs.Imports.{AreJudged, Graph, IsKnownOf, map, rule_tree, take}
 use Rattle.live_auditor.proofs.growth.judge_each.Given as goal
 
 -- the verdicts on the rules so far

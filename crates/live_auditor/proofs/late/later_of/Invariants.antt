@@ -1,6 +1,4 @@
-use Rattle.live_auditor.proofs.Imports.{take}
-use Rattle.std.proofs.Common.{◌≡◌}
-use Rattle.live_auditor.specs.inside.Stamps.{from_stamp}
+use Rattle.live_auditor.proofs.Imports.{from_stamp, take, ◌≡◌}
 use Rattle.live_auditor.proofs.late.later_of.Given as goal
 
 -- those of the entries so far

@@ -1,5 +1,4 @@
-use Rattle.live_auditor.proofs.Imports.{List, take, SealedEntry, EntryGraph, IsGraphed, kept_of}
-use Rattle.live_auditor.specs.inside.Following.{CanFollow, IsFollowed}
+use Rattle.live_auditor.proofs.Imports.{CanFollow, EntryGraph, IsFollowed, IsGraphed, kept_of, List, SealedEntry, take}
 use Rattle.live_auditor.proofs.late.tail_of.Given as goal
 
 -- those so far come after the first ones

@@ -1,4 +1,4 @@
-use Rattle.live_auditor.proofs.Imports.{map, IfErr-weaker, rule_tree, nodes_of, IsUnjudged}
+use Rattle.live_auditor.proofs.Imports.{IfErr-weaker, IsUnjudged, map, nodes_of, rule_tree}
 use Rattle.live_auditor.proofs.summary.judge_over.Goals as goal
 
 pub returns-clause-err : goal.returns-clause-err

@@ -1,5 +1,4 @@
-use Rattle.live_auditor.proofs.Imports.{map, IfOk-weaker, survivors_have_makers, rule_tree, IsSummed, kept_of}
-use Rattle.live_auditor.proofs.Kept.{summed_is}
+use Rattle.live_auditor.proofs.Imports.{IfOk-weaker, survivors_have_makers}
 use Rattle.live_auditor.proofs.summary.summed_of.Goals as goal
 
 pub summed_by-requires-clause-makers : goal.summed_by-requires-clause-makers
@@ -8,9 +7,15 @@ summed_by-requires-clause-makers c =
 
 pub returns-in-Ok-clause-ok : goal.returns-in-Ok-clause-ok
 returns-in-Ok-clause-ok c =
-    let machines = c.args.roster.now.machines in
-    let trees = map rule_tree c.args.rules.now in
-    IfOk-weaker c.summed_by.result _
-    (λ summed. IsSummed machines trees c.args.entries.items summed.summary (kept_of summed.survivors))
-    (λ summed by. summed_is machines trees c.args.entries.items c.in-Ok.graph summed c.in-Ok.ensures by)
-    c.summed_by.ensures.ok
+    IfOk-weaker c.summed_by.result _ _ (λ summed by. record {
+      after = record {
+        graph = c.in-Ok.graph;
+        graphed = c.in-Ok.ensures;
+        survivors = rw by.said;
+        gaps = rw by.said;
+        strays = rw by.said;
+        forks = rw by.said;
+        judged = by.judged;
+      };
+      survivors = by.survivors;
+    }) c.summed_by.ensures.ok

@@ -1,9 +1,11 @@
-use Rattle.live_auditor.proofs.Imports.{rules, SealedEntry}
-use Rattle.live_auditor.proofs.Kept.{mapped_more}
+use Rattle.live_auditor.proofs.Imports.{get_or_from_slice_get, map_more, SealedEntry, slice_get_within}
 use Rattle.live_auditor.proofs.survivors.digests_of.Goals as goal
 
 pub loop-i-preserved : goal.loop-i-preserved
 loop-i-preserved c =
-    mapped_more (λ (e : SealedEntry). e.digest) c.args.graph.now.survivors c.loop-i.i c.node.result.now
-    c.digest.result.now c.loop-i.digests.items c.push.new.self.items (search rules) c.node.ensures.value
-    c.loop-i.invariant c.digest.ensures c.in_ok-push.ensures.items
+    let survivors = c.args.graph.now.survivors in
+    let node = c.node.result.now in
+    let within = slice_get_within survivors c.loop-i.i node c.node.ensures.value in
+    let here = get_or_from_slice_get survivors c.loop-i.i node node c.node.ensures.value in
+    rw (map_more (λ (e : SealedEntry). e.digest) survivors c.loop-i.i node within, here)
+    (rw (c.in_ok-push.ensures.items, c.loop-i.invariant, c.digest.ensures))

@@ -1,5 +1,4 @@
-use Rattle.std.proofs.Common.{◌≡◌}
-use Rattle.live_auditor.proofs.Imports.{map, take, SealedEntry}
+use Rattle.live_auditor.proofs.Imports.{map, SealedEntry, take, ◌≡◌}
 use Rattle.live_auditor.proofs.survivors.digests_of.Given as goal
 
 -- the digests so far

@@ -1,14 +1,19 @@
-use Rattle.live_auditor.proofs.Imports.{◌∙◌, ◌≤◌, length, arith, rules, take_all, parents_of, ragged_of}
-use Rattle.live_auditor.proofs.Kept.{links_more, same_links}
+use Rattle.live_auditor.proofs.Imports.{ap, arith, get_or, length, parents_in, ragged_in, rules}
+use Rattle.live_auditor.proofs.Imports.{slice_get-get_or, take_all, taken_more, ◌<◌, ◌∙◌, ◌≡◌, ◌≤◌}
 use Rattle.live_auditor.proofs.survivors.links_of.Goals as goal
 
 pub loop-i-preserved : goal.loop-i-preserved
 loop-i-preserved c =
     let links = c.args.graph.now.links in
-    links_more links c.loop-i.i c.in_ok-new.field-0 c.loop-i.links.items c.push.new.self.items (search rules)
-    (c.in_ok-new.ensures ∙ same_links c.in_ok-parents.parents.items (parents_of links c.loop-i.i) c.ragged.result
-    (ragged_of links c.loop-i.i) (c.in_ok-parents.ensures.items ∙ c.parents.ensures.are) c.ragged.ensures)
-    c.loop-i.invariant c.in_ok-push.ensures.items
+    let i = c.loop-i.i in
+    let link = c.in_ok-new.field-0 in
+    let within : i < length links = search rules in
+    let stands = slice_get-get_or links i link within in
+    let parents = c.in_ok-parents.ensures.items ∙ c.parents.ensures.are ∙ ap parents_in stands in
+    let ragged = c.ragged.ensures ∙ ap ragged_in stands in
+    let same : link ≡ get_or links i link =
+    c.in_ok-new.ensures ∙ (λ k. record { parents = parents k; ragged = ragged k }) in
+    rw (c.in_ok-push.ensures.items, c.loop-i.invariant, taken_more links i link within same)
 
 pub returns : goal.returns
 returns c =

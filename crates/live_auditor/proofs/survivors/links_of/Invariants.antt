@@ -1,5 +1,4 @@
-use Rattle.live_auditor.proofs.Imports.{take}
-use Rattle.std.proofs.Common.{◌≡◌}
+use Rattle.live_auditor.proofs.Imports.{take, ◌≡◌}
 use Rattle.live_auditor.proofs.survivors.links_of.Given as goal
 
 -- the links so far
